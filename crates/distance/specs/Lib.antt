@@ -1,0 +1,4 @@
+pub mod Lives
+pub mod Exact
+pub mod Outcomes
+pub mod AverageExcess

@@ -1,0 +1,47 @@
+-- From member rows to lives: the rate at an age, and folding.
+use mathlib.Core.Bool.{Bool, true, false, not}
+use mathlib.Core.List.{List, [], _∷_, map}
+use mathlib.Core.Option.{Option, none, some}
+use Prim.Native.Nat.{ℕ, _+_, _-_}
+use lib.Dec.{eqb}
+use Rattle.fund.specs.declared.Rate.{Rate}
+use Rattle.fund.specs.declared.Member.{Member}
+use Rattle.fund.specs.declared.Life.{Life}
+use Rattle.fund.specs.Base.{if_then_else_}
+use Rattle.fund.specs.Reading.{FundFile}
+
+-- The rate row of an age.
+unfoldable pub rateAt : List Rate → ℕ → Option Rate
+rateAt [] age = none
+rateAt (r ∷ rs) age =
+    let after = rateAt rs age in
+    if eqb (r .age) age then some r else after
+
+-- "If d = 0, q counts as 0; if e = 0, i counts as 0." Where no row has the age, both are 0.
+unfoldable pub folded : Option Rate → Member → Life
+folded none m = record { group = m .group; q = 0; i = 0; d = m .d; e = m .e }
+folded (some r) m =
+    record {
+      group = m .group;
+      q = if eqb (m .d) 0 then 0 else r .q;
+      i = if eqb (m .e) 0 then 0 else r .i;
+      d = m .d;
+      e = m .e;
+    }
+
+unfoldable pub life : List Rate → Member → Life
+life rates m = folded (rateAt rates (m .age)) m
+
+unfoldable pub lives : FundFile → List Life
+lives file = map (life (file .rates)) (file .members)
+
+-- q + i, and "p = 1,000,000 - q - i", in millionths.
+abbrev pub claim : Life → ℕ
+claim m = m .q + m .i
+
+abbrev pub stay : Life → ℕ
+stay m = 1000000 - claim m
+
+-- Group 1 is taken one by one, group 2 replaced on leaving.
+abbrev pub single : Life → Bool
+single m = eqb (m .group) 1

@@ -1,0 +1,15 @@
+pub mod Limits
+pub mod Base
+pub mod Lines
+pub mod Spelling
+pub mod Reading
+pub mod Folding
+pub mod Transform
+pub mod Recursion
+pub mod Premium
+pub mod Refusals
+pub mod Answer
+pub mod Listing
+pub mod Exact
+pub mod Starred
+pub mod ExactRows

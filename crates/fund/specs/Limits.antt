@@ -1,0 +1,86 @@
+-- "All limits above are named constants of the fund record's type." Here are their numbers, which the definitions use;
+-- `Fund::limits` shows that the constants are these.
+use Prim.Native.Nat.{ℕ}
+use Rattle.fund.specs.declared.Limits.{Limits}
+
+-- `rates=` and `members=`: editions, 1900 to 2999 each.
+abbrev pub least-edition : ℕ
+least-edition = 1900
+
+abbrev pub most-edition : ℕ
+most-edition = 2999
+
+-- `horizon=` X, 0 to 4,095. `order=` r, 1 to 12. `frequency=` a, 0 to 5,000, in thousandths. `deductible=` M, 0 to 4,096.
+abbrev pub most-horizon : ℕ
+most-horizon = 4095
+
+abbrev pub least-order : ℕ
+least-order = 1
+
+abbrev pub most-order : ℕ
+most-order = 12
+
+abbrev pub most-frequency : ℕ
+most-frequency = 5000
+
+abbrev pub most-deductible : ℕ
+most-deductible = 4096
+
+-- 0 to 121 lines `rate=age,q,i`: age 0 to 120; q and i 0 to 1,000,000 in millionths, q + i at most 1,000,000.
+abbrev pub most-rates : ℕ
+most-rates = 121
+
+abbrev pub most-age : ℕ
+most-age = 120
+
+abbrev pub most-rate : ℕ
+most-rate = 1000000
+
+-- 0 to 1,000 lines `member=age,group,d,e`: group 1 or 2; d and e 0 to 65,535.
+abbrev pub most-members : ℕ
+most-members = 1000
+
+abbrev pub least-group : ℕ
+least-group = 1
+
+abbrev pub most-group : ℕ
+most-group = 2
+
+abbrev pub most-amount : ℕ
+most-amount = 65535
+
+-- Where pricing stops: 6, 7, 8 and 10.
+abbrev pub half-rate : ℕ
+half-rate = 500000
+
+abbrev pub most-load : ℕ
+most-load = 8000000000000
+
+abbrev pub most-truncation : ℕ
+most-truncation = 100000000
+
+abbrev pub most-bound : ℕ
+most-bound = 250000
+
+abbrev pub limits : Limits
+limits =
+    record {
+      «least_edition» = least-edition;
+      «most_edition» = most-edition;
+      «most_horizon» = most-horizon;
+      «least_order» = least-order;
+      «most_order» = most-order;
+      «most_frequency» = most-frequency;
+      «most_deductible» = most-deductible;
+      «most_rates» = most-rates;
+      «most_age» = most-age;
+      «most_rate» = most-rate;
+      «most_members» = most-members;
+      «least_group» = least-group;
+      «most_group» = most-group;
+      «most_amount» = most-amount;
+      half = half-rate;
+      «most_load» = most-load;
+      «most_truncation» = most-truncation;
+      «most_bound» = most-bound;
+    }

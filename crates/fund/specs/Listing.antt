@@ -1,0 +1,73 @@
+-- The listing: the text that the program prints for a fund file.
+use mathlib.Core.Bool.{Bool, true, false}
+use mathlib.Core.List.{List, [], _∷_, _++_}
+use Prim.Native.Nat.{ℕ, zero, suc, _+_, _*_, _/_, _%_}
+use lib.Dec.{ltb}
+use lib.IntN.{ℤ, pos, negsuc}
+use lib.ListN.{take}
+use Rattle.fund.specs.declared.Refusal.{Refusal}
+use Rattle.fund.specs.declared.Verdict.{Verdict}
+use Rattle.fund.specs.declared.Verdict.the-variants.{Accepted, Refused}
+use Rattle.fund.specs.Limits.{most-horizon}
+use Rattle.fund.specs.Base.{bytes}
+use Rattle.fund.specs.Reading.{FundFile, Reading, read, stopped, reading}
+use Rattle.fund.specs.Recursion.{Cell}
+use Rattle.fund.specs.Premium.{printedBound}
+use Rattle.fund.specs.Refusals.{Lengths, numberOf}
+use Rattle.fund.specs.Answer.{fileCells, Answer, answer}
+
+-- A number in decimal. A number has no more digits than the number itself and one.
+unfoldable pub digitsWithin : ℕ → ℕ → List ℕ → List ℕ
+digitsWithin zero n after = (48 + n % 10) ∷ after
+digitsWithin (suc most) n after =
+    elim (ltb n 10) [ true ↦ (48 + n) ∷ after | false ↦ digitsWithin most (n / 10) ((48 + n % 10) ∷ after) ]
+
+unfoldable pub decimal : ℕ → List ℕ
+decimal n = digitsWithin n n []
+
+-- "a negative figure starts with `-`"
+unfoldable pub signed : ℤ → List ℕ
+signed (pos n) = decimal n
+signed (negsuc n) = 45 ∷ decimal (suc n)
+
+-- A key, numbers between commas, and the line feed.
+unfoldable pub joined : List ℕ → List (List ℕ) → List ℕ
+joined text [] = text ++ (10 ∷ [])
+joined text (next ∷ more) = text ++ (44 ∷ joined next more)
+
+-- "A cell line is x, f(x), R(x) + 2×E."
+unfoldable pub cellLines : ℕ → ℕ → List ℤ → List ℕ → List ℕ
+cellLines E x [] Rs = []
+cellLines E x (f ∷ fs) [] = []
+cellLines E x (f ∷ fs) (R ∷ Rs) =
+    bytes "cell=" ++ (joined (decimal x) (signed f ∷ decimal (printedBound E R) ∷ []) ++ cellLines E (suc x) fs Rs)
+
+-- The lines of an accepted fund with horizon X, and "A refusal prints only `refused=number,place`."
+unfoldable pub listed : ℕ → Answer → List ℕ
+listed X a =
+    bytes "truncation=" ++ (joined (decimal (a .truncation)) []
+    ++ (bytes "mean=" ++ (joined (decimal (a .mean)) []
+    ++ (cellLines (a .truncation) 0 (take (suc X) (a .f)) (take (suc X) (a .R))
+    ++ (bytes "premium=" ++ (joined (signed (a .premium)) []
+    ++ (bytes "within=" ++ joined (decimal (a .within)) [])))))))
+
+unfoldable pub refusedLine : Refusal → ℕ → List ℕ
+refusedLine why place = bytes "refused=" ++ joined (decimal (numberOf why)) (decimal place ∷ [])
+
+unfoldable pub printed : Answer → ℕ → Verdict → List ℕ
+printed a X Accepted = listed X a
+printed a X (Refused why place) = refusedLine why place
+
+-- The horizon of a file that can be read.
+unfoldable pub horizonIn : Reading → ℕ
+horizonIn (read fund) = fund .header .horizon
+horizonIn (stopped why place) = 0
+
+-- The program lends result slices that are long enough for every horizon.
+abbrev pub enough : Lengths
+enough = record { D = suc most-horizon; H = suc most-horizon; f = suc most-horizon; R = suc most-horizon }
+
+unfoldable pub listing : List ℕ → List ℕ
+listing file =
+    let a = answer file enough in
+    printed a (horizonIn (reading file)) (a .verdict)

@@ -1,0 +1,142 @@
+-- The fund file: its lines in their order, form before range within a line.
+use mathlib.Core.Bool.{Bool, true, false, _&&_}
+use mathlib.Core.List.{List, [], _∷_, _++_}
+use mathlib.Core.Option.{Option, none, some}
+use Prim.Native.Nat.{ℕ, suc, _+_}
+use lib.Dec.{eqb, leb, ltb}
+use lib.ListN.{length, getD}
+use Rattle.fund.specs.declared.Fund.{Fund}
+use Rattle.fund.specs.declared.Rate.{Rate}
+use Rattle.fund.specs.declared.Member.{Member}
+use Rattle.fund.specs.declared.Refusal.{Refusal}
+use Rattle.fund.specs.declared.Refusal.the-variants.{Form, Range}
+use Rattle.fund.specs.Limits.{least-edition, most-edition, most-horizon, least-order, most-order, most-frequency, most-deductible, most-rates, most-age, most-rate, most-members, least-group, most-group, most-amount}
+use Rattle.fund.specs.Base.{bytes}
+use Rattle.fund.specs.Lines.{Line, lines}
+use Rattle.fund.specs.Spelling.{spelled}
+
+-- What a file holds: the header's figures, the rate rows and the member rows, in file order.
+pub record FundFile : Type 0 where
+  pub header : Fund
+  pub rates : List Rate
+  pub members : List Member
+
+-- What reading gives: a fund, or a refusal and its line, counted from 1.
+pub data Reading : Type 0 where
+  read : FundFile → Reading
+  stopped : Refusal → ℕ → Reading
+
+unfoldable pub between : ℕ → ℕ → ℕ → Bool
+between least most n = leb least n && leb n most
+
+-- The header lines, in their order, each with one number and its range.
+pub record HeaderLine : Type 0 where
+  pub key : List ℕ
+  pub least : ℕ
+  pub most : ℕ
+
+unfoldable pub headerLines : List HeaderLine
+headerLines =
+    record { key = bytes "rates="; least = least-edition; most = most-edition }
+    ∷ record { key = bytes "members="; least = least-edition; most = most-edition }
+    ∷ record { key = bytes "horizon="; least = 0; most = most-horizon }
+    ∷ record { key = bytes "order="; least = least-order; most = most-order }
+    ∷ record { key = bytes "frequency="; least = 0; most = most-frequency }
+    ∷ record { key = bytes "deductible="; least = 0; most = most-deductible }
+    ∷ []
+
+unfoldable pub headerOf : List ℕ → Fund
+headerOf ns =
+    record {
+      rates = getD ns 0 0;
+      members = getD ns 1 0;
+      horizon = getD ns 2 0;
+      order = getD ns 3 0;
+      frequency = getD ns 4 0;
+      deductible = getD ns 5 0;
+    }
+
+-- The line of a row: `rate=age,q,i`, `member=age,group,d,e`, `end=` a number, or none of these.
+pub data Row : Type 0 where
+  rateRow : Rate → Row
+  memberRow : Member → Row
+  endRow : ℕ → Row
+  otherRow : Row
+
+unfoldable pub rowOf : Line → Row
+rowOf line =
+    elim (spelled (bytes "rate=") 3 line) [
+      | some ns ↦ rateRow (record { age = getD ns 0 0; q = getD ns 1 0; i = getD ns 2 0 })
+      | none ↦
+          elim (spelled (bytes "member=") 4 line) [
+            | some ns ↦ memberRow (record { age = getD ns 0 0; group = getD ns 1 0; d = getD ns 2 0; e = getD ns 3 0 })
+            | none ↦ elim (spelled (bytes "end=") 1 line) [ some ns ↦ endRow (getD ns 0 0) | none ↦ otherRow ]
+          ]
+    ]
+
+-- "age 0 to 120, strictly rising": above the age of the row before.
+unfoldable pub rising : List Rate → ℕ → Bool
+rising [] age = true
+rising (r ∷ []) age = ltb (r .age) age
+rising (r ∷ s ∷ rs) age = rising (s ∷ rs) age
+
+-- "q (death) and i (disability) 0 to 1,000,000 in millionths, q + i at most 1,000,000", and at most 121 rows.
+unfoldable pub rateInRange : List Rate → Rate → Bool
+rateInRange before r =
+    ltb (length before) most-rates
+    && leb (r .age) most-age
+    && rising before (r .age)
+    && leb (r .q) most-rate
+    && leb (r .i) most-rate
+    && leb (r .q + r .i) most-rate
+
+-- "age 0 to 120; group 1 or 2; d and e 0 to 65,535", and at most 1,000 lines.
+unfoldable pub memberInRange : List Member → Member → Bool
+memberInRange before m =
+    ltb (length before) most-members
+    && leb (m .age) most-age
+    && between least-group most-group (m .group)
+    && leb (m .d) most-amount
+    && leb (m .e) most-amount
+
+unfoldable pub noMember : List Member → Bool
+noMember [] = true
+noMember (m ∷ ms) = false
+
+-- "nothing after it": a line that follows `end=` is form.
+unfoldable pub atEnd : ℕ → FundFile → List Line → Reading
+atEnd n file [] = read file
+atEnd n file (l ∷ ls) = stopped Form n
+
+-- The rows from line n on, after those that are read. "a missing line has the place where it should stand"; a rate line
+-- after a member line breaks the order.
+unfoldable pub readRows : ℕ → Fund → List Rate → List Member → List Line → Reading
+readRows n header rates members [] = stopped Form n
+readRows n header rates members (l ∷ ls) =
+    elim (rowOf l) [
+      | rateRow r ↦
+          elim (noMember members) [
+            | false ↦ stopped Form n
+            | true ↦ elim (rateInRange rates r) [ false ↦ stopped Range n | true ↦ readRows (suc n) header (rates ++ (r ∷ [])) members ls ]
+          ]
+      | memberRow m ↦ elim (memberInRange members m) [ false ↦ stopped Range n | true ↦ readRows (suc n) header rates (members ++ (m ∷ [])) ls ]
+      | endRow k ↦
+          elim (eqb k (length members)) [
+            | false ↦ stopped Range n
+            | true ↦ atEnd (suc n) (record { header = header; rates = rates; members = members }) ls
+          ]
+      | otherRow ↦ stopped Form n
+    ]
+
+-- The header lines that are left, from line n on, after the numbers that are read; then the rows.
+unfoldable pub readHeader : List HeaderLine → ℕ → List ℕ → List Line → Reading
+readHeader [] n ns ls = readRows n (headerOf ns) [] [] ls
+readHeader (h ∷ hs) n ns [] = stopped Form n
+readHeader (h ∷ hs) n ns (l ∷ ls) =
+    elim (spelled (h .key) 1 l) [
+      | none ↦ stopped Form n
+      | some v ↦ elim (between (h .least) (h .most) (getD v 0 0)) [ false ↦ stopped Range n | true ↦ readHeader hs (suc n) (ns ++ v) ls ]
+    ]
+
+unfoldable pub reading : List ℕ → Reading
+reading file = readHeader headerLines 1 [] (lines file)

@@ -1,0 +1,100 @@
+-- Where pricing stops: document 01's numbers, and the refusals 3 to 10 in their order, each over all members before the next.
+use mathlib.Core.Bool.{Bool, true, false, not, _&&_, _||_}
+use mathlib.Core.List.{List, [], _∷_}
+use mathlib.Core.Option.{Option, none, some}
+use Prim.Native.Nat.{ℕ, zero, suc, _+_}
+use lib.Dec.{eqb, leb, ltb}
+use lib.ListN.{length}
+use Rattle.fund.specs.declared.Rate.{Rate}
+use Rattle.fund.specs.declared.Member.{Member}
+use Rattle.fund.specs.declared.Life.{Life}
+use Rattle.fund.specs.declared.Refusal.{Refusal}
+use Rattle.fund.specs.declared.Refusal.the-variants.{Form, Range, Edition, Deductible, Unmatched, Half, Load, Order, Short, Wide}
+use Rattle.fund.specs.declared.Verdict.{Verdict}
+use Rattle.fund.specs.declared.Verdict.the-variants.{Accepted, Refused}
+use Rattle.fund.specs.Limits.{half-rate, most-load, most-truncation, most-bound}
+use Rattle.fund.specs.Base.{if_then_else_}
+use Rattle.fund.specs.Reading.{FundFile}
+use Rattle.fund.specs.Folding.{rateAt, lives, claim, single}
+use Rattle.fund.specs.Transform.{load, truncation}
+use Rattle.fund.specs.Recursion.{Cell}
+
+abbrev pub numberOf : Refusal → ℕ
+numberOf Form = 1
+numberOf Range = 2
+numberOf Edition = 3
+numberOf Deductible = 4
+numberOf Unmatched = 5
+numberOf Half = 6
+numberOf Load = 7
+numberOf Order = 8
+numberOf Short = 9
+numberOf Wide = 10
+
+-- "number and place are 0" for a fund that is accepted.
+abbrev pub numberIn : Verdict → ℕ
+numberIn Accepted = 0
+numberIn (Refused why place) = numberOf why
+
+abbrev pub placeIn : Verdict → ℕ
+placeIn Accepted = 0
+placeIn (Refused why place) = place
+
+-- The place, counted from `at`, of the first of a list that meets a condition.
+unfoldable pub first : {A : Type 0} → (A → Bool) → ℕ → List A → Option ℕ
+first met at [] = none
+first met at (a ∷ rest) =
+    let after = first met (suc at) rest in
+    if met a then some at else after
+
+-- 5: "a member's age has no rate row"
+unfoldable pub unmatched : List Rate → Member → Bool
+unmatched rates m = elim (rateAt rates (m .age)) [ none ↦ true | some r ↦ false ]
+
+-- 6: "group 1, q + i at least 500,000 after folding"
+unfoldable pub half : Life → Bool
+half m = single m && leb half-rate (claim m)
+
+-- 10: "some R(x) above 250,000 units"
+unfoldable pub wide : Cell → Bool
+wide y = ltb most-bound (y .R)
+
+-- The lengths of the four result slices.
+pub record Lengths : Type 0 where
+  pub D : ℕ
+  pub H : ℕ
+  pub f : ℕ
+  pub R : ℕ
+
+-- 9: "one of the four result slices has fewer than X + 1 cells"
+unfoldable pub short : Lengths → ℕ → Bool
+short n X = leb (n .D) X || leb (n .H) X || leb (n .f) X || leb (n .R) X
+
+-- A refusal where the condition holds at a place, else what follows.
+unfoldable pub refuse : Refusal → Option ℕ → Verdict → Verdict
+refuse why none after = after
+refuse why (some place) after = Refused why place
+
+-- The condition of a refusal whose place is 0.
+unfoldable pub at0 : Bool → Option ℕ
+at0 holds = if holds then some 0 else none
+
+-- The line of the first member: six header lines and the rate lines stand before it.
+unfoldable pub firstMember : FundFile → ℕ
+firstMember file = 7 + length (file .rates)
+
+-- The cells are those of 0, 1, .. to X.
+unfoldable pub verdict : FundFile → Lengths → List Cell → Verdict
+verdict file n cells =
+    let fund = file .header in
+    let ms = lives file in
+    let X = fund .horizon in
+    refuse Edition (at0 (not (eqb (fund .rates) (fund .members))))
+    (refuse Deductible (at0 (ltb (suc X) (fund .deductible)))
+    (refuse Unmatched (first (unmatched (file .rates)) (firstMember file) (file .members))
+    (refuse Half (first half (firstMember file) ms)
+    (refuse Load (at0 (ltb most-load (load (fund .frequency) ms)))
+    (refuse Order (at0 (ltb most-truncation (truncation (fund .order) ms)))
+    (refuse Short (at0 (short n X))
+    (refuse Wide (first wide 0 cells)
+    Accepted)))))))

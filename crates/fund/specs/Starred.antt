@@ -1,0 +1,162 @@
+-- Document 01's starred funds: each file with what the program prints for it, and the bounds R(0), R(1), .. that the
+-- document states, whether or not the fund is accepted.
+use mathlib.Core.List.{List, [], _∷_, _++_, map}
+use Prim.Native.Nat.{ℕ}
+use Prim.Native.String.{String}
+use Rattle.fund.specs.Base.{bytes}
+
+pub record Row : Type 0 where
+  pub file : List ℕ
+  pub listing : List ℕ
+  pub bounds : List ℕ
+
+-- Lines, each with its line feed.
+unfoldable pub text : List String → List ℕ
+text [] = []
+text (l ∷ ls) = bytes l ++ (10 ∷ text ls)
+
+-- A file of edition 2030 with frequency 1,000.
+unfoldable pub file : String → String → String → List String → List ℕ
+file horizon order deductible rows = text ("rates=2030" ∷ "members=2030" ∷ horizon ∷ order ∷ "frequency=1000" ∷ deductible ∷ rows)
+
+abbrev pub oneMember : List String
+oneMember = "rate=40,100000,0" ∷ "member=40,1,1,0" ∷ "end=1" ∷ []
+
+-- Eight group 2 members with q = 1,000,000, i = 0, d = 1, and what follows them.
+unfoldable pub eight : List String → List String
+eight rows =
+    "member=40,2,1,0"
+    ∷ "member=40,2,1,0"
+    ∷ "member=40,2,1,0"
+    ∷ "member=40,2,1,0"
+    ∷ "member=40,2,1,0"
+    ∷ "member=40,2,1,0"
+    ∷ "member=40,2,1,0"
+    ∷ "member=40,2,1,0"
+    ∷ rows
+
+-- Group 1, q = i = 400,000, d = 0, e = 1, at an order: passes 6, then refused 8.
+unfoldable pub atOrder : String → Row
+atOrder order =
+    record {
+      file = file "horizon=2" order "deductible=2" ("rate=40,400000,400000" ∷ "member=40,1,0,1" ∷ "end=1" ∷ []);
+      listing = text ("refused=8,0" ∷ []);
+      bounds = [];
+    }
+
+unfoldable pub starred : List Row
+starred =
+    -- The fund of the listing; order 2: refused 8.
+    record {
+      file = file "horizon=2" "order=3" "deductible=2" oneMember;
+      listing =
+          text
+          ("truncation=42866942"
+          ∷ "mean=100000000000"
+          ∷ "cell=0,900000000000,85733885"
+          ∷ "cell=1,100000000000,85733887"
+          ∷ "cell=2,0,85733888"
+          ∷ "premium=0"
+          ∷ "within=171467773"
+          ∷ []);
+      bounds = 1 ∷ 3 ∷ 4 ∷ [];
+    }
+    ∷ record { file = file "horizon=2" "order=2" "deductible=2" oneMember; listing = text ("refused=8,0" ∷ []); bounds = [] }
+    -- No rates, no members, X = 1, M = 2.
+    ∷ record {
+      file = file "horizon=1" "order=3" "deductible=2" ("end=0" ∷ []);
+      listing = text ("truncation=0" ∷ "mean=0" ∷ "cell=0,1000000000000,0" ∷ "cell=1,0,1" ∷ "premium=0" ∷ "within=1" ∷ []);
+      bounds = 0 ∷ 1 ∷ [];
+    }
+    -- Eight group 2 members: X = 5 accepted; X = 6 refused 10 at 6; a ninth with q = 1: refused 7.
+    ∷ record {
+      file = file "horizon=5" "order=3" "deductible=2" ("rate=40,1000000,0" ∷ eight ("end=8" ∷ []));
+      listing =
+          text
+          ("truncation=0"
+          ∷ "mean=8000000000000"
+          ∷ "cell=0,335462628,691"
+          ∷ "cell=1,2683701024,5529"
+          ∷ "cell=2,10734804096,22117"
+          ∷ "cell=3,28626144256,58980"
+          ∷ "cell=4,57252288512,117961"
+          ∷ "cell=5,91603661619,188739"
+          ∷ "premium=6003354626280"
+          ∷ "within=6911"
+          ∷ []);
+      bounds = 691 ∷ 5529 ∷ 22117 ∷ 58980 ∷ 117961 ∷ 188739 ∷ [];
+    }
+    ∷ record {
+      file = file "horizon=6" "order=3" "deductible=2" ("rate=40,1000000,0" ∷ eight ("end=8" ∷ []));
+      listing = text ("refused=10,6" ∷ []);
+      bounds = 691 ∷ 5529 ∷ 22117 ∷ 58980 ∷ 117961 ∷ 188739 ∷ 251653 ∷ [];
+    }
+    ∷ record {
+      file = file "horizon=5" "order=3" "deductible=2" ("rate=40,1000000,0" ∷ "rate=41,1,0" ∷ eight ("member=41,2,1,0" ∷ "end=9" ∷ []));
+      listing = text ("refused=7,0" ∷ []);
+      bounds = [];
+    }
+    -- Group 1, q = 500,000, d = 1: refused 6. The same with d = 0, i = 0: passes 6, accepted.
+    ∷ record {
+      file = file "horizon=2" "order=3" "deductible=2" ("rate=40,500000,0" ∷ "member=40,1,1,0" ∷ "end=1" ∷ []);
+      listing = text ("refused=6,8" ∷ []);
+      bounds = [];
+    }
+    ∷ record {
+      file = file "horizon=2" "order=3" "deductible=2" ("rate=40,500000,0" ∷ "member=40,1,0,0" ∷ "end=1" ∷ []);
+      listing =
+          text ("truncation=0" ∷ "mean=0" ∷ "cell=0,1000000000000,1" ∷ "cell=1,0,1" ∷ "cell=2,0,1" ∷ "premium=0" ∷ "within=3" ∷ []);
+      bounds = 1 ∷ 1 ∷ 1 ∷ [];
+    }
+    -- Editions 2030 and 2031: refused 3. M = 4 with X = 2: refused 4; M = 3 accepted.
+    ∷ record {
+      file = text ("rates=2030" ∷ "members=2031" ∷ "horizon=2" ∷ "order=3" ∷ "frequency=1000" ∷ "deductible=2" ∷ oneMember);
+      listing = text ("refused=3,0" ∷ []);
+      bounds = [];
+    }
+    ∷ record { file = file "horizon=2" "order=3" "deductible=4" oneMember; listing = text ("refused=4,0" ∷ []); bounds = [] }
+    ∷ record {
+      file = file "horizon=2" "order=3" "deductible=3" oneMember;
+      listing =
+          text
+          ("truncation=42866942"
+          ∷ "mean=100000000000"
+          ∷ "cell=0,900000000000,85733885"
+          ∷ "cell=1,100000000000,85733887"
+          ∷ "cell=2,0,85733888"
+          ∷ "premium=0"
+          ∷ "within=257201665"
+          ∷ []);
+      bounds = 1 ∷ 3 ∷ 4 ∷ [];
+    }
+    -- Group 1, q = i = 400,000, d = 0, e = 1: refused 8 at any order.
+    ∷ map atOrder ("order=1" ∷ "order=2" ∷ "order=3" ∷ "order=4" ∷ "order=5" ∷ "order=6" ∷ "order=7" ∷ "order=8" ∷ "order=9" ∷ "order=10" ∷ "order=11" ∷ "order=12" ∷ [])
+
+-- Rows that the document does not print, one for each wrong turn that its own funds would not show.
+unfoldable pub wrongTurns : List Row
+wrongTurns =
+    -- An amount beyond X counts in p and in the mean: group 1, d = 5 and X = 3.
+    record {
+      file = file "horizon=3" "order=12" "deductible=2" ("rate=40,100000,100000" ∷ "member=40,1,5,1" ∷ "end=1" ∷ []);
+      listing = text ("truncation=1529" ∷ "mean=600000000000" ∷ "cell=0,800000000000,3059" ∷ "cell=1,100000000000,3061" ∷ "cell=2,0,3062" ∷ "cell=3,0,3062" ∷ "premium=300000000000" ∷ "within=6121" ∷ []);
+      bounds = 1 ∷ 3 ∷ 4 ∷ 4 ∷ [];
+    }
+    -- d = e: both terms of an equal pair land on one place and add.
+    ∷ record {
+      file = file "horizon=4" "order=12" "deductible=2" ("rate=40,100000,100000" ∷ "member=40,1,2,2" ∷ "end=1" ∷ []);
+      listing = text ("truncation=1529" ∷ "mean=400000000000" ∷ "cell=0,800000000000,3059" ∷ "cell=1,0,3059" ∷ "cell=2,200000000000,3062" ∷ "cell=3,0,3060" ∷ "cell=4,0,3063" ∷ "premium=0" ∷ "within=6119" ∷ []);
+      bounds = 1 ∷ 1 ∷ 4 ∷ 2 ∷ 5 ∷ [];
+    }
+    -- A negative half away from zero: f(6) = -1.
+    ∷ record {
+      file = file "horizon=6" "order=12" "deductible=3" ("rate=40,1530,1421" ∷ "member=40,1,2,3" ∷ "end=1" ∷ []);
+      listing = text ("truncation=1" ∷ "mean=7323000000" ∷ "cell=0,997049000000,3" ∷ "cell=1,0,3" ∷ "cell=2,1530000000,5" ∷ "cell=3,1421000000,5" ∷ "cell=4,0,6" ∷ "cell=5,0,6" ∷ "cell=6,-1,7" ∷ "premium=0" ∷ "within=14" ∷ []);
+      bounds = 1 ∷ 1 ∷ 3 ∷ 3 ∷ 4 ∷ 4 ∷ 5 ∷ [];
+    }
+    -- A product's error is not multiplied by k again: group 2 at place 2.
+    ∷ record {
+      file = file "horizon=4" "order=1" "deductible=1" ("rate=40,1000000,0" ∷ "member=40,2,2,0" ∷ "member=40,2,2,0" ∷ "member=40,2,2,0" ∷ "end=3" ∷ []);
+      listing = text ("truncation=0" ∷ "mean=6000000000000" ∷ "cell=0,49787068368,135" ∷ "cell=1,0,1" ∷ "cell=2,149361205104,406" ∷ "cell=3,0,3" ∷ "cell=4,224041807656,610" ∷ "premium=5049787068368" ∷ "within=135" ∷ []);
+      bounds = 135 ∷ 1 ∷ 406 ∷ 3 ∷ 610 ∷ [];
+    }
+    ∷ []

@@ -1,0 +1,163 @@
+// The types of document 01: a fund file's header, rate and member rows, and what a pricing call answers. Their meaning is
+// in specs/, in the document's order; the code here ties the limits and the refusals' numbers to it.
+ghost use mathlib.Core.Path.{_≡_};
+ghost use Rattle.fund.specs.Limits.{limits};
+ghost use Rattle.fund.specs.Refusals.{numberOf};
+
+// The fund record: the figures of a file's header lines, in their order.
+pub struct Fund {
+    pub rates: u64,
+    pub members: u64,
+    pub horizon: u64,
+    pub order: u64,
+    pub frequency: u64,
+    pub deductible: u64,
+}
+
+// A rate line: the death rate q and the disability rate i at an age, in millionths.
+pub struct Rate {
+    pub age: u64,
+    pub q: u64,
+    pub i: u64,
+}
+
+// A member line: group 1 or 2, and the amounts at death d and at disability e.
+pub struct Member {
+    pub age: u64,
+    pub group: u64,
+    pub d: u64,
+    pub e: u64,
+}
+
+// A member with the folded rates of its age.
+pub struct Life {
+    pub group: u64,
+    pub q: u64,
+    pub i: u64,
+    pub d: u64,
+    pub e: u64,
+}
+
+// Why pricing stops, in the order of document 01's table.
+pub enum Refusal {
+    Form,
+    Range,
+    Edition,
+    Deductible,
+    Unmatched,
+    Half,
+    Load,
+    Order,
+    Short,
+    Wide,
+}
+
+// What a pricing call says of a file: it is accepted, or refused at a place.
+pub enum Verdict {
+    Accepted,
+    Refused(Refusal, u64),
+}
+
+// Every limit of document 01, by name.
+pub struct Limits {
+    pub least_edition: u64,
+    pub most_edition: u64,
+    pub most_horizon: u64,
+    pub least_order: u64,
+    pub most_order: u64,
+    pub most_frequency: u64,
+    pub most_deductible: u64,
+    pub most_rates: u64,
+    pub most_age: u64,
+    pub most_rate: u64,
+    pub most_members: u64,
+    pub least_group: u64,
+    pub most_group: u64,
+    pub most_amount: u64,
+    pub half: u64,
+    pub most_load: u64,
+    pub most_truncation: u64,
+    pub most_bound: u64,
+}
+
+impl Fund {
+    pub const LEAST_EDITION: u64 = 1900;
+
+    pub const MOST_EDITION: u64 = 2999;
+
+    pub const MOST_HORIZON: u64 = 4095;
+
+    pub const LEAST_ORDER: u64 = 1;
+
+    pub const MOST_ORDER: u64 = 12;
+
+    pub const MOST_FREQUENCY: u64 = 5000;
+
+    pub const MOST_DEDUCTIBLE: u64 = 4096;
+
+    pub const MOST_RATES: u64 = 121;
+
+    pub const MOST_AGE: u64 = 120;
+
+    pub const MOST_RATE: u64 = 1000000;
+
+    pub const MOST_MEMBERS: u64 = 1000;
+
+    pub const LEAST_GROUP: u64 = 1;
+
+    pub const MOST_GROUP: u64 = 2;
+
+    pub const MOST_AMOUNT: u64 = 65535;
+
+    pub const HALF: u64 = 500000;
+
+    pub const MOST_LOAD: u64 = 8000000000000;
+
+    pub const MOST_TRUNCATION: u64 = 100000000;
+
+    pub const MOST_BOUND: u64 = 250000;
+
+    // The constants are the limits that the definitions use.
+    pub fn limits() -> Limits
+        ensures { λ r. ⌜ r ≡ limits ⌝ }
+    {
+        Limits {
+            least_edition: Fund::LEAST_EDITION,
+            most_edition: Fund::MOST_EDITION,
+            most_horizon: Fund::MOST_HORIZON,
+            least_order: Fund::LEAST_ORDER,
+            most_order: Fund::MOST_ORDER,
+            most_frequency: Fund::MOST_FREQUENCY,
+            most_deductible: Fund::MOST_DEDUCTIBLE,
+            most_rates: Fund::MOST_RATES,
+            most_age: Fund::MOST_AGE,
+            most_rate: Fund::MOST_RATE,
+            most_members: Fund::MOST_MEMBERS,
+            least_group: Fund::LEAST_GROUP,
+            most_group: Fund::MOST_GROUP,
+            most_amount: Fund::MOST_AMOUNT,
+            half: Fund::HALF,
+            most_load: Fund::MOST_LOAD,
+            most_truncation: Fund::MOST_TRUNCATION,
+            most_bound: Fund::MOST_BOUND,
+        }
+    }
+}
+
+// Document 01's number of a refusal.
+pub fn number(why: Refusal) -> u64
+    ensures { λ r. ⌜ r ≡ numberOf why ⌝ }
+{
+    match why {
+        Refusal::Form => 1,
+        Refusal::Range => 2,
+        Refusal::Edition => 3,
+        Refusal::Deductible => 4,
+        Refusal::Unmatched => 5,
+        Refusal::Half => 6,
+        Refusal::Load => 7,
+        Refusal::Order => 8,
+        Refusal::Short => 9,
+        Refusal::Wide => 10,
+    }
+}

@@ -1,0 +1,125 @@
+-- What acceptance says: none of the refusals' conditions holds (accepts).
+use mathlib.Core.Path.{_≡_, refl, sym, _∙_, ap, subst}
+use mathlib.Core.Bool.{Bool, true, false, not, _&&_, _||_}
+use mathlib.Core.List.{List, [], _∷_, map}
+use mathlib.Core.Option.{Option, none, some}
+use Prim.Native.Nat.{ℕ, zero, suc, _≤_, _<_}
+use native.Mathlib.Omega.{arith}
+use lib.Dec.{T, eqb, leb, ltb, eqb→eq, leb→le, nleb→lt, nltb→le}
+use Rattle.fund.specs.declared.Rate.{Rate}
+use Rattle.fund.specs.declared.Member.{Member}
+use Rattle.fund.specs.declared.Life.{Life}
+use Rattle.fund.specs.declared.Refusal.{Refusal}
+use Rattle.fund.specs.declared.Refusal.the-variants.{Edition, Deductible, Unmatched, Half, Load, Order, Short, Wide}
+use Rattle.fund.specs.declared.Verdict.{Verdict}
+use Rattle.fund.specs.declared.Verdict.the-variants.{Accepted, Refused}
+use Rattle.fund.specs.Base.{if_then_else_}
+use Rattle.fund.specs.Limits.{half-rate, most-load, most-truncation, most-bound}
+use Rattle.fund.specs.Reading.{FundFile}
+use Rattle.fund.specs.Folding.{rateAt, lives, claim, single}
+use Rattle.fund.specs.Transform.{load, truncation}
+use Rattle.fund.specs.Recursion.{Cell}
+use Rattle.fund.specs.Refusals.{first, unmatched, half, wide, Lengths, short, refuse, at0, firstMember, verdict}
+
+-- a fact of every element of a list
+abbrev pub All : {A : Type 0} → (A → Type 0) → List A → Type 0
+All P [] = Unit {0}
+All P (a ∷ rest) = P a × All P rest
+
+pub all-map : {A : Type 0} {P Q : A → Type 0} → ((a : A) → P a → Q a) → (l : List A) → All P l → All Q l
+all-map f [] h = tt
+all-map f (a ∷ rest) h = (f a (h .0), all-map f rest (h .1))
+
+-- a test that failed
+pub false-not : (b : Bool) → b ≡ false → T (not b)
+false-not true e = let z : _≡_ {A = Bool} true false = e in absurd (true-false z)
+  where
+    true-false : true ≡ false → ⊥
+    true-false e = let z : _≡_ {A = ℕ} 0 1 = ap (λ b. if b then 0 else 1) e in omega arith
+false-not false e = tt
+
+pub or-false : (a b : Bool) → a || b ≡ false → (a ≡ false) × (b ≡ false)
+or-false true b e = let z : _≡_ {A = ℕ} 0 1 = ap (λ b. if b then 0 else 1) e in absurd (omega arith)
+or-false false b e = (refl, e)
+
+-- ---- the chain of refusals
+pub refuse-accepted : (why : Refusal) (o : Option ℕ) (after : Verdict) → refuse why o after ≡ Accepted → (o ≡ none) × (after ≡ Accepted)
+unfolding refuse
+refuse-accepted why none after e = (refl, e)
+refuse-accepted why (some place) after e = let z : _≡_ {A = ℕ} 0 1 = cc in absurd (omega arith)
+
+pub at0-none : (b : Bool) → at0 b ≡ none → b ≡ false
+unfolding at0
+at0-none true e = let z : _≡_ {A = ℕ} 0 1 = cc in absurd (omega arith)
+at0-none false e = refl
+
+pub first-none : {A : Type 0} (met : A → Bool) (at : ℕ) (l : List A) → first met at l ≡ none → All (λ a. met a ≡ false) l
+unfolding first
+first-none met at [] e = tt
+first-none met at (a ∷ rest) e = go (met a) refl e (first-none met (suc at) rest)
+  where
+    go : (b : Bool) → met a ≡ b → (if b then some at else first met (suc at) rest) ≡ none → (first met (suc at) rest ≡ none → All (λ a. met a ≡ false) rest) → (met a ≡ false) × All (λ a. met a ≡ false) rest
+    go true e f h = let z : _≡_ {A = ℕ} 0 1 = cc in absurd (omega arith)
+    go false e f h = (e, h f)
+
+-- ---- what acceptance says of a fund
+pub not-above : (m n : ℕ) → ltb m n ≡ false → n ≤ m
+not-above m n e = nltb→le m n (false-not (ltb m n) e)
+
+pub above : (m n : ℕ) → leb m n ≡ false → n < m
+above m n e = nleb→lt m n (false-not (leb m n) e)
+
+-- group 1's q + i is below a half
+abbrev pub Calm : Life → Type 0
+Calm m = single m ≡ true → claim m < half-rate
+
+calm : (m : Life) → half m ≡ false → Calm m
+unfolding half
+calm m e s = above half-rate (claim m) (rw s at e)
+
+pub record Accepts (file : FundFile) (n : Lengths) (cells : List Cell) : Type 0 where
+  pub editions : file .header .rates ≡ file .header .members
+  pub deductible : file .header .deductible ≤ suc (file .header .horizon)
+  pub matched : All (λ m. unmatched (file .rates) m ≡ false) (file .members)
+  pub calm-lives : All Calm (lives file)
+  pub load-within : load (file .header .frequency) (lives file) ≤ most-load
+  pub truncation-within : truncation (file .header .order) (lives file) ≤ most-truncation
+  pub D-long : file .header .horizon < n .D
+  pub H-long : file .header .horizon < n .H
+  pub f-long : file .header .horizon < n .f
+  pub R-long : file .header .horizon < n .R
+  pub narrow : All (λ (y : Cell). y .R ≤ most-bound) cells
+
+pub accepts : (file : FundFile) (n : Lengths) (cells : List Cell) → verdict file n cells ≡ Accepted → Accepts file n cells
+unfolding verdict short wide
+accepts file n cells e =
+    let X = file .header .horizon in
+    let e3 = refuse-accepted _ _ _ e in
+    let e4 = refuse-accepted _ _ _ (e3 .1) in
+    let e5 = refuse-accepted _ _ _ (e4 .1) in
+    let e6 = refuse-accepted _ _ _ (e5 .1) in
+    let e7 = refuse-accepted _ _ _ (e6 .1) in
+    let e8 = refuse-accepted _ _ _ (e7 .1) in
+    let e9 = refuse-accepted _ _ _ (e8 .1) in
+    let e10 = refuse-accepted _ _ _ (e9 .1) in
+    let s = at0-none _ (e9 .0) in
+    let sR = or-false _ (leb (n .R) X) s in
+    let sf = or-false _ (leb (n .f) X) (sR .0) in
+    let sH = or-false (leb (n .D) X) (leb (n .H) X) (sf .0) in
+    record {
+      editions = eqb→eq _ _ (not-false (eqb (file .header .rates) (file .header .members)) (at0-none _ (e3 .0)));
+      deductible = not-above _ _ (at0-none _ (e4 .0));
+      matched = first-none _ _ _ (e5 .0);
+      calm-lives = all-map calm (lives file) (first-none _ _ _ (e6 .0));
+      load-within = not-above _ _ (at0-none _ (e7 .0));
+      truncation-within = not-above _ _ (at0-none _ (e8 .0));
+      D-long = above _ _ (sH .0);
+      H-long = above _ _ (sH .1);
+      f-long = above _ _ (sf .1);
+      R-long = above _ _ (sR .1);
+      narrow = all-map (λ (y : Cell). not-above most-bound (y .R)) cells (first-none _ _ _ (e10 .0));
+    }
+  where
+    not-false : (b : Bool) → not b ≡ false → T b
+    not-false true e = tt
+    not-false false e = false-not true e

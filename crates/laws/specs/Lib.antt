@@ -1,0 +1,4 @@
+pub mod Accepted
+pub mod Reading
+pub mod Tables
+pub mod Cells

@@ -1,0 +1,95 @@
+"""Stored cases: files with their answers, for a program to be run against.
+
+    python3 tests/cases.py write DIR N SEED
+    python3 tests/cases.py check DIR
+
+A case is two files of one name.  NAME.fund holds the raw bytes for standard
+input.  NAME.listing holds the exact bytes that the program must print on
+standard output, every line with its line feed.  Nothing else is stored.
+The names begin with a running number and say how the file was made.
+"""
+
+import random
+import sys
+from itertools import zip_longest
+from pathlib import Path
+
+import document_funds
+import generate
+import pricing
+
+
+def listing_of(data):
+    return pricing.listing(pricing.price(data)).encode("ascii")
+
+
+def known_cases(rng):
+    """Document 01's funds, then limits, other refusals and form faults in turn."""
+    document = [generate.Case(f"document-{name}", text.data())
+                for name, text in document_funds.FUNDS.items()]
+    damaged = generate.damaged_files()
+    kinds = [generate.limit_funds(),
+             [case for case in damaged if "-form-" not in case.name],
+             [case for case in damaged if "-form-" in case.name]]
+    for kind in kinds:
+        rng.shuffle(kind)
+    in_turn = [case for three in zip_longest(*kinds) for case in three if case]
+    return document + [case for case in in_turn if case.lengths == generate.ENOUGH]
+
+
+def chosen(count, seed):
+    """Of each ten cases: four known ones, two random damages, four small funds."""
+    known = known_cases(random.Random(seed))[:count * 4 // 10]
+    damaged = generate.random_damage(seed, count * 2 // 10)
+    small = generate.small_funds(seed, count - len(known) - len(damaged))
+    return known + damaged + small
+
+
+def write(directory, count, seed):
+    directory.mkdir(parents=True, exist_ok=True)
+    width = len(str(count))
+    for index, case in enumerate(chosen(count, seed), 1):
+        name = f"{index:0{width}}-{file_name(case.name)}"
+        (directory / f"{name}.fund").write_bytes(case.data)
+        (directory / f"{name}.listing").write_bytes(listing_of(case.data))
+    return count
+
+
+def file_name(name):
+    """Letters, digits and hyphens only."""
+    return "".join(c if c.isascii() and c.isalnum() else "-" for c in name)
+
+
+def differing(directory):
+    """The names of cases whose stored answer is not today's, and their number."""
+    funds = {path.stem for path in directory.glob("*.fund")}
+    listings = {path.stem for path in directory.glob("*.listing")}
+    bad = sorted(funds ^ listings)
+    for name in sorted(funds & listings):
+        stored = (directory / f"{name}.listing").read_bytes()
+        if listing_of((directory / f"{name}.fund").read_bytes()) != stored:
+            bad.append(name)
+    return bad, len(funds | listings)
+
+
+def check(directory):
+    bad, count = differing(directory)
+    for name in bad:
+        print(f"differs: {name}")
+    print(f"{count} cases, {len(bad)} differ")
+    return 0 if count and not bad else 1
+
+
+def main(arguments):
+    if len(arguments) == 4 and arguments[0] == "write":
+        count = write(Path(arguments[1]), int(arguments[2]), int(arguments[3]))
+        print(f"{count} cases written")
+        return 0
+    if len(arguments) == 2 and arguments[0] == "check":
+        return check(Path(arguments[1]))
+    print(__doc__, file=sys.stderr)
+    return 2
+
+
+if __name__ == "__main__":
+    sys.exit(main(sys.argv[1:]))

@@ -1,0 +1,705 @@
+"""Fund files made from a seed: small ones, ones at each limit, damaged ones.
+
+Each case carries what is known of its answer by the way it was made.
+The same seed gives the same files.
+"""
+
+import random
+from dataclasses import dataclass, replace
+
+import pricing
+
+ENOUGH = (pricing.HORIZON_HIGH + 1,) * 4
+HEADER_LINES = 6
+
+
+@dataclass(frozen=True)
+class Case:
+    name: str
+    data: bytes
+    expected: tuple = None      # (number, place, part) where known; (0, 0, b"") is accepted
+    lengths: tuple = ENOUGH
+
+
+@dataclass(frozen=True)
+class Text:
+    """What a fund file says; the rows are tuples of numbers."""
+    rates: int = 2030
+    members: int = 2030
+    horizon: int = 4
+    order: int = 4
+    frequency: int = 1000
+    deductible: int = 2
+    rate_rows: tuple = ()
+    member_rows: tuple = ()
+
+    def lines(self):
+        head = [b"%s=%d" % (key.encode(), getattr(self, key)) for key in
+                ("rates", "members", "horizon", "order", "frequency", "deductible")]
+        rates = [b"rate=%d,%d,%d" % row for row in self.rate_rows]
+        members = [b"member=%d,%d,%d,%d" % row for row in self.member_rows]
+        return head + rates + members + [b"end=%d" % len(self.member_rows)]
+
+    def data(self):
+        return joined(self.lines())
+
+
+def joined(lines):
+    return b"".join(line + b"\n" for line in lines)
+
+
+ACCEPTED = (0, 0, b"")
+
+
+def refused(number, place=0, part=b""):
+    return number, place, part
+
+
+# Small funds
+
+def one_truncation(order, s):
+    """The truncation figure of one group 1 member with q + i = s."""
+    line = pricing.Line(0, 0, b"", True)
+    return pricing.member_truncation(pricing.Folded(line, 1, 1, 1, s, 0), order)
+
+
+def largest_rate(order, limit):
+    """The largest q + i of a member whose truncation figure is within the limit."""
+    low, high = 0, pricing.HALF - 1
+    while low < high:
+        middle = (low + high + 1) // 2
+        if one_truncation(order, middle) <= limit:
+            low = middle
+        else:
+            high = middle - 1
+    return low
+
+
+LARGEST_RATE = {order: largest_rate(order, pricing.TRUNCATION_HIGH // 4)
+                for order in range(1, pricing.ORDER_HIGH + 1)}
+
+
+def random_rate(rng, limit):
+    """q and i with q + i up to the limit; often very small ones."""
+    if rng.randrange(3) == 0:
+        limit = min(limit, 60)
+    total = rng.randint(0, limit)
+    q = rng.choice((0, total, rng.randint(0, total)))
+    return q, total - q
+
+
+def random_amount(rng, horizon):
+    """From 0 to a little beyond X, sometimes far beyond."""
+    if rng.randrange(12) == 0:
+        return rng.choice((pricing.AMOUNT_HIGH, horizon + 1, 1000))
+    return rng.randint(0, horizon + 2)
+
+
+def random_member(rng, age, group, horizon):
+    return (age, group, random_amount(rng, horizon), random_amount(rng, horizon))
+
+
+def random_text(rng, horizon=None, order=None, groups=None):
+    """A fund of up to four group 1 and three group 2 members."""
+    X = rng.randint(0, 8) if horizon is None else horizon
+    r = rng.randint(1, pricing.ORDER_HIGH) if order is None else order
+    ages = sorted(rng.sample(range(pricing.AGE_HIGH + 1), 6))
+    rates = [(age, *random_rate(rng, LARGEST_RATE[r])) for age in ages[:4]]
+    rates += [(age, *random_rate(rng, rng.choice((1000, 100000, 500000))))
+              for age in ages[4:]]
+    counts = groups or (rng.randint(0, 4), rng.randint(0, 3))
+    members = [random_member(rng, rng.choice(ages[:4]), 1, X)
+               for _ in range(counts[0])]
+    members += [random_member(rng, rng.choice(ages), 2, X)
+                for _ in range(counts[1])]
+    rng.shuffle(members)
+    return Text(horizon=X, order=r, deductible=rng.randint(0, X + 1),
+                frequency=rng.choice((0, 1, 250, 500, 1000, rng.randint(1, 2000))),
+                rate_rows=tuple(sorted(rates)), member_rows=tuple(members))
+
+
+def equal_amounts(rng, text):
+    rows = [(age, group, max(d, 1), max(d, 1))
+            for age, group, d, _ in text.member_rows]
+    return replace(text, member_rows=tuple(rows))
+
+
+def zero_amounts(rng, text):
+    rows = [(age, group, *rng.choice(((0, e), (d, 0), (0, 0))))
+            for age, group, d, e in text.member_rows]
+    return replace(text, member_rows=tuple(rows))
+
+
+def beyond_horizon(rng, text):
+    X = text.horizon
+    rows = [(age, group, *rng.choice(((d, X + 1), (X + 1, e), (X + 3, X + 2),
+                                      (pricing.AMOUNT_HIGH, 1))))
+            for age, group, d, e in text.member_rows]
+    return replace(text, member_rows=tuple(rows))
+
+
+def small_text(rng, kind):
+    if kind == "any":
+        return random_text(rng)
+    if kind == "group1":
+        return random_text(rng, groups=(rng.randint(1, 5), 0))
+    if kind == "group2":
+        return random_text(rng, groups=(0, rng.randint(1, 4)))
+    if kind == "none":
+        return random_text(rng, groups=(0, 0))
+    if kind == "equal":
+        return equal_amounts(rng, random_text(rng, groups=(rng.randint(1, 3),
+                                                           rng.randint(0, 2))))
+    if kind == "zero":
+        return zero_amounts(rng, random_text(rng, groups=(2, 2)))
+    if kind == "beyond":
+        return beyond_horizon(rng, random_text(rng, groups=(2, 2)))
+    if kind == "frequency0":
+        return replace(random_text(rng, groups=(2, 2)), frequency=0)
+    if kind == "deductible0":
+        return replace(random_text(rng), deductible=0)
+    if kind == "deductibletop":
+        text = random_text(rng)
+        return replace(text, deductible=text.horizon + 1)
+    if kind == "horizon0":
+        return random_text(rng, horizon=0)
+    if kind == "long":
+        return random_text(rng, horizon=rng.randint(12, 24))
+    return random_text(rng, order=int(kind.removeprefix("order")))
+
+
+SMALL_KINDS = (["any", "group1", "group2", "none", "equal", "zero", "beyond",
+                "frequency0", "deductible0", "deductibletop", "horizon0", "long"]
+               + [f"order{r}" for r in range(1, pricing.ORDER_HIGH + 1)])
+
+
+def small_funds(seed, count):
+    """Funds of each kind in turn; almost all are accepted."""
+    rng = random.Random(seed)
+    cases = []
+    for index in range(count):
+        kind = SMALL_KINDS[index % len(SMALL_KINDS)]
+        cases.append(Case(f"small-{kind}-{index}", small_text(rng, kind).data()))
+    return cases
+
+
+def large_funds(seed, count):
+    """Many members and longer horizons; too large for the exact calculation."""
+    rng = random.Random(seed)
+    cases = []
+    for index in range(count):
+        text = random_text(rng, horizon=rng.randint(100, 180), order=12,
+                           groups=(rng.randint(30, 60), rng.randint(10, 30)))
+        rows = tuple((age, rng.randint(0, 9000), rng.randint(0, 9000))
+                     for age, _, _ in text.rate_rows)
+        text = replace(text, rate_rows=rows, frequency=rng.randint(0, 1500))
+        cases.append(Case(f"large-{index}", text.data()))
+    return cases
+
+
+# Funds at each limit
+
+ONE_MEMBER = Text(horizon=3, order=6, deductible=2, rate_rows=((40, 50000, 20000),),
+                  member_rows=((40, 1, 1, 2), (40, 2, 2, 1)))
+
+
+def header_limits():
+    texts = {
+        "edition-low": replace(ONE_MEMBER, rates=1900, members=1900),
+        "edition-high": replace(ONE_MEMBER, rates=2999, members=2999),
+        "horizon-low": replace(ONE_MEMBER, horizon=0, deductible=1),
+        "horizon-high": replace(ONE_MEMBER, horizon=4095, frequency=10),
+        "order-low": replace(ONE_MEMBER, order=1, rate_rows=((40, 500, 20),)),
+        "order-high": replace(ONE_MEMBER, order=12),
+        "frequency-low": replace(ONE_MEMBER, frequency=0),
+        "frequency-high": replace(ONE_MEMBER, frequency=5000),
+        "deductible-low": replace(ONE_MEMBER, deductible=0),
+        "deductible-top": replace(ONE_MEMBER, deductible=4),
+        "deductible-high": replace(ONE_MEMBER, horizon=4095, deductible=4096,
+                                   frequency=0),
+    }
+    return [Case(f"limit-{name}", text.data(), ACCEPTED)
+            for name, text in texts.items()]
+
+
+def row_limits():
+    every_age = tuple((age, 100 + age, 50) for age in range(pricing.AGE_HIGH + 1))
+    many = tuple((age % 121, 1 + age % 2, age % 7, age % 5)
+                 for age in range(pricing.MEMBER_ROWS))
+    far = ((0, 1, 65535, 65535), (120, 2, 65535, 65535), (7, 1, 65535, 1))
+    whole = (pricing.MILLION, 0), (0, pricing.MILLION), (500000, 500000)
+    texts = {
+        "121-rates": replace(ONE_MEMBER, rate_rows=every_age),
+        "1000-members": replace(ONE_MEMBER, rate_rows=every_age, horizon=9,
+                                member_rows=many, frequency=100),
+        "1000-group1": replace(ONE_MEMBER, rate_rows=every_age, horizon=9,
+                               member_rows=tuple((a, 1, d, e) for a, _, d, e in many)),
+        "1000-folded": replace(ONE_MEMBER, rate_rows=((0, 1000000, 0),),
+                               member_rows=((0, 1, 0, 0),) * 1000),
+        "amounts": replace(ONE_MEMBER, rate_rows=every_age, member_rows=far),
+        "rates-whole": replace(
+            ONE_MEMBER, horizon=2, frequency=300,
+            rate_rows=tuple((age, *rate) for age, rate in enumerate(whole)),
+            member_rows=((0, 2, 1, 2), (1, 2, 1, 2), (2, 2, 1, 2), (0, 1, 0, 5))),
+        "no-rates-no-members": Text(),
+    }
+    return [Case(f"limit-{name}", text.data(), ACCEPTED)
+            for name, text in texts.items()]
+
+
+def load_text(difference):
+    """A load of exactly 8x10^12 units plus the difference.
+
+    With a = 9 lambda goes in steps of 9,000 units; one group 1 member is
+    chosen so that the rest of the load is such a step.
+    """
+    for s in range(1, 80000):
+        one = pricing.up(pricing.UNIT * s, pricing.MILLION - s)
+        steps, rest = divmod(pricing.LOAD_HIGH + difference - one, 9000)
+        if rest == 0:
+            break
+    full, last = divmod(steps, pricing.MILLION)
+    rows = ((20, s, 0), (30, pricing.MILLION, 0), (40, last, 0))
+    members = ((20, 1, 1, 0),) + ((30, 2, 1, 0),) * full + ((40, 2, 1, 0),)
+    return Text(horizon=2, order=12, frequency=9, deductible=1,
+                rate_rows=rows, member_rows=members)
+
+
+def truncation_text(figure, order):
+    """Members whose truncation figures add up to exactly this figure."""
+    rows, members = [], []
+    while figure:
+        s = largest_rate(order, figure)
+        count, figure = divmod(figure, one_truncation(order, s))
+        rows.append((len(rows), s, 0))
+        members += [(rows[-1][0], 1, 1, 0)] * count
+    return Text(horizon=2, order=order, deductible=1,
+                rate_rows=tuple(rows), member_rows=tuple(members))
+
+
+def wide_text(q, folded):
+    """Seven group 2 members with q = 1,000,000, one with this q, X = 6."""
+    rows = ((30, pricing.MILLION, 0), (40, q, 0))
+    members = (((30, 2, 1, 0),) * 7 + ((40, 2, 1, 0),)
+               + ((30, 1, 0, 0),) * folded)
+    return Text(horizon=6, order=1, frequency=1000, deductible=3,
+                rate_rows=rows, member_rows=members)
+
+
+def last_bound(text):
+    """R at the last x that the recursion reaches."""
+    fund = pricing.read_fund(text.data())
+    members = pricing.match_and_fold(fund)
+    lam = pricing.lambda_units(members, fund.frequency)
+    return pricing.distribution(fund, members, lam)[3][-1]
+
+
+def wide_search(bound, folded):
+    """The largest q for which R(6) is at most this bound."""
+    low, high = 1, pricing.MILLION
+    while low < high:
+        middle = (low + high + 1) // 2
+        if last_bound(wide_text(middle, folded)) <= bound:
+            low = middle
+        else:
+            high = middle - 1
+    return low
+
+
+def figure_limits():
+    cases = [
+        Case("limit-load-exact", load_text(0).data(), ACCEPTED),
+        Case("limit-load-below", load_text(-1).data(), ACCEPTED),
+        Case("limit-load-above", load_text(1).data(), refused(7)),
+    ]
+    for order in (1, 3, 7, 12):
+        exact = truncation_text(pricing.TRUNCATION_HIGH, order)
+        above = truncation_text(pricing.TRUNCATION_HIGH + 1, order)
+        cases.append(Case(f"limit-truncation-exact-{order}", exact.data(), ACCEPTED))
+        cases.append(Case(f"limit-truncation-above-{order}", above.data(), refused(8)))
+    for folded in (0, 3):
+        q = wide_search(pricing.BOUND_HIGH, folded)
+        cases.append(Case(f"limit-wide-not-{folded}",
+                          wide_text(q, folded).data(), ACCEPTED))
+        cases.append(Case(f"limit-wide-just-{folded}",
+                          wide_text(q + 1, folded).data(), refused(10, 6)))
+    return cases
+
+
+def length_limits():
+    """Exactly X + 1 cells, one fewer in each slice, none, and some more."""
+    data = ONE_MEMBER.data()
+    cases = [Case("limit-lengths-exact", data, ACCEPTED, (4,) * 4),
+             Case("limit-lengths-mixed", data, ACCEPTED, (4, 9, 5, 4096)),
+             Case("limit-lengths-none", data, refused(9), (0,) * 4)]
+    for index in range(4):
+        lengths = tuple(3 if k == index else 4 + k for k in range(4))
+        cases.append(Case(f"limit-lengths-short-{index}", data, refused(9), lengths))
+    return cases
+
+
+def longest_text():
+    """No file without a refusal 1 or 2 is longer; its load is above the limit."""
+    return Text(2999, 2999, 4095, 12, 5000, 4096,
+                tuple((age, 500000, 500000) for age in range(pricing.RATE_ROWS)),
+                ((120, 2, 65535, 65535),) * pricing.MEMBER_ROWS)
+
+
+def limit_funds():
+    longest = [Case("limit-longest", longest_text().data(), refused(7))]
+    return longest + header_limits() + row_limits() + figure_limits() + length_limits()
+
+
+# Damaged files
+
+GOOD = Text(horizon=5, order=5, frequency=700, deductible=3,
+            rate_rows=((30, 20000, 10000), (40, 30000, 0), (50, 0, 45000)),
+            member_rows=((40, 1, 2, 3), (50, 2, 1, 1), (30, 1, 4, 1)))
+
+
+def with_line(lines, place, line):
+    return lines[:place - 1] + [line] + lines[place:]
+
+
+def numbers_in(line):
+    key, _, rest = line.partition(b"=")
+    return key + b"=", rest.split(b",")
+
+
+def with_number(line, index, number):
+    key, numbers = numbers_in(line)
+    numbers[index] = number
+    return key + b",".join(numbers)
+
+
+def bad_spellings(number):
+    """Ways to spell a number that break the form."""
+    return {
+        "zero-before": b"0" + number, "eight-digits": b"12345678",
+        "eight-digits-zero": b"0" * 8, "plus": b"+" + number,
+        "minus": b"-" + number, "space-before": b" " + number,
+        "space-after": number + b" ", "empty": b"", "letter": number + b"a",
+        "underscore": b"1_0", "point": number + b".0", "hex": b"0x1",
+        "other-digit": "\u0664".encode(), "superscript": b"\xb2",
+        "tab": b"\t" + number, "two-zeros": b"00", "long": b"9" * 60,
+    }
+
+
+def bad_lines(line):
+    """Ways to break a line outside its numbers."""
+    key, numbers = numbers_in(line)
+    rest = b",".join(numbers)
+    return {
+        "carriage-return": line + b"\r", "space-first": b" " + line,
+        "space-last": line + b" ", "upper-case": line.upper(),
+        "first-upper": line.capitalize(), "other-key": b"x" + line,
+        "key-short": line[1:], "no-equals": key[:-1] + rest,
+        "two-equals": key + b"=" + rest, "space-equals": key[:-1] + b" =" + rest,
+        "number-more": line + b",0", "comma-last": line + b",",
+        "comma-first": key + b"," + rest, "semicolon": key + rest.replace(b",", b";") + b";",
+        "key-only": key, "nul": line + b"\0", "mark": b"\xef\xbb\xbf" + line,
+        "comment": b"#" + line, "long": line + b"0" * 300,
+    }
+
+
+def spelling_damage():
+    lines = GOOD.lines()
+    for place, line in enumerate(lines, 1):
+        for index, number in enumerate(numbers_in(line)[1]):
+            for way, bad in bad_spellings(number).items():
+                new = with_number(line, index, bad)
+                yield (f"form-{place}-{index}-{way}",
+                       joined(with_line(lines, place, new)), refused(1, place, new))
+        for way, new in bad_lines(line).items():
+            yield (f"form-{place}-{way}", joined(with_line(lines, place, new)),
+                   refused(1, place, new))
+        fewer = line.rpartition(b",")[0]     # one number fewer, where there are more
+        if fewer:
+            yield (f"form-{place}-fewer", joined(with_line(lines, place, fewer)),
+                   refused(1, place, fewer))
+
+
+def long_damage():
+    """Lines and files longer than any right one."""
+    lines = GOOD.lines()
+    for place in (1, 8, 13):
+        new = lines[place - 1] + b"0" * 70000
+        yield (f"form-{place}-huge", joined(with_line(lines, place, new)),
+               refused(1, place, new))
+    yield "form-huge-open", b"rates=" + b"2" * 70000, refused(1, 1, b"rates=" + b"2" * 70000)
+    yield "form-huge-after", GOOD.data() + b" " * 70000, refused(1, 14, b" " * 70000)
+    yield "form-many-line-feeds", b"\n" * 70000, refused(1, 1)
+    too_many = replace(GOOD, member_rows=((40, 1, 0, 0),) * 4000).lines()
+    yield "range-4000-members", joined(too_many), refused(2, 1010, b"member=40,1,0,0")
+
+
+def cut_damage():
+    """Files that end early: at a line's first byte, inside it, before its line feed."""
+    lines = GOOD.lines()
+    for place, line in enumerate(lines, 1):
+        before = joined(lines[:place - 1])
+        yield f"form-{place}-missing", before, refused(1, place)
+        for size in (1, len(line) // 2, len(line) - 1, len(line)):
+            yield (f"form-{place}-cut-{size}", before + line[:size],
+                   refused(1, place, line[:size]))
+        yield (f"form-{place}-empty-line", before + b"\n" + joined(lines[place - 1:]),
+               refused(1, place))
+        yield f"form-{place}-empty-last", before + b"\n", refused(1, place)
+    carriage = GOOD.data().replace(b"\n", b"\r\n")
+    yield "form-carriage-returns", carriage, refused(1, 1, lines[0] + b"\r")
+    yield ("form-only-carriage-returns", GOOD.data().replace(b"\n", b"\r"),
+           refused(1, 1, GOOD.data().replace(b"\n", b"\r")))
+
+
+def order_damage():
+    """Lines in a wrong order, twice, or left out."""
+    lines = GOOD.lines()
+    for place in range(1, HEADER_LINES + 1):
+        left_out = lines[:place - 1] + lines[place:]
+        yield (f"form-{place}-left-out", joined(left_out),
+               refused(1, place, lines[place]))
+        twice = lines[:place] + lines[place - 1:]
+        yield (f"form-{place}-twice", joined(twice),
+               refused(1, place + 1, lines[place - 1]))
+        for other in range(place + 1, len(lines) + 1):
+            swapped = with_line(with_line(lines, place, lines[other - 1]),
+                                other, lines[place - 1])
+            yield (f"form-{place}-swapped-{other}", joined(swapped),
+                   refused(1, place, lines[other - 1]))
+    late = lines[:8] + lines[9:10] + lines[8:9] + lines[10:]
+    yield "form-rate-after-member", joined(late), refused(1, 10, lines[8])
+    last = lines[:8] + lines[9:12] + lines[8:9] + lines[12:]
+    yield "form-rate-before-end", joined(last), refused(1, 12, lines[8])
+    again = lines[:9] + lines[2:3] + lines[9:]
+    yield "form-header-again", joined(again), refused(1, 10, lines[2])
+    yield "form-no-end", joined(lines[:-1]), refused(1, 13)
+    early = lines[:9] + [b"end=0"] + lines[9:]
+    yield "form-members-after-end", joined(early), refused(1, 11, lines[9])
+    moved = lines[:9] + [lines[12]] + lines[9:12]
+    yield "range-end-too-early", joined(moved), refused(2, 10, b"end=3")
+
+
+def trailing_damage():
+    data = GOOD.data()
+    place = len(GOOD.lines()) + 1
+    for name, bytes_after in {
+            "line-feed": b"\n", "letter": b"x", "nul": b"\0", "end-again": b"end=3\n",
+            "rate": b"rate=60,0,0\n", "two-lines": b"one\ntwo\n",
+            "three-feeds": b"\n\n\n", "copy": data}.items():
+        yield (f"form-after-{name}", data + bytes_after,
+               refused(1, place, bytes_after.split(b"\n")[0]))
+    wrong = joined(GOOD.lines()[:-1] + [b"end=4", b"more"])
+    yield "range-end-before-bytes-after", wrong, refused(2, 13, b"end=4")
+
+
+RANGES = {
+    1: ((b"0", b"1899", b"3000", b"9999999"),), 2: ((b"0", b"1899", b"3000", b"9999999"),),
+    3: ((b"4096", b"9999999"),), 4: ((b"0", b"13", b"9999999"),),
+    5: ((b"5001", b"9999999"),), 6: ((b"4097", b"9999999"),),
+    7: ((b"121", b"9999999"), (b"1000001", b"990001"), (b"1000001", b"980001")),
+    8: ((b"0", b"29", b"30", b"121", b"9999999"), (b"1000001", b"9999999"),
+        (b"970001", b"1000001")),
+    9: ((b"40", b"0", b"121"), (b"1000001", b"955001"), (b"1000001",)),
+    10: ((b"121", b"9999999"), (b"0", b"3", b"12", b"9999999"),
+         (b"65536", b"9999999"), (b"65536", b"9999999")),
+    12: ((b"121", b"9999999"), (b"0", b"3"), (b"65536",), (b"65536",)),
+    13: ((b"0", b"2", b"4", b"9999999"),),
+}
+
+
+def range_damage():
+    lines = GOOD.lines()
+    for place, columns in RANGES.items():
+        for index, numbers in enumerate(columns):
+            for number in numbers:
+                new = with_number(lines[place - 1], index, number)
+                yield (f"range-{place}-{index}-{number.decode()}",
+                       joined(with_line(lines, place, new)), refused(2, place, new))
+    full = tuple((age, 0, 0) for age in range(121))
+    for row in (b"rate=120,0,0", b"rate=121,0,0", b"rate=0,0,0"):
+        many = replace(GOOD, rate_rows=full).lines()
+        yield (f"range-122-rates-{row.decode()}", joined(many[:127] + [row] + many[127:]),
+               refused(2, 128, row))
+    bad = many[:127] + [b"rate=121,0,00"] + many[127:]
+    yield "form-122-rates", joined(bad), refused(1, 128, b"rate=121,0,00")
+    too_many = replace(GOOD, member_rows=((40, 1, 0, 0),) * 1001).lines()
+    yield "range-1001-members", joined(too_many), refused(2, 1010, b"member=40,1,0,0")
+    bad = with_line(too_many, 1010, b"member=40,1,0,0 ")
+    yield "form-1001-members", joined(bad), refused(1, 1010, b"member=40,1,0,0 ")
+    open_end = joined(too_many[:1009]) + too_many[1009]
+    yield "form-1001-cut", open_end, refused(1, 1010, b"member=40,1,0,0")
+
+
+def precedence_damage():
+    """Form before range within a line; the first faulty line decides."""
+    lines = GOOD.lines()
+    both = {1: b"rates=03000", 3: b"horizon=4096\r", 4: b"order=13,1", 6: b"deductible= 4097",
+            7: b"rate=121,0,00", 8: b"rate=30,2000000,-1", 10: b"member=40,3,1,00",
+            12: b"member=121,3,65536,65536,1", 13: b"end=04"}
+    for place, line in both.items():
+        yield (f"form-before-range-{place}", joined(with_line(lines, place, line)),
+               refused(1, place, line))
+    for place, line in ((3, b"horizon=9999"), (7, b"rate=121,0,0"),
+                        (10, b"member=0,0,0,0"), (13, b"end=9")):
+        yield (f"form-open-out-of-range-{place}", joined(lines[:place - 1]) + line,
+               refused(1, place, line))
+    first = with_line(with_line(lines, 3, b"horizon=4096"), 5, b"frequency=x")
+    yield "range-then-form", joined(first), refused(2, 3, b"horizon=4096")
+    second = with_line(with_line(lines, 3, b"horizon=x"), 5, b"frequency=5001")
+    yield "form-then-range", joined(second), refused(1, 3, b"horizon=x")
+    third = with_line(replace(GOOD, members=2031).lines(), 13, b"end=4")
+    yield "range-before-edition", joined(third), refused(2, 13, b"end=4")
+    fourth = joined(replace(GOOD, members=2031).lines()) + b"\n"
+    yield "form-before-edition", fourth, refused(1, 14)
+
+
+def later_refusals():
+    """Numbers 3 to 8 and 10, alone and where several conditions are met."""
+    half = ((30, 250000, 250000), (40, 499999, 0), (50, 500000, 500000))
+    one, two, none = (30, 1, 1, 1), (50, 2, 1, 1), (31, 2, 0, 0)
+
+    def made(**changes):
+        return replace(GOOD, **{"rate_rows": half, "frequency": 4000, "order": 12,
+                                **changes})
+
+    wide = dict(horizon=30, frequency=1000, member_rows=((50, 2, 1, 0),) * 16)
+    yield "edition-3", made(members=2031, deductible=7, member_rows=(none,)), refused(3)
+    yield "edition-3-lower", made(members=2029), refused(3)
+    yield "deductible-4", made(deductible=7, member_rows=(none,)), refused(4)
+    yield "deductible-4-top", made(horizon=4094, deductible=4096), refused(4)
+    yield ("unmatched-5-after-half", made(member_rows=(one, none)),
+           refused(5, 11, b"member=31,2,0,0"))
+    yield ("unmatched-5-first-of-two", made(member_rows=(two, none, (120, 1, 1, 1))),
+           refused(5, 11, b"member=31,2,0,0"))
+    yield ("unmatched-5-frequency-0", made(frequency=0, member_rows=((0, 2, 5, 5),)),
+           refused(5, 10, b"member=0,2,5,5"))
+    yield ("unmatched-5-no-rates", made(rate_rows=(), member_rows=((0, 1, 0, 0),)),
+           refused(5, 7, b"member=0,1,0,0"))
+    yield ("half-6-before-load", made(member_rows=(two, two, two, one)),
+           refused(6, 13, b"member=30,1,1,1"))
+    yield ("half-6-whole", made(member_rows=((50, 1, 3, 3),)),
+           refused(6, 10, b"member=50,1,3,3"))
+    yield ("half-6-folded-half", made(member_rows=((50, 1, 0, 3),)),
+           refused(6, 10, b"member=50,1,0,3"))
+    yield ("half-6-beyond", made(member_rows=((30, 1, 65535, 65535),)),
+           refused(6, 10, b"member=30,1,65535,65535"))
+    yield "half-folded", made(member_rows=((50, 1, 0, 0), (30, 1, 0, 0))), ACCEPTED
+    yield "load-7-before-order", made(member_rows=((40, 1, 1, 0), two, two)), refused(7)
+    yield "order-8-just-below-half", made(member_rows=((40, 1, 1, 0),)), refused(8)
+    yield "order-8-folded-quarter", made(order=3, member_rows=((30, 1, 1, 0),)), refused(8)
+    yield "group-2-whole", made(horizon=1, deductible=0, member_rows=(two,)), ACCEPTED
+    yield "wide-10", made(**wide), refused(10, 6)
+
+
+def refusal_damage():
+    for name, text, expected in later_refusals():
+        yield name, text.data(), expected
+
+
+def short_damage():
+    """9 comes after 8 and before 10."""
+    wide = wide_text(pricing.MILLION, 0).data()
+    order = replace(GOOD, order=1).data()
+    form = GOOD.data()[:-1]
+    return [
+        Case("damaged-short-before-wide", wide, refused(9), (7, 7, 6, 7)),
+        Case("damaged-wide-not-short", wide, refused(10, 6), (7,) * 4),
+        Case("damaged-order-before-short", order, refused(8), (0,) * 4),
+        Case("damaged-form-before-short", form, refused(1, 13, b"end=3"), (0, 1, 2, 3)),
+    ]
+
+
+def damaged_files():
+    """Files with a known refusal, each way of it."""
+    cases = [Case("damaged-good", GOOD.data(), ACCEPTED)]
+    for kind in (spelling_damage, long_damage, cut_damage, order_damage, trailing_damage,
+                 range_damage, precedence_damage, refusal_damage):
+        cases += [Case(f"damaged-{name}", data, expected)
+                  for name, data, expected in kind()]
+    return cases + short_damage()
+
+
+# Random damage
+
+def random_position(rng, data):
+    return rng.randrange(len(data) + 1)
+
+
+def change_byte(rng, data):
+    at = random_position(rng, data[:-1])
+    return data[:at] + bytes([rng.choice(b"0123456789,=\n\r ramelt\0\xff")]) + data[at + 1:]
+
+
+def insert_byte(rng, data):
+    at = random_position(rng, data)
+    return data[:at] + bytes([rng.choice(b"0123456789,=\n\r -+")]) + data[at:]
+
+
+def delete_bytes(rng, data):
+    at = random_position(rng, data)
+    return data[:at] + data[at + rng.randint(1, 4):]
+
+
+def cut_end(rng, data):
+    return data[:random_position(rng, data)]
+
+
+def cut_start(rng, data):
+    return data[random_position(rng, data):]
+
+
+def double_part(rng, data):
+    at, to = sorted((random_position(rng, data), random_position(rng, data)))
+    return data[:to] + data[at:]
+
+
+def double_line(rng, data):
+    lines = data.split(b"\n")[:-1]
+    at = rng.randrange(len(lines))
+    return joined(lines[:at + 1] + lines[at:])
+
+
+def delete_line(rng, data):
+    lines = data.split(b"\n")[:-1]
+    at = rng.randrange(len(lines))
+    return joined(lines[:at] + lines[at + 1:])
+
+
+def swap_lines(rng, data):
+    lines = data.split(b"\n")[:-1]
+    one, two = rng.randrange(len(lines)), rng.randrange(len(lines))
+    lines[one], lines[two] = lines[two], lines[one]
+    return joined(lines)
+
+
+def change_number(rng, data):
+    lines = data.split(b"\n")[:-1]
+    at = rng.randrange(len(lines))
+    count = len(numbers_in(lines[at])[1])
+    number = rng.choice((0, 1, 2, 3, 12, 13, 120, 121, 1000, 4095, 4096, 4097, 5000,
+                         65535, 65536, 499999, 500000, 1000000, 1000001, 9999999))
+    lines[at] = with_number(lines[at], rng.randrange(count), b"%d" % number)
+    return joined(lines)
+
+
+WAYS = (change_byte, insert_byte, delete_bytes, cut_end, cut_start, double_part,
+        double_line, delete_line, swap_lines, change_number)
+
+
+def random_damage(seed, count):
+    """Good small files with one or two random changes; the answer is not known."""
+    rng = random.Random(seed)
+    cases = []
+    for index in range(count):
+        way = WAYS[index % len(WAYS)]
+        data = way(rng, small_text(rng, rng.choice(SMALL_KINDS)).data())
+        if data.endswith(b"\n") and data.count(b"\n") > 8 and rng.randrange(4) == 0:
+            data = change_byte(rng, data)
+        cases.append(Case(f"random-{way.__name__.replace('_', '-')}-{index}", data))
+    return cases
+
+
+if __name__ == "__main__":
+    for case in (small_funds(1, 48) + limit_funds() + damaged_files()
+                 + random_damage(1, 50)):
+        print(case.name, len(case.data), case.expected and case.expected[:2])

@@ -1,0 +1,502 @@
+"""The answer of a pricing call, in whole numbers, in the order of document 01.
+
+price(data, lengths) gives every figure of a call for any bytes and any
+lengths of the four result slices.  listing(answer) gives the printed text.
+Run as a program, it reads a fund file on standard input and prints the listing.
+"""
+
+import sys
+from dataclasses import dataclass
+
+UNIT = 10 ** 12          # one, in units of 10^-12
+MILLION = 10 ** 6        # one, in millionths
+
+EDITION_LOW, EDITION_HIGH = 1900, 2999
+HORIZON_HIGH = 4095
+ORDER_LOW, ORDER_HIGH = 1, 12
+FREQUENCY_HIGH = 5000
+DEDUCTIBLE_HIGH = 4096
+RATE_ROWS = 121
+MEMBER_ROWS = 1000
+AGE_HIGH = 120
+RATE_HIGH = 1000000
+AMOUNT_HIGH = 65535
+DIGITS = 7
+HALF = 500000
+LOAD_HIGH = 8 * 10 ** 12
+TRUNCATION_HIGH = 10 ** 8
+BOUND_HIGH = 250000
+START_TERMS = 63
+LISTING_LENGTHS = (HORIZON_HIGH + 1,) * 4
+
+FORM, RANGE, EDITION, DEDUCTIBLE, UNMATCHED = 1, 2, 3, 4, 5
+TOO_HALF, LOAD, ORDER, SHORT, WIDE = 6, 7, 8, 9, 10
+
+
+# Roundings
+
+def nearest(numerator, divisor):
+    """To the nearest whole number, halves away from zero."""
+    size = (2 * abs(numerator) + divisor) // (2 * divisor)
+    return -size if numerator < 0 else size
+
+
+def up(numerator, divisor):
+    """To the next whole number not below."""
+    return -((-numerator) // divisor)
+
+
+# The fund file
+
+class Refusal(Exception):
+    """Number, place, and the part of the file that is handed back."""
+
+    def __init__(self, number, place, start=0, length=0):
+        super().__init__(number, place)
+        self.number = number
+        self.place = place
+        # The start of an empty part says nothing, so it is always 0 here.
+        self.start = start if length else 0
+        self.length = length
+
+
+@dataclass(frozen=True)
+class Line:
+    place: int       # lines count from 1
+    start: int       # position of the first byte in the file
+    text: bytes      # without the line feed, or up to the file's end
+    ended: bool      # the line feed is there
+
+    def refusal(self, number):
+        return Refusal(number, self.place, self.start, len(self.text))
+
+
+@dataclass(frozen=True)
+class Member:
+    line: Line
+    age: int
+    group: int
+    d: int
+    e: int
+
+
+@dataclass(frozen=True)
+class Fund:
+    rates: int
+    members: int
+    horizon: int
+    order: int
+    frequency: int
+    deductible: int
+    rate_rows: tuple     # (age, q, i), ages strictly rising
+    member_rows: tuple   # Member records in file order
+
+
+class Reader:
+    """Keeps the file's bytes and its position."""
+
+    def __init__(self, data):
+        self.data = data
+        self.position = 0
+        self.place = 0
+
+    def at_end(self):
+        return self.position == len(self.data)
+
+    def take(self):
+        """The next line; a line is missing only if no byte of it stands there."""
+        self.place += 1
+        if self.at_end():
+            raise Refusal(FORM, self.place)
+        start = self.position
+        feed = self.data.find(b"\n", start)
+        if feed < 0:
+            self.position = len(self.data)
+            return Line(self.place, start, self.data[start:], False)
+        self.position = feed + 1
+        return Line(self.place, start, self.data[start:feed], True)
+
+
+def number_of(text):
+    """The number that is spelled, or None."""
+    if not 1 <= len(text) <= DIGITS:
+        return None
+    if any(byte < 48 or byte > 57 for byte in text):
+        return None
+    if len(text) > 1 and text[0] == 48:
+        return None
+    return int(text)
+
+
+def numbers_of(line, key, count):
+    """The numbers of a line with this key and this many numbers, or None."""
+    if not line.ended or not line.text.startswith(key):
+        return None
+    numbers = [number_of(text) for text in line.text[len(key):].split(b",")]
+    if len(numbers) != count or None in numbers:
+        return None
+    return numbers
+
+
+def read_header(reader, key, low, high):
+    line = reader.take()
+    numbers = numbers_of(line, key, 1)
+    if numbers is None:
+        raise line.refusal(FORM)
+    if not low <= numbers[0] <= high:
+        raise line.refusal(RANGE)
+    return numbers[0]
+
+
+def rate_in_range(rate_rows, age, q, i):
+    if len(rate_rows) == RATE_ROWS:
+        return False
+    if age > AGE_HIGH or (rate_rows and age <= rate_rows[-1][0]):
+        return False
+    return q <= RATE_HIGH and i <= RATE_HIGH and q + i <= RATE_HIGH
+
+
+def member_in_range(member_rows, age, group, d, e):
+    if len(member_rows) == MEMBER_ROWS:
+        return False
+    return (age <= AGE_HIGH and group in (1, 2)
+            and d <= AMOUNT_HIGH and e <= AMOUNT_HIGH)
+
+
+def read_rows(reader):
+    """The rate lines, the member lines and the end line."""
+    rate_rows, member_rows = [], []
+    while True:
+        line = reader.take()
+        rate = numbers_of(line, b"rate=", 3)
+        member = numbers_of(line, b"member=", 4)
+        end = numbers_of(line, b"end=", 1)
+        if rate is not None and not member_rows:
+            if not rate_in_range(rate_rows, *rate):
+                raise line.refusal(RANGE)
+            rate_rows.append(tuple(rate))
+        elif member is not None:
+            if not member_in_range(member_rows, *member):
+                raise line.refusal(RANGE)
+            member_rows.append(Member(line, *member))
+        elif end is not None:
+            if end[0] != len(member_rows):
+                raise line.refusal(RANGE)
+            return tuple(rate_rows), tuple(member_rows)
+        else:
+            raise line.refusal(FORM)
+
+
+def read_fund(data):
+    """Reading goes line by line, form before range within a line."""
+    reader = Reader(data)
+    rates = read_header(reader, b"rates=", EDITION_LOW, EDITION_HIGH)
+    members = read_header(reader, b"members=", EDITION_LOW, EDITION_HIGH)
+    horizon = read_header(reader, b"horizon=", 0, HORIZON_HIGH)
+    order = read_header(reader, b"order=", ORDER_LOW, ORDER_HIGH)
+    frequency = read_header(reader, b"frequency=", 0, FREQUENCY_HIGH)
+    deductible = read_header(reader, b"deductible=", 0, DEDUCTIBLE_HIGH)
+    rate_rows, member_rows = read_rows(reader)
+    if not reader.at_end():
+        raise reader.take().refusal(FORM)
+    return Fund(rates, members, horizon, order, frequency, deductible,
+                rate_rows, member_rows)
+
+
+# From members to the transform
+
+@dataclass(frozen=True)
+class Folded:
+    """A member with its rates after folding."""
+    line: Line
+    group: int
+    d: int
+    e: int
+    q: int
+    i: int
+
+    @property
+    def p(self):
+        return MILLION - self.q - self.i
+
+
+def fold(member, q, i):
+    """If d = 0, q counts as 0; if e = 0, i counts as 0."""
+    return Folded(member.line, member.group, member.d, member.e,
+                  q if member.d else 0, i if member.e else 0)
+
+
+def match_and_fold(fund):
+    """Every member with its folded rates, in file order; refusal 5."""
+    rows = {age: (q, i) for age, q, i in fund.rate_rows}
+    members = []
+    for member in fund.member_rows:
+        if member.age not in rows:
+            raise member.line.refusal(UNMATCHED)
+        members.append(fold(member, *rows[member.age]))
+    return members
+
+
+def group_1(members):
+    return [m for m in members if m.group == 1]
+
+
+def group_2(members):
+    return [m for m in members if m.group == 2]
+
+
+def group_2_weights(members, frequency):
+    """The pairs (amount, weight in units) of group 2; lambda is their sum."""
+    pairs = []
+    for m in group_2(members):
+        pairs.append((m.d, m.q * frequency * 1000))
+        pairs.append((m.e, m.i * frequency * 1000))
+    return pairs
+
+
+def lambda_units(members, frequency):
+    """Lambda, in units, is the sum of (q + i) x a x 1000."""
+    return sum(weight for _, weight in group_2_weights(members, frequency))
+
+
+def check_half(members):
+    for m in group_1(members):
+        if m.q + m.i >= HALF:
+            raise m.line.refusal(TOO_HALF)
+
+
+def load(members, lam):
+    """Lambda plus, over group 1, up(10^12 x (q+i)/p)."""
+    return lam + sum(up(UNIT * (m.q + m.i), m.p) for m in group_1(members))
+
+
+def truncation_steps(order):
+    """The figure takes w(r+1)."""
+    return order + 1
+
+
+def member_truncation(m, order):
+    w = UNIT
+    for _ in range(truncation_steps(order)):
+        w = up(w * (m.q + m.i), m.p)
+    return up(w * m.p, (m.p - m.q - m.i) * (order + 1))
+
+
+def truncation(members, order):
+    return sum(member_truncation(m, order) for m in group_1(members))
+
+
+def mean(members, frequency):
+    """Amounts beyond X count here."""
+    total = 0
+    for m in members:
+        factor = MILLION if m.group == 1 else frequency * 1000
+        total += (m.q * m.d + m.i * m.e) * factor
+    return total
+
+
+def next_row(row, q, i, p):
+    """v(n,0) to v(n,12) from v(n-1,0) to v(n-1,12), missing neighbours 0."""
+    return [nearest(q * (row[l - 1] if l else 0) + i * row[l], p)
+            for l in range(ORDER_HIGH + 1)]
+
+
+def is_placed(m, n, l, x, horizon):
+    return x <= horizon and (m.q > 0 or l == 0) and (m.i > 0 or l == n)
+
+
+def place_term(D, H, n, x, v):
+    """A placed term is added to D for odd n, subtracted for even n; H gains x."""
+    term = nearest(x * v, n)
+    D[x] += term if n % 2 else -term
+    H[x] += x
+
+
+def add_group_1_member(D, H, m, order, horizon):
+    row = [UNIT] + [0] * ORDER_HIGH
+    for n in range(1, order + 1):
+        row = next_row(row, m.q, m.i, m.p)
+        for l in range(n + 1):
+            x = m.d * l + m.e * (n - l)
+            if is_placed(m, n, l, x, horizon):
+                place_term(D, H, n, x, row[l])
+
+
+def add_group_2(D, members, frequency, horizon):
+    for place, weight in group_2_weights(members, frequency):
+        if 1 <= place <= horizon:
+            D[place] += weight * place
+
+
+def transform(members, fund):
+    D = [0] * (fund.horizon + 1)
+    H = [0] * (fund.horizon + 1)
+    for m in group_1(members):
+        add_group_1_member(D, H, m, fund.order, fund.horizon)
+    add_group_2(D, members, fund.frequency, fund.horizon)
+    return D, H
+
+
+# The recursion and its bounds
+
+def start(members, lam, horizon):
+    """f(0): the alternating sum of t(0) to t(63), then times each p."""
+    t = UNIT
+    total = t
+    for n in range(1, START_TERMS + 1):
+        t = nearest(t * lam, n * UNIT)
+        total += -t if n % 2 else t
+    for m in start_members(members, horizon):
+        total = nearest(total * m.p, MILLION)
+    return total
+
+
+def start_members(members, horizon):
+    """All of group 1, also where the amount lies beyond X."""
+    return group_1(members)
+
+
+def start_bound(members, lam):
+    """R(0): the sum of c(0) to c(63) plus the number of group 1 members."""
+    total = c = 0
+    if lam:
+        for n in range(1, START_TERMS + 1):
+            c = up(c * lam, n * UNIT) + 1
+            total += c
+    return total + len(group_1(members))
+
+
+def product_bound(k, D_k, H_k, f_value, R_value):
+    """The two terms under k in R(x); D already holds k."""
+    return (up(abs(D_k) * R_value, UNIT)
+            + up(H_k * (abs(f_value) + R_value), UNIT))
+
+
+def product(D_k, f_value):
+    return nearest(D_k * f_value, UNIT)
+
+
+def recursion(D, H, f_0, R_0, horizon):
+    """f and R from 0 on, up to X or to the first R(x) above 250,000."""
+    f, R = [f_0], [R_0]
+    # Where D(k) and H(k) are both 0, every term under k is 0.
+    places = [k for k in range(1, horizon + 1) if D[k] or H[k]]
+    for x in range(1, horizon + 1):
+        if R[-1] > BOUND_HIGH:
+            break
+        value = bound = 0
+        for k in places:
+            if k > x:
+                break
+            value += product(D[k], f[x - k])
+            bound += product_bound(k, D[k], H[k], f[x - k], R[x - k])
+        f.append(nearest(value, x))
+        R.append(up(bound, x) + 1)
+    return f, R
+
+
+def distribution(fund, members, lam):
+    """D, H, f and R; f and R end early where R is above its limit."""
+    D, H = transform(members, fund)
+    f, R = recursion(D, H, start(members, lam, fund.horizon),
+                     start_bound(members, lam), fund.horizon)
+    return D, H, f, R
+
+
+def check_wide(R):
+    for x, bound in enumerate(R):
+        if bound > BOUND_HIGH:
+            raise Refusal(WIDE, x)
+
+
+def premium(mean_figure, deductible, f):
+    return (mean_figure - deductible * UNIT
+            + sum((deductible - x) * f[x] for x in range(deductible)))
+
+
+def premium_bound(deductible, R, truncation_figure):
+    return (sum((deductible - x) * R[x] for x in range(deductible))
+            + 2 * deductible * truncation_figure)
+
+
+# The call
+
+@dataclass(frozen=True)
+class Answer:
+    number: int
+    place: int
+    start: int           # the part handed back: start and length in the file
+    length: int
+    truncation: int
+    mean: int
+    premium: int
+    bound: int           # the premium's bound
+    D: tuple             # the four result slices after the call
+    H: tuple
+    f: tuple
+    R: tuple
+    horizon: int         # X of an accepted fund, for the listing
+
+
+def check_fund(fund):
+    if fund.rates != fund.members:
+        raise Refusal(EDITION, 0)
+    if fund.deductible > fund.horizon + 1:
+        raise Refusal(DEDUCTIBLE, 0)
+
+
+def accepted(data, lengths):
+    """The answer for a fund that meets no refusal's condition."""
+    fund = read_fund(data)
+    check_fund(fund)
+    members = match_and_fold(fund)
+    check_half(members)
+    lam = lambda_units(members, fund.frequency)
+    if load(members, lam) > LOAD_HIGH:
+        raise Refusal(LOAD, 0)
+    E = truncation(members, fund.order)
+    if E > TRUNCATION_HIGH:
+        raise Refusal(ORDER, 0)
+    if min(lengths) < fund.horizon + 1:
+        raise Refusal(SHORT, 0)
+    D, H, f, R = distribution(fund, members, lam)
+    check_wide(R)
+    mean_figure = mean(members, fund.frequency)
+    slices = [tuple(cells) + (0,) * (length - len(cells))
+              for cells, length in zip((D, H, f, R), lengths)]
+    return Answer(0, 0, 0, 0, E, mean_figure,
+                  premium(mean_figure, fund.deductible, f),
+                  premium_bound(fund.deductible, R, E),
+                  *slices, fund.horizon)
+
+
+def refused(refusal, lengths):
+    """Number and place, zero for every figure and in every lent cell."""
+    slices = [(0,) * length for length in lengths]
+    return Answer(refusal.number, refusal.place, refusal.start, refusal.length,
+                  0, 0, 0, 0, *slices, 0)
+
+
+def price(data, lengths=LISTING_LENGTHS):
+    try:
+        return accepted(data, lengths)
+    except Refusal as refusal:
+        return refused(refusal, lengths)
+
+
+# The listing
+
+def listing(answer):
+    if answer.number:
+        return f"refused={answer.number},{answer.place}\n"
+    lines = [f"truncation={answer.truncation}", f"mean={answer.mean}"]
+    for x in range(answer.horizon + 1):
+        lines.append(f"cell={x},{answer.f[x]},"
+                     f"{answer.R[x] + 2 * answer.truncation}")
+    lines.append(f"premium={answer.premium}")
+    lines.append(f"within={answer.bound}")
+    return "".join(line + "\n" for line in lines)
+
+
+if __name__ == "__main__":
+    sys.stdout.write(listing(price(sys.stdin.buffer.read())))

@@ -1,0 +1,489 @@
+"""All checks of the exact calculation.  Run: python3 tests/test_pricing.py
+
+A check is a pair (name, holds).  The last line printed counts them.
+"""
+
+import json
+import random
+import re
+import subprocess
+import sys
+import tempfile
+from dataclasses import replace
+from fractions import Fraction
+from itertools import count
+from pathlib import Path
+from unittest import mock
+
+import cases
+import document_funds
+import exact
+import exact_rows
+import formulas
+import generate
+import pricing
+
+SHORT_SLICES = (26, 25, 27, 25)     # the small funds have X up to 24
+
+
+def part_of(data, answer):
+    return data[answer.start:answer.start + answer.length]
+
+
+def refusal_of(case):
+    answer = pricing.price(case.data, case.lengths)
+    return answer.number, answer.place, part_of(case.data, answer)
+
+
+# A second reader, by regular expressions
+
+NUMBER = rb"(0|[1-9][0-9]{0,6})"
+HEADER = [(re.compile(key + b"=" + NUMBER), low, high) for key, low, high in (
+    (b"rates", 1900, 2999), (b"members", 1900, 2999), (b"horizon", 0, 4095),
+    (b"order", 1, 12), (b"frequency", 0, 5000), (b"deductible", 0, 4096))]
+RATE = re.compile(b"rate=" + b",".join([NUMBER] * 3))
+MEMBER = re.compile(b"member=" + b",".join([NUMBER] * 4))
+END = re.compile(b"end=" + NUMBER)
+
+
+def numbers(match):
+    return [int(text) for text in match.groups()]
+
+
+def rate_holds(row, rates):
+    age, q, i = row
+    return (len(rates) < 121 and age <= 120 and q + i <= 1000000
+            and all(age > other[0] for other in rates))
+
+
+def member_holds(row, members):
+    age, group, d, e = row
+    return (len(members) < 1000 and age <= 120 and 1 <= group <= 2
+            and max(d, e) <= 65535)
+
+
+def first_fault(data):
+    """(number, place) of the first line that is form or range, or None."""
+    lines = data.split(b"\n")
+    lines.pop()                                 # bytes without a line feed
+    rates, members = [], []
+    for place in count(1):
+        if place > len(lines):
+            return 1, place
+        line = lines[place - 1]
+        if place <= len(HEADER):
+            pattern, low, high = HEADER[place - 1]
+            match = pattern.fullmatch(line)
+            if not match:
+                return 1, place
+            if not low <= int(match[1]) <= high:
+                return 2, place
+        elif not members and (match := RATE.fullmatch(line)):
+            if not rate_holds(numbers(match), rates):
+                return 2, place
+            rates.append(numbers(match))
+        elif match := MEMBER.fullmatch(line):
+            if not member_holds(numbers(match), members):
+                return 2, place
+            members.append(numbers(match))
+        elif match := END.fullmatch(line):
+            if int(match[1]) != len(members):
+                return 2, place
+            rest = data[len(b"\n".join(lines[:place])) + 1:]
+            return (1, place + 1) if rest else None
+        else:
+            return 1, place
+
+
+# What holds of every answer
+
+def refused_answer_holds(data, answer):
+    """Zero figures, zero cells, and the part that the place says."""
+    zero = (answer.truncation, answer.mean, answer.premium, answer.bound) == (0,) * 4
+    cells = not any(map(any, (answer.D, answer.H, answer.f, answer.R)))
+    if answer.number in (1, 2, 5, 6):
+        part = (answer.place >= 1 and part_of(data, answer)
+                == data.split(b"\n")[answer.place - 1])
+        if answer.length:
+            part = part and data[:answer.start].count(b"\n") == answer.place - 1
+    else:
+        part = answer.length == 0 and (answer.place > 0) == (answer.number == 10)
+    text = pricing.listing(answer) == f"refused={answer.number},{answer.place}\n"
+    return zero and cells and part and text and 1 <= answer.number <= 10
+
+
+def accepted_answer_holds(answer):
+    """Limits kept, the first D and H zero, zero beyond X, one line for each figure."""
+    used = answer.horizon + 1
+    slices = (answer.D, answer.H, answer.f, answer.R)
+    return (answer.place == answer.start == answer.length == 0
+            and answer.D[0] == answer.H[0] == 0
+            and not any(any(cells[used:]) for cells in slices)
+            and max(answer.R) <= 250000 and answer.truncation <= 10 ** 8
+            and all(h >= 0 for h in answer.H)
+            and pricing.listing(answer).count("\n") == used + 4)
+
+
+def answer_holds(case):
+    answer = pricing.price(case.data, case.lengths)
+    lengths = tuple(map(len, (answer.D, answer.H, answer.f, answer.R)))
+    if lengths != case.lengths:
+        return False
+    if answer.number:
+        return refused_answer_holds(case.data, answer)
+    return accepted_answer_holds(answer)
+
+
+def answer_checks(made):
+    return [(f"{case.name}: answer", answer_holds(case)) for case in made]
+
+
+def expected_checks(made):
+    return [(f"{case.name}: number, place and part", refusal_of(case) == case.expected)
+            for case in made]
+
+
+def reading_checks(made):
+    """The reader and the second reader agree; later refusals have no fault in reading."""
+    checks = []
+    for case in made:
+        answer = pricing.price(case.data, case.lengths)
+        found = (answer.number, answer.place) if answer.number in (1, 2) else None
+        checks.append((f"{case.name}: second reader", found == first_fault(case.data)))
+    return checks
+
+
+# Demand 3, and the method against the formulas
+
+def is_small(answer):
+    return answer.number == 0 and answer.horizon <= 24
+
+
+def distance_checks(made):
+    checks = []
+    for case in made:
+        answer = pricing.price(case.data, case.lengths)
+        if is_small(answer):
+            broken = exact.check_distance(case.data, answer)
+            checks.append((f"{case.name}: demand 3 {broken}", not broken))
+    return checks
+
+
+def formula_checks(made):
+    checks = []
+    for case in made:
+        answer = pricing.price(case.data, case.lengths)
+        if is_small(answer):
+            broken = formulas.check_figures(case.data, answer)
+            checks.append((f"{case.name}: formulas {broken}", not broken))
+    return checks
+
+
+def with_slices(made, lengths):
+    return [replace(case, lengths=lengths) for case in made]
+
+
+def small_limit_funds():
+    """Limit funds that the exact calculation can take in a short time."""
+    large = ("1000", "horizon-high", "deductible-high", "longest")
+    return [case for case in generate.limit_funds()
+            if not any(word in case.name for word in large)]
+
+
+def limit_figure_checks():
+    """The limit funds do stand at the limits that they are named for."""
+    made = {case.name: case.data for case in generate.limit_funds()}
+    checks = [("the longest file is below 29,000 bytes",
+               len(made["limit-longest"]) < 29000)]
+    for name, load in (("exact", 8 * 10 ** 12), ("below", 8 * 10 ** 12 - 1),
+                       ("above", 8 * 10 ** 12 + 1)):
+        figure = formulas.Formulas(made[f"limit-load-{name}"]).load()
+        checks.append((f"limit-load-{name}: load", figure == load))
+    for order in (1, 3, 7, 12):
+        for name, wanted in (("exact", 10 ** 8), ("above", 10 ** 8 + 1)):
+            figure = formulas.Formulas(made[f"limit-truncation-{name}-{order}"])
+            checks.append((f"limit-truncation-{name}-{order}: figure",
+                           figure.truncation() == wanted))
+    for name, wanted in (("not", 250000), ("just", 250001)):
+        figure = formulas.Formulas(made[f"limit-wide-{name}-3"]).R(6)
+        checks.append((f"limit-wide-{name}-3: R(6)", figure == wanted))
+    return checks
+
+
+# Larger funds: the method only
+
+def fund_parts(data):
+    """The lines of a good file: header, rates, members, end."""
+    lines = data.split(b"\n")[:-1]
+    rates = [line for line in lines if line.startswith(b"rate=")]
+    members = [line for line in lines if line.startswith(b"member=")]
+    return lines[:6], rates, members, lines[-1:]
+
+
+def with_header(data, place, line):
+    return generate.joined(generate.with_line(data.split(b"\n")[:-1], place, line))
+
+
+def prefix_holds(data, whole):
+    """A shorter horizon gives the same cells up to it."""
+    X = whole.horizon // 2
+    shorter = with_header(with_header(data, 3, b"horizon=%d" % X), 6, b"deductible=0")
+    part = pricing.price(shorter)
+    return all(getattr(part, name)[:X + 1] == getattr(whole, name)[:X + 1]
+               and not any(getattr(part, name)[X + 1:]) for name in "DHfR")
+
+
+def deductible_holds(data, whole):
+    """The deductible changes only the premium and its bound; at 0 it is the mean."""
+    other = pricing.price(with_header(data, 6, b"deductible=0"))
+    return ((other.premium, other.bound) == (whole.mean, 0)
+            and replace(other, premium=whole.premium, bound=whole.bound) == whole)
+
+
+def sum_holds(whole):
+    """All f together are within their bounds of at most 1, none far below 0."""
+    slack = sum(whole.R) + 2 * whole.truncation
+    least = all(f >= -(R + 2 * whole.truncation) for f, R in zip(whole.f, whole.R))
+    return sum(whole.f) <= 10 ** 12 + slack and least
+
+
+def member_order_holds(data, whole):
+    """The order of members changes no D, H, truncation figure, mean or R(0)."""
+    header, rates, members, end = fund_parts(data)
+    other = pricing.price(generate.joined(header + rates + members[::-1] + end))
+    return ((other.D, other.H, other.truncation, other.mean, other.R[0])
+            == (whole.D, whole.H, whole.truncation, whole.mean, whole.R[0]))
+
+
+def large_checks(made):
+    checks = []
+    for case in made:
+        whole = pricing.price(case.data)
+        checks += [
+            (f"{case.name}: accepted", whole.number == 0),
+            (f"{case.name}: shorter horizon", prefix_holds(case.data, whole)),
+            (f"{case.name}: deductible", deductible_holds(case.data, whole)),
+            (f"{case.name}: sum of cells", sum_holds(whole)),
+            (f"{case.name}: order of members", member_order_holds(case.data, whole)),
+        ]
+    return checks
+
+
+# Deliberate mutations of the method
+
+def negative_halves_up(numerator, divisor):
+    return (2 * numerator + divisor) // (2 * divisor)
+
+
+def error_times_k(k, D_k, H_k, f_value, R_value):
+    return (pricing.up(k * abs(D_k) * R_value, pricing.UNIT)
+            + pricing.up(H_k * (abs(f_value) + R_value), pricing.UNIT))
+
+
+def without_H(k, D_k, H_k, f_value, R_value):
+    return pricing.up(abs(D_k) * R_value, pricing.UNIT)
+
+
+def without_beyond(members, horizon):
+    return [m for m in pricing.group_1(members) if max(m.d, m.e) <= horizon]
+
+
+def mean_of_reachable(members, frequency):
+    return right_mean([m for m in members if max(m.d, m.e) <= 24], frequency)
+
+
+def last_of_pair(m, n, l, x, horizon):
+    pair = m.d == m.e and m.q > 0 and m.i > 0
+    return right_is_placed(m, n, l, x, horizon) and not (pair and l < n)
+
+
+def even_added(D, H, n, x, v):
+    D[x] += pricing.nearest(x * v, n)
+    H[x] += x
+
+
+def equal_ages_pass(rate_rows, age, q, i):
+    before = [row for row in rate_rows if row[0] != age]
+    return right_rate_in_range(before, age, q, i)
+
+
+def open_line_passes(line, key, count):
+    return right_numbers_of(replace(line, ended=True), key, count)
+
+
+def cells_left(refusal, lengths):
+    return replace(right_refused(refusal, lengths),
+                   f=tuple(1 for _ in range(lengths[2])))
+
+
+def half_before_folding(member, q, i):
+    if member.group == 1 and q + i >= pricing.HALF:
+        raise member.line.refusal(pricing.TOO_HALF)
+    return right_fold(member, q, i)
+
+
+right_is_placed = pricing.is_placed
+right_mean = pricing.mean
+right_rate_in_range = pricing.rate_in_range
+right_fold = pricing.fold
+right_numbers_of = pricing.numbers_of
+right_refused = pricing.refused
+
+MUTATIONS = (
+    ("negative halves up", "nearest", negative_halves_up),
+    ("error times k again", "product_bound", error_times_k),
+    ("H term dropped", "product_bound", without_H),
+    ("a member beyond X dropped from p", "start_members", without_beyond),
+    ("a member beyond X dropped from the mean", "mean", mean_of_reachable),
+    ("r instead of r + 1 steps of w", "truncation_steps", lambda order: order),
+    ("last term of an equal pair kept", "is_placed", last_of_pair),
+    ("even terms added", "place_term", even_added),
+    ("half tested before folding", "fold", half_before_folding),
+    ("equal ages pass", "rate_in_range", equal_ages_pass),
+    ("a last line without line feed passes", "numbers_of", open_line_passes),
+    ("cells left after a refusal", "refused", cells_left),
+    ("load limit one lower", "LOAD_HIGH", pricing.LOAD_HIGH - 1),
+    ("load limit one higher", "LOAD_HIGH", pricing.LOAD_HIGH + 1),
+    ("truncation limit one lower", "TRUNCATION_HIGH", pricing.TRUNCATION_HIGH - 1),
+    ("truncation limit one higher", "TRUNCATION_HIGH", pricing.TRUNCATION_HIGH + 1),
+    ("bound limit one lower", "BOUND_HIGH", pricing.BOUND_HIGH - 1),
+    ("bound limit one higher", "BOUND_HIGH", pricing.BOUND_HIGH + 1),
+)
+
+
+def failures(checks):
+    return sum(not holds for _, holds in checks)
+
+
+def noticed(small, limits, damaged):
+    """How many checks of each family fail."""
+    return {
+        "document": failures(document_funds.checks()),
+        "demand 3": failures(distance_checks(small)),
+        "formulas": failures(formula_checks(small)),
+        "expected": failures(expected_checks(limits + damaged)),
+        "answers": failures(answer_checks(limits)),
+    }
+
+
+def mutation_checks():
+    """Each mutation makes at least one check fail; nothing fails without one."""
+    small = [case for case in with_slices(generate.small_funds(11, 48), SHORT_SLICES)
+             if "long" not in case.name]
+    limits = [case for case in generate.limit_funds() if "1000" not in case.name
+              and "-high" not in case.name]
+    damaged = generate.damaged_files()
+    damaged = damaged[::9] + [case for case in damaged if "half" in case.name
+                              or "range-" in case.name or "-cut-" in case.name]
+    checks = [("no mutation: nothing fails",
+               not any(noticed(small, limits, damaged).values()))]
+    for name, target, value in MUTATIONS:
+        with mock.patch.object(pricing, target, value):
+            found = noticed(small, limits, damaged)
+        print(f"  mutation: {name}: " + ", ".join(
+            f"{family} {number}" for family, number in found.items()))
+        checks.append((f"mutation noticed: {name}", any(found.values())))
+    return checks
+
+
+# The tools
+
+def case_tool_checks():
+    with tempfile.TemporaryDirectory() as directory:
+        one, two = Path(directory) / "one", Path(directory) / "two"
+        cases.write(one, 60, 3)
+        cases.write(two, 60, 3)
+        same = ([path.name for path in sorted(one.iterdir())]
+                == [path.name for path in sorted(two.iterdir())])
+        same = same and all(path.read_bytes() == (two / path.name).read_bytes()
+                            for path in one.iterdir())
+        checks = [("stored cases: two files for each", len(list(one.iterdir())) == 120),
+                  ("stored cases: the same seed gives the same files", same),
+                  ("stored cases: none differ", cases.differing(one) == ([], 60))]
+        changed = sorted(one.glob("*.listing"))[0]
+        changed.write_bytes(changed.read_bytes()[:-1])
+        sorted(one.glob("*.fund"))[-1].unlink()
+        checks.append(("stored cases: a changed and a missing file are found",
+                       len(cases.differing(one)[0]) == 2))
+    return checks
+
+
+def row_checks():
+    """The printed rows: read back, they are the fractions of accepted funds."""
+    checks = []
+    for row in json.loads(json.dumps(exact_rows.rows())):
+        data = row["file"].encode("ascii")
+        values = [Fraction(text) for text in row["values"]]
+        X, M = int(row["horizon"]), int(row["deductible"])
+        fund, members = exact.read_and_fold(data)
+        again = (exact.mean(fund, members) - M
+                 + sum((M - x) * values[x] for x in range(M)))
+        checks += [
+            (f"row {row['name']}: accepted", pricing.price(data).number == 0),
+            (f"row {row['name']}: values",
+             len(values) == X + 1 and values == exact.values(fund, members)
+             and all(value >= 0 for value in values)),
+            (f"row {row['name']}: premium",
+             Fraction(row["premium"]) == again * 10 ** 12),
+            (f"row {row['name']}: average excess",
+             row["average_excess"] in (None, row["premium"])),
+            (f"row {row['name']}: demand 3", not exact.check_distance(data)),
+        ]
+    return checks
+
+
+def program_checks():
+    """The calculation as a program prints the listing of the first fund."""
+    program = Path(__file__).resolve().parent / "pricing.py"
+    done = subprocess.run([sys.executable, str(program)], check=True,
+                          input=document_funds.FIRST_FILE, stdout=subprocess.PIPE)
+    return [("program: the listing",
+             done.stdout == document_funds.FIRST_LISTING.encode("ascii"))]
+
+
+def random_bytes_cases(seed, number):
+    rng = random.Random(seed)
+    return [generate.Case(f"bytes-{index}", bytes(rng.randrange(256) for _ in range(index)),
+                          None, (index % 3,) * 4) for index in range(number)]
+
+
+def sections():
+    small = with_slices(generate.small_funds(2024, 360), SHORT_SLICES)
+    damaged = generate.damaged_files()
+    limits = generate.limit_funds()
+    changed = with_slices(generate.random_damage(7, 1500), SHORT_SLICES)
+    any_bytes = random_bytes_cases(5, 30)
+    yield "document 01", document_funds.checks()
+    yield "demand 3", distance_checks(small)
+    yield "demand 3 at limits", distance_checks(small_limit_funds())
+    yield "demand 3 after random changes", distance_checks(changed[9::10])
+    yield "formulas", formula_checks(small[::2]) + formula_checks(small_limit_funds()[::3])
+    yield "limits", expected_checks(limits) + limit_figure_checks()
+    yield "damaged files", expected_checks(damaged)
+    yield "answers", answer_checks(small + limits + damaged + changed + any_bytes)
+    yield "second reader", reading_checks(limits + damaged + changed + any_bytes)
+    yield "larger funds", large_checks(generate.large_funds(9, 6))
+    yield "stored cases", case_tool_checks()
+    yield "exact rows", row_checks()
+    yield "program", program_checks()
+    yield "mutations", mutation_checks()
+
+
+def main():
+    passed = failed = 0
+    for name, checks in sections():
+        for check, holds in checks:
+            if not holds:
+                print(f"  FAILED {check}")
+        bad = failures(checks)
+        passed, failed = passed + len(checks) - bad, failed + bad
+        print(f"{name}: {len(checks) - bad} passed, {bad} failed")
+        if not checks:
+            failed += 1
+            print(f"  FAILED {name}: no checks")
+    print(f"{passed} passed, {failed} failed")
+    return 1 if failed else 0
+
+
+if __name__ == "__main__":
+    sys.exit(main())
