@@ -9,7 +9,8 @@ use Rattle.algebra.specs.Quotient.{over, over-ok}
 
 pub clear-denominators : (a b : ℤ) (c N M K : ℕ) → 0 < N → 0 < M → 0 < K →
     abs (over (ofℤ a) N - over (ofℤ b) M) ≤ over (nat c) K → natAbs (a *ℤ pos M -ℤ b *ℤ pos N) *ⁿ K ≤ⁿ c *ⁿ (N *ⁿ M)
-clear-denominators a b c N M K hN hM hK h = nat-reflect (natAbs d *ⁿ K) (c *ⁿ (N *ⁿ M)) (≤-trans (≤-of-eq left) (≤-trans (≤-mul-left (nat K) (nat-nn K) (≤-mul-left u u-nn h)) (≤-of-eq right)))
+clear-denominators a b c N M K hN hM hK h = nat-reflect (natAbs d *ⁿ K) (c *ⁿ (N *ⁿ M))
+    (≤-trans (≤-of-eq left) (≤-trans (≤-mul-left (nat K) (nat-nn K) (≤-mul-left u u-nn h)) (≤-of-eq right)))
   where
     d : ℤ
     d = a *ℤ pos M -ℤ b *ℤ pos N
@@ -32,7 +33,9 @@ clear-denominators a b c N M K hN hM hK h = nat-reflect (natAbs d *ⁿ K) (c *�
         ∙ ring4 ℚ-ring (λ n m x y. n ⊗ x ⊗ m ⊝ m ⊗ y ⊗ n := n ⊗ m ⊗ (x ⊝ y)) tt (nat N) (nat M) x y
 
     left : nat (natAbs d *ⁿ K) ≡ nat K * (u * abs (x - y))
-    left = nat-mul (natAbs d) K ∙ ap (λ s. s * nat K) (sym (abs-ofℤ d) ∙ ap abs difference ∙ abs-scale u (x - y) u-nn) ∙ ℚ-ring .mul-comm (u * abs (x - y)) (nat K)
+    left = nat-mul (natAbs d) K ∙ ap (λ s. s * nat K) (sym (abs-ofℤ d) ∙ ap abs difference ∙ abs-scale u (x - y) u-nn)
+        ∙ ℚ-ring .mul-comm (u * abs (x - y)) (nat K)
 
     right : nat K * (u * over (nat c) K) ≡ nat (c *ⁿ (N *ⁿ M))
-    right = ring3 ℚ-ring (λ k u o. k ⊗ (u ⊗ o) := (k ⊗ o) ⊗ u) tt (nat K) u (over (nat c) K) ∙ ap₂ (λ s t. s * t) (over-ok (nat c) K hK) (sym (nat-mul N M)) ∙ sym (nat-mul c (N *ⁿ M))
+    right = ring3 ℚ-ring (λ k u o. k ⊗ (u ⊗ o) := (k ⊗ o) ⊗ u) tt (nat K) u (over (nat c) K)
+        ∙ ap₂ _*_ (over-ok (nat c) K hK) (sym (nat-mul N M)) ∙ sym (nat-mul c (N *ⁿ M))

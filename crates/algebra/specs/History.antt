@@ -26,7 +26,8 @@ module _ {A : Type 0} (d : A) (step : (n : ℕ) → (ℕ → A) → A) where
       same : n ≤ k → n ≡ k
       same g = omega arith
 
-      go : (b : Bool) → (T b → k < n) → (T (not b) → n ≤ k) → (k < n → upto n k ≡ step k (upto k)) → cond b (upto n k) (step n (upto n)) ≡ step k (upto k)
+      go : (b : Bool) → (T b → k < n) → (T (not b) → n ≤ k) → (k < n → upto n k ≡ step k (upto k)) →
+          cond b (upto n k) (step n (upto n)) ≡ step k (upto k)
       go true f g ih = ih (f tt)
       go false f g ih = ap (λ m. step m (upto m)) (same (g tt))
 

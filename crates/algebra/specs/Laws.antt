@@ -36,7 +36,8 @@ module _ (R : CRing) where
       un x = sym (add-assoc (neg a) a x) ∙ ap (λ y. y + x) (neg-add a) ∙ zero-add x
 
   pub mul-zero : (a : Carrier) → a * zero# ≡ zero#
-  mul-zero a = add-cancel (a * zero#) (a * zero#) zero# (sym (distrib a zero# zero#) ∙ ap (λ x. a * x) (add-zero zero#) ∙ sym (add-zero (a * zero#)))
+  mul-zero a = add-cancel (a * zero#) (a * zero#) zero#
+      (sym (distrib a zero# zero#) ∙ ap (λ x. a * x) (add-zero zero#) ∙ sym (add-zero (a * zero#)))
 
   pub zero-mul : (a : Carrier) → zero# * a ≡ zero#
   zero-mul a = mul-comm zero# a ∙ mul-zero a

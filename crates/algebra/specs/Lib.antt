@@ -10,6 +10,7 @@ pub mod SeriesRing
 pub mod History
 pub mod Integer
 pub mod IntegerOrder
+pub mod Fraction
 pub mod Rational
 pub mod Q
 pub mod Embedding

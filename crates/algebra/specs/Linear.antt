@@ -55,7 +55,8 @@ module _ (R : CRing) (Q : Ord R) where
 
   comb-nn : (ρ : List Carrier) (f : Facts) → Given ρ f → T (Q .nonneg (eval R ρ (comb f)))
   comb-nn ρ (rest k) h = O.nat-nn R Q k
-  comb-nn ρ (c ⋅ (a ≼ b) ∣ f) h = Q .nn-add (eval R ρ (con (pos c) ⊗ (b ⊝ a))) (eval R ρ (comb f)) (Q .nn-mul (eval R ρ (con (pos c))) (eval R ρ (b ⊝ a)) (O.nat-nn R Q c) (h .0 .le)) (comb-nn ρ f (h .1))
+  comb-nn ρ (c ⋅ (a ≼ b) ∣ f) h = Q .nn-add (eval R ρ (con (pos c) ⊗ (b ⊝ a))) (eval R ρ (comb f))
+      (Q .nn-mul (eval R ρ (con (pos c))) (eval R ρ (b ⊝ a)) (O.nat-nn R Q c) (h .0 .le)) (comb-nn ρ f (h .1))
 
   abbrev pub Shows : List Carrier → Goal → Type 0
   Shows ρ g = O._≤_ R Q (eval R ρ (lower g)) (eval R ρ (upper g))

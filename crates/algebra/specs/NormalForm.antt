@@ -102,7 +102,8 @@ cmpL-eq [] (b ∷ k) t = absurd t
 cmpL-eq (a ∷ m) [] t = absurd t
 cmpL-eq (a ∷ m) (b ∷ k) t = go (eqb a b) (λ e. eqb→eq a b e) (ltb a b) (cmpL-eq m k) t
   where
-    go : (e : Bool) → (T e → a ≡ b) → (l : Bool) → (IsEq (cmpL m k) → m ≡ k) → IsEq (elim e as (λ _. Cmp) [ true ↦ cmpL m k | false ↦ elim l [ true ↦ lt | false ↦ gt ] ]) → _≡_ {A = List ℕ} (a ∷ m) (b ∷ k)
+    go : (e : Bool) → (T e → a ≡ b) → (l : Bool) → (IsEq (cmpL m k) → m ≡ k) →
+        IsEq (elim e as (λ _. Cmp) [ true ↦ cmpL m k | false ↦ elim l [ true ↦ lt | false ↦ gt ] ]) → _≡_ {A = List ℕ} (a ∷ m) (b ∷ k)
     go true f l ih t = ap₂ _∷_ (f tt) (ih t)
     go false f true ih t = absurd t
     go false f false ih t = absurd t
@@ -131,7 +132,8 @@ eqP-eq nil (term d k q) t = absurd t
 eqP-eq (term c m p) nil t = absurd t
 eqP-eq (term c m p) (term d k q) t = go (eqZ c d) (eqZ-eq c d) (cmpL m k) (cmpL-eq m k) (eqP-eq p q) t
   where
-    go : (b : Bool) → (T b → c ≡ d) → (o : Cmp) → (IsEq o → m ≡ k) → (T (eqP p q) → p ≡ q) → T (elim b as (λ _. Bool) [ true ↦ elim o [ lt ↦ false | eq ↦ eqP p q | gt ↦ false ] | false ↦ false ]) → term c m p ≡ term d k q
+    go : (b : Bool) → (T b → c ≡ d) → (o : Cmp) → (IsEq o → m ≡ k) → (T (eqP p q) → p ≡ q) →
+        T (elim b as (λ _. Bool) [ true ↦ elim o [ lt ↦ false | eq ↦ eqP p q | gt ↦ false ] | false ↦ false ]) → term c m p ≡ term d k q
     go true f lt g ih t = absurd t
     go true f eq g ih t = λ i. term (f tt i) (g tt i) (ih t i)
     go true f gt g ih t = absurd t

@@ -18,7 +18,8 @@ powQ-nn a h (suc n) = mul-nn h (powQ-nn a h n)
 
 pub powQ-add : (a : ℚ) (r m : ℕ) → powQ a (r +ⁿ m) ≡ powQ a r * powQ a m
 powQ-add a r zero = ap (powQ a) (NL.add-zero r) ∙ ring1 ℚ-ring (λ l. l := l ⊗ 𝟏) tt (powQ a r)
-powQ-add a r (suc m) = ap (powQ a) (NL.add-suc r m) ∙ ap (λ x. a * x) (powQ-add a r m) ∙ ring3 ℚ-ring (λ a b c. a ⊗ (b ⊗ c) := b ⊗ (a ⊗ c)) tt a (powQ a r) (powQ a m)
+powQ-add a r (suc m) = ap (powQ a) (NL.add-suc r m) ∙ ap (λ x. a * x) (powQ-add a r m)
+    ∙ ring3 ℚ-ring (λ a b c. a ⊗ (b ⊗ c) := b ⊗ (a ⊗ c)) tt a (powQ a r) (powQ a m)
 
 -- (-1)ⁿ
 abbrev pub sgn : ℕ → ℚ

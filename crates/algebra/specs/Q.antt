@@ -87,7 +87,8 @@ pub ≤-nn-add : {a b : ℚ} → zeroQ ≤ b → a ≤ b + a
 
 -- a positive factor is cancelled
 pub ≤-cancel : {a b : ℚ} (c : ℚ) → zeroQ ≤ c → ¬ (c ≡ zeroQ) → c * a ≤ c * b → a ≤ b
-≤-cancel {a} {b} c z n h = ≤-total a b (a ≤ b) (λ k. k) (λ k. ≤-of-eq (back a ∙ ap (λ x. recQ c * x) (≤-antisym h (≤-mul-left c z k)) ∙ sym (back b)))
+≤-cancel {a} {b} c z n h = ≤-total a b (a ≤ b) (λ k. k)
+    (λ k. ≤-of-eq (back a ∙ ap (λ x. recQ c * x) (≤-antisym h (≤-mul-left c z k)) ∙ sym (back b)))
   where
     back : (a : ℚ) → a ≡ recQ c * (c * a)
     back a = sym (L.one-mul ℚ-ring a) ∙ ap (λ x. x * a) (sym (rec-ok c n)) ∙ ring3 ℚ-ring (λ c r a. c ⊗ r ⊗ a := r ⊗ (c ⊗ a)) tt c (recQ c) a

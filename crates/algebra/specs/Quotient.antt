@@ -13,7 +13,8 @@ pub use Rattle.algebra.specs.Rational.{inv, inv-ok}
 -- ---- 1 / (k + 1)
 pub inv-nn : (k : ℕ) → zeroQ ≤ inv k
 inv-nn k = ≤-trans (mul-nn (nat-nn (suc k)) (square-nn (inv k)))
-    (≤-of-eq (ring2 ℚ-ring (λ m i. m ⊗ (i ⊗ i) := (m ⊗ i) ⊗ i) tt (nat (suc k)) (inv k) ∙ ap (λ x. x * inv k) (inv-ok k) ∙ L.one-mul ℚ-ring (inv k)))
+    (≤-of-eq (ring2 ℚ-ring (λ m i. m ⊗ (i ⊗ i) := (m ⊗ i) ⊗ i) tt (nat (suc k)) (inv k) ∙ ap (λ x. x * inv k) (inv-ok k)
+    ∙ L.one-mul ℚ-ring (inv k)))
 
 pub inv-cancel : (k : ℕ) (a : ℚ) → inv k * (nat (suc k) * a) ≡ a
 inv-cancel k a = ring3 ℚ-ring (λ i m a. i ⊗ (m ⊗ a) := (m ⊗ i) ⊗ a) tt (inv k) (nat (suc k)) a ∙ ap (λ x. x * a) (inv-ok k) ∙ L.one-mul ℚ-ring a
@@ -43,7 +44,8 @@ inv-pred b h = subst (λ x. nat x * inv (b ∸ 1) ≡ oneQ) e (inv-ok (b ∸ 1))
 
 pub over-ok : (a : ℚ) (b : ℕ) → 0 < b → nat b * over a b ≡ a
 unfolding over
-over-ok a b h = ring3 ℚ-ring (λ a b i. b ⊗ (a ⊗ i) := a ⊗ (b ⊗ i)) tt a (nat b) (inv (b ∸ 1)) ∙ ap (λ x. a * x) (inv-pred b h) ∙ ℚ-ring .mul-one a
+over-ok a b h = ring3 ℚ-ring (λ a b i. b ⊗ (a ⊗ i) := a ⊗ (b ⊗ i)) tt a (nat b) (inv (b ∸ 1)) ∙ ap (λ x. a * x) (inv-pred b h)
+    ∙ ℚ-ring .mul-one a
 
 pub over-nn : (a : ℚ) (b : ℕ) → zeroQ ≤ a → zeroQ ≤ over a b
 unfolding over
@@ -59,10 +61,12 @@ over-add a c b = L.distrib′ ℚ-ring a c (inv (b ∸ 1))
 
 -- ---- a positive whole factor is cancelled
 pred-cancel : (b : ℕ) → 0 < b → (x : ℚ) → inv (b ∸ 1) * (nat b * x) ≡ x
-pred-cancel b h x = ring3 ℚ-ring (λ x b i. i ⊗ (b ⊗ x) := (b ⊗ i) ⊗ x) tt x (nat b) (inv (b ∸ 1)) ∙ ap (λ y. y * x) (inv-pred b h) ∙ L.one-mul ℚ-ring x
+pred-cancel b h x = ring3 ℚ-ring (λ x b i. i ⊗ (b ⊗ x) := (b ⊗ i) ⊗ x) tt x (nat b) (inv (b ∸ 1)) ∙ ap (λ y. y * x) (inv-pred b h)
+    ∙ L.one-mul ℚ-ring x
 
 pub cancel : (b : ℕ) {x y : ℚ} → 0 < b → nat b * x ≤ nat b * y → x ≤ y
-cancel b {x} {y} h k = ≤-trans (≤-of-eq (sym (pred-cancel b h x))) (≤-trans (≤-mul-left (inv (b ∸ 1)) (inv-nn (b ∸ 1)) k) (≤-of-eq (pred-cancel b h y)))
+cancel b {x} {y} h k = ≤-trans (≤-of-eq (sym (pred-cancel b h x)))
+    (≤-trans (≤-mul-left (inv (b ∸ 1)) (inv-nn (b ∸ 1)) k) (≤-of-eq (pred-cancel b h y)))
 
 pub cancel-eq : (b : ℕ) {x y : ℚ} → 0 < b → nat b * x ≡ nat b * y → x ≡ y
 cancel-eq b {x} {y} h k = sym (pred-cancel b h x) ∙ ap (λ z. inv (b ∸ 1) * z) k ∙ pred-cancel b h y

@@ -7,7 +7,8 @@ use lib.IntN.{ℤ}
 use Rattle.algebra.specs.Integer.{ℤ-ring}
 use Rattle.algebra.specs.Sum as S
 use Rattle.algebra.specs.Solver.{𝟎, 𝟏, _⊕_, _⊗_, _⊝_, _:=_, ring1, ring2, ring4}
-use Rattle.algebra.specs.Q.{ℚ, ℚ-ring, zeroQ, oneQ, _+_, _-_, _*_, _≤_, abs, ≤-refl, ≤-trans, ≤-of-eq, ≤-add, ≤-add-nn, ≤-nn-add, add-nn, abs-add, abs-subst, abs-zero-le, abs-add-le}
+use Rattle.algebra.specs.Q.{ℚ, ℚ-ring, zeroQ, oneQ, _+_, _-_, _*_, _≤_, abs, ≤-refl, ≤-trans, ≤-of-eq, ≤-add, ≤-add-nn, ≤-nn-add}
+use Rattle.algebra.specs.Q.{add-nn, abs-add, abs-subst, abs-zero-le, abs-add-le}
 use Rattle.algebra.specs.Embedding.{nat, ofℤ, ofℤ-add, nat-zero, nat-add, nat-suc, nat-nn}
 
 -- f 0 + .. + f (n - 1), in ℚ, in ℕ and in ℤ
@@ -30,7 +31,8 @@ sum-zero n = S.sum-zero ℚ-ring n
 
 pub sum-const : (n : ℕ) (b : ℚ) → sum n (λ k. b) ≡ nat n * b
 sum-const zero b = ring1 ℚ-ring (λ b. 𝟎 := 𝟎 ⊗ b) tt b ∙ ap (λ x. x * b) (sym nat-zero)
-sum-const (suc n) b = ap (λ x. x + b) (sum-const n b) ∙ ring2 ℚ-ring (λ n b. n ⊗ b ⊕ b := (n ⊕ 𝟏) ⊗ b) tt (nat n) b ∙ ap (λ x. x * b) (sym (nat-suc n))
+sum-const (suc n) b = ap (λ x. x + b) (sum-const n b) ∙ ring2 ℚ-ring (λ n b. n ⊗ b ⊕ b := (n ⊕ 𝟏) ⊗ b) tt (nat n) b
+    ∙ ap (λ x. x * b) (sym (nat-suc n))
 
 pub sum-add : (n : ℕ) (f g : ℕ → ℚ) → sum n (λ k. f k + g k) ≡ sum n f + sum n g
 sum-add n f g = S.sum-add ℚ-ring n f g
@@ -57,7 +59,8 @@ sum-nn zero f h = ≤-refl zeroQ
 sum-nn (suc n) f h = add-nn (sum-nn n f h) (h n)
 
 pub sum-grow : (n m : ℕ) (f : ℕ → ℚ) → ((k : ℕ) → zeroQ ≤ f k) → n ≤ⁿ m → sum n f ≤ sum m f
-sum-grow n m f h l = ≤-trans (≤-add-nn (sum-nn (m ∸ n) (λ k. f (n +ⁿ k)) (λ k. h (n +ⁿ k)))) (≤-of-eq (sym (sum-split n (m ∸ n) f) ∙ ap (λ x. sum x f) e))
+sum-grow n m f h l = ≤-trans (≤-add-nn (sum-nn (m ∸ n) (λ k. f (n +ⁿ k)) (λ k. h (n +ⁿ k))))
+    (≤-of-eq (sym (sum-split n (m ∸ n) f) ∙ ap (λ x. sum x f) e))
   where
     e : n +ⁿ (m ∸ n) ≡ m
     e = omega arith
@@ -92,7 +95,8 @@ ofℤ-sum (suc n) f = ofℤ-add (sumZ n f) (f n) ∙ ap (λ x. x + ofℤ (f n)) 
 -- whole numbers against u times rational ones
 pub whole-sum-close : (u : ℚ) (n : ℕ) (a : ℕ → ℤ) (b : ℕ → ℚ) (e : ℕ → ℕ) →
     ((k : ℕ) → k < n → abs (ofℤ (a k) - u * b k) ≤ nat (e k)) → abs (ofℤ (sumZ n a) - u * sum n b) ≤ nat (sumN n e)
-whole-sum-close u n a b e h = ≤-trans (abs-subst (ap₂ _-_ (sym (ofℤ-sum n a)) (sum-mul n u b)) (sum-close n (λ k. ofℤ (a k)) (λ k. u * b k) (λ k. nat (e k)) h))
+whole-sum-close u n a b e h = ≤-trans (abs-subst (ap₂ _-_ (sym (ofℤ-sum n a)) (sum-mul n u b))
+    (sum-close n (λ k. ofℤ (a k)) (λ k. u * b k) (λ k. nat (e k)) h))
     (≤-of-eq (sym (nat-sum n e)))
 
 pub whole-same-close : (u : ℚ) (a : ℤ) (b : ℚ) (e : ℕ) → ofℤ a ≡ u * b → abs (ofℤ a - u * b) ≤ nat e

@@ -4,7 +4,8 @@ use mathlib.Core.Path.{_≡_, sym, _∙_, ap}
 use Prim.Native.Nat.{ℕ, zero, suc, _≤_ as _≤ⁿ_}
 use native.Mathlib.Omega.{arith}
 use Rattle.algebra.specs.Solver.{𝟎, _⊕_, _⊗_, _:=_, ring1, ring3, ring4}
-use Rattle.algebra.specs.Q.{ℚ, ℚ-ring, zeroQ, oneQ, _+_, _*_, _≤_, abs, ≤-refl, ≤-trans, ≤-of-eq, ≤-add, ≤-mul-left, ≤-mul-right, mul-mono, one-nn, add-nn, mul-nn, abs-nn, abs-add, abs-mul}
+use Rattle.algebra.specs.Q.{ℚ, ℚ-ring, zeroQ, oneQ, _+_, _*_, _≤_, abs, ≤-refl, ≤-trans, ≤-of-eq, ≤-add, ≤-mul-left, ≤-mul-right}
+use Rattle.algebra.specs.Q.{mul-mono, one-nn, add-nn, mul-nn, abs-nn, abs-add, abs-mul}
 use Rattle.algebra.specs.RationalSum.{sum, sum-add, sum-mul, sum-first, sum-zero, sum-nn, sum-grow}
 use Rattle.algebra.specs.Power.{powQ, powQ-nn}
 use Rattle.algebra.specs.PowerSeries.{Ser, _⋆_, oneS, pow}
@@ -32,7 +33,8 @@ product-mono (suc n) P P′ Q h k = ≤-add (≤-mul-right (Q (suc n)) (k (suc n
 -- ---- sums
 pub sum-product : (n : ℕ) (P Q : Ser) → NonNeg P → NonNeg Q → sum n (P ⋆ Q) ≤ sum n P * sum n Q
 sum-product zero P Q h k = ≤-of-eq (ring1 ℚ-ring (λ a. 𝟎 := 𝟎 ⊗ 𝟎) tt zeroQ)
-sum-product (suc n) P Q h k = ≤-trans (≤-of-eq first) (≤-trans (≤-add (≤-refl (P 0 * sum (suc n) Q)) (others (sum-product n P′ Q (λ x. h (suc x)) k))) (≤-of-eq last))
+sum-product (suc n) P Q h k = ≤-trans (≤-of-eq first)
+    (≤-trans (≤-add (≤-refl (P 0 * sum (suc n) Q)) (others (sum-product n P′ Q (λ x. h (suc x)) k))) (≤-of-eq last))
   where
     P′ : Ser
     P′ = λ x. P (suc x)
@@ -50,7 +52,8 @@ sum-product (suc n) P Q h k = ≤-trans (≤-of-eq first) (≤-trans (≤-add (�
     others ih = ≤-trans ih (≤-mul-left (sum n P′) (sum-nn n P′ (λ x. h (suc x))) (sum-grow n (suc n) Q k (omega arith)))
 
     last : P 0 * sum (suc n) Q + sum n P′ * sum (suc n) Q ≡ sum (suc n) P * sum (suc n) Q
-    last = ring3 ℚ-ring (λ p s q. p ⊗ q ⊕ s ⊗ q := (p ⊕ s) ⊗ q) tt (P 0) (sum n P′) (sum (suc n) Q) ∙ ap (λ x. x * sum (suc n) Q) (sym (sum-first n P))
+    last = ring3 ℚ-ring (λ p s q. p ⊗ q ⊕ s ⊗ q := (p ⊕ s) ⊗ q) tt (P 0) (sum n P′) (sum (suc n) Q)
+        ∙ ap (λ x. x * sum (suc n) Q) (sym (sum-first n P))
 
 pub sum-one : (n : ℕ) → sum (suc n) oneS ≡ oneQ
 sum-one n = sum-first n oneS ∙ ap (λ x. oneQ + x) (sum-zero n) ∙ ℚ-ring .add-zero oneQ
@@ -61,7 +64,8 @@ sum-one-le n = ≤-trans (sum-grow n (suc n) oneS one-series-nn (omega arith)) (
 -- the sum of zⁿ is at most ρⁿ
 pub sum-pow : (z : Ser) (ρ : ℚ) → NonNeg z → zeroQ ≤ ρ → (X : ℕ) → sum X z ≤ ρ → (n : ℕ) → sum X (pow z n) ≤ powQ ρ n
 sum-pow z ρ h p X s zero = sum-one-le X
-sum-pow z ρ h p X s (suc n) = ≤-trans (sum-product X z (pow z n) h (pow-nn n z h)) (mul-mono (sum-nn X z h) (powQ-nn ρ p n) s (sum-pow z ρ h p X s n))
+sum-pow z ρ h p X s (suc n) = ≤-trans (sum-product X z (pow z n) h (pow-nn n z h))
+    (mul-mono (sum-nn X z h) (powQ-nn ρ p n) s (sum-pow z ρ h p X s n))
 
 -- ---- absolute values
 abbrev pub absS : Ser → Ser

@@ -29,7 +29,8 @@ module _ (R : CRing) where
   const-add a b (suc n) = sym (add-zero zero#)
 
   pub product-distrib : (P Q T : ℕ → Carrier) (n : ℕ) → S.product R P (λ k. Q k + T k) n ≡ S.product R P Q n + S.product R P T n
-  product-distrib P Q T n = S.product-comm R n P (λ k. Q k + T k) ∙ S.product-add R n Q T P ∙ ap₂ _+_ (S.product-comm R n Q P) (S.product-comm R n T P)
+  product-distrib P Q T n = S.product-comm R n P (λ k. Q k + T k) ∙ S.product-add R n Q T P
+      ∙ ap₂ _+_ (S.product-comm R n Q P) (S.product-comm R n T P)
 
   abbrev pub Ser-ring : CRing
   Ser-ring = record {

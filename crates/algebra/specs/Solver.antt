@@ -12,15 +12,15 @@ use lib.IntN.{ℤ, pos, negsuc, negℤ, sucℤ, predℤ, _+ℤ_, _*ℤ_, sucℤ-
 use Rattle.algebra.specs.Ring.{CRing}
 use Rattle.algebra.specs.Integer.{ℤ-ind′}
 use Rattle.algebra.specs.Laws as L
-use Rattle.algebra.specs.NormalForm.{Poly, nil, term, Cmp, lt, eq, gt, IsEq, cmpL, cmpL-eq, insV, mulM, cons, ins, addP, mulT, mulP, negP, norm, eqP-eq}
+use Rattle.algebra.specs.NormalForm.{Poly, nil, term, Cmp, lt, eq, gt, IsEq, cmpL, cmpL-eq, insV, mulM, cons, ins, addP, mulT}
+use Rattle.algebra.specs.NormalForm.{mulP, negP, norm, eqP-eq}
 use Rattle.algebra.specs.NormalForm.{lhs, rhs, Holds, x0, x1, x2, x3, x4, x5, x6, x7}
-
 pub use Rattle.algebra.specs.NormalForm.{Expr, var, con, 𝟎, 𝟏, _⊕_, _⊗_, ⊖_, _⊝_, Eqn, _:=_}
 
 module _ (R : CRing) where
   infixl 6 _+_
   infixl 7 _*_
-  open CRing R using (Carrier, add as _+_, mul as _*_, neg, zero#, one#, add-assoc, add-comm, add-zero, add-neg, mul-assoc, mul-comm, mul-one, distrib, ofInt, ofInt-one, ofInt-add)
+  open CRing R using (Carrier, add as _+_, mul as _*_, neg, zero#, one#, add-assoc, add-zero, mul-assoc, mul-one, distrib, ofInt, ofInt-one, ofInt-add)
 
   -- the ring's whole numbers
   abbrev pub int : ℤ → Carrier
@@ -113,7 +113,8 @@ module _ (R : CRing) where
     ins-ok c m (term d k p) = go (cmpL m k) (cmpL-eq m k) (ins-ok c m p)
       where
         go : (o : Cmp) → (IsEq o → m ≡ k) → evP (ins c m p) ≡ int c * evM m + evP p →
-            evP (elim o as (λ _. Poly) [ lt ↦ term c m (term d k p) | eq ↦ cons (c +ℤ d) k p | gt ↦ term d k (ins c m p) ]) ≡ int c * evM m + (int d * evM k + evP p)
+            evP (elim o as (λ _. Poly) [ lt ↦ term c m (term d k p) | eq ↦ cons (c +ℤ d) k p | gt ↦ term d k (ins c m p) ])
+            ≡ int c * evM m + (int d * evM k + evP p)
         go lt f ih = refl
         go eq f ih =
             cons-ok (c +ℤ d) k p
@@ -140,11 +141,13 @@ module _ (R : CRing) where
 
     mulP-ok : (p q : Poly) → evP (mulP p q) ≡ evP p * evP q
     mulP-ok nil q = sym (L.zero-mul R (evP q))
-    mulP-ok (term c m p) q = mulT-ok c m q (mulP p q) ∙ ap (λ x. (int c * evM m) * evP q + x) (mulP-ok p q) ∙ sym (L.distrib′ R (int c * evM m) (evP p) (evP q))
+    mulP-ok (term c m p) q = mulT-ok c m q (mulP p q) ∙ ap (λ x. (int c * evM m) * evP q + x) (mulP-ok p q)
+        ∙ sym (L.distrib′ R (int c * evM m) (evP p) (evP q))
 
     negP-ok : (p : Poly) → evP (negP p) ≡ neg (evP p)
     negP-ok nil = sym (L.neg-zero R)
-    negP-ok (term c m p) = ap₂ _+_ (ap (λ x. x * evM m) (int-neg c) ∙ L.neg-mul R (int c) (evM m)) (negP-ok p) ∙ sym (L.neg-sum R (int c * evM m) (evP p))
+    negP-ok (term c m p) = ap₂ _+_ (ap (λ x. x * evM m) (int-neg c) ∙ L.neg-mul R (int c) (evM m)) (negP-ok p)
+        ∙ sym (L.neg-sum R (int c * evM m) (evP p))
 
     norm-ok : (e : Expr) → evP (norm e) ≡ eval ρ e
     norm-ok (var v) = add-zero (int (pos 1) * (lookup ρ v * one#)) ∙ ap₂ _*_ ofInt-one (mul-one (lookup ρ v)) ∙ L.one-mul R (lookup ρ v)
@@ -167,7 +170,8 @@ module _ (R : CRing) where
   pub ring3 : (f : Expr → Expr → Expr → Eqn) → Holds (f x0 x1 x2) → (a0 a1 a2 : Carrier) → Says (a0 ∷ a1 ∷ a2 ∷ []) (f x0 x1 x2)
   ring3 f h a0 a1 a2 = solve (a0 ∷ a1 ∷ a2 ∷ []) (f x0 x1 x2) h
 
-  pub ring4 : (f : Expr → Expr → Expr → Expr → Eqn) → Holds (f x0 x1 x2 x3) → (a0 a1 a2 a3 : Carrier) → Says (a0 ∷ a1 ∷ a2 ∷ a3 ∷ []) (f x0 x1 x2 x3)
+  pub ring4 : (f : Expr → Expr → Expr → Expr → Eqn) → Holds (f x0 x1 x2 x3) → (a0 a1 a2 a3 : Carrier) →
+      Says (a0 ∷ a1 ∷ a2 ∷ a3 ∷ []) (f x0 x1 x2 x3)
   ring4 f h a0 a1 a2 a3 = solve (a0 ∷ a1 ∷ a2 ∷ a3 ∷ []) (f x0 x1 x2 x3) h
 
   pub ring5 : (f : Expr → Expr → Expr → Expr → Expr → Eqn) → Holds (f x0 x1 x2 x3 x4) →

@@ -9,7 +9,7 @@ use Rattle.algebra.specs.Laws as L
 module _ (R : CRing) where
   infixl 6 _+_
   infixl 7 _*_
-  open CRing R using (Carrier, add as _+_, mul as _*_, neg, zero#, one#, add-assoc, add-comm, add-zero, add-neg, mul-assoc, mul-comm, mul-one, distrib)
+  open CRing R using (Carrier, add as _+_, mul as _*_, zero#, add-assoc, add-comm, add-zero, distrib)
 
   -- f 0 + .. + f (n - 1)
   abbrev pub sum : ℕ → (ℕ → Carrier) → Carrier
@@ -45,4 +45,5 @@ module _ (R : CRing) where
   -- a sum in two parts
   pub sum-split : (n m : ℕ) (f : ℕ → Carrier) → sum (n +ⁿ m) f ≡ sum n f + sum m (λ k. f (n +ⁿ k))
   sum-split n zero f = ap (λ x. sum x f) (NL.add-zero n) ∙ sym (add-zero (sum n f))
-  sum-split n (suc m) f = ap (λ x. sum x f) (NL.add-suc n m) ∙ ap (λ x. x + f (n +ⁿ m)) (sum-split n m f) ∙ add-assoc (sum n f) (sum m (λ k. f (n +ⁿ k))) (f (n +ⁿ m))
+  sum-split n (suc m) f = ap (λ x. sum x f) (NL.add-suc n m) ∙ ap (λ x. x + f (n +ⁿ m)) (sum-split n m f)
+      ∙ add-assoc (sum n f) (sum m (λ k. f (n +ⁿ k))) (f (n +ⁿ m))

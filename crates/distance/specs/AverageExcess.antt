@@ -29,7 +29,8 @@ use Rattle.fund.specs.Exact.{singles, denominator, singlePart, weightAt, exact,
 use Rattle.laws.specs.Accepted.{All, Calm}
 use Rattle.laws.specs.Cells.{sumℤ-is}
 use Rattle.distance.specs.Lives.{members, W, rate, FoldedLife}
-use Rattle.distance.specs.Exact.{U, sixes, nat-pow, single-is, P, exact-is}
+use Rattle.distance.specs.Errors.{U}
+use Rattle.distance.specs.Exact.{sixes, nat-pow, single-is, P, exact-is}
 use Rattle.distance.specs.Outcomes.{expect, below, shortfall-is, weights-are, claims, claims-are, excess-is}
 
 -- ---- no weight is left

@@ -29,18 +29,12 @@ use Rattle.fund.specs.Transform.{unit, lambda}
 use Rattle.fund.specs.Exact.{factorial, singles, denominator, shifted, one, singlePart, weightAt, convolved, fold, series, replacedPart, power, exponential, exact}
 use Rattle.laws.specs.Accepted.{All, Calm}
 use Rattle.laws.specs.Cells.{sumℤ-is, sum-is}
+use Rattle.distance.specs.Errors.{U, unit-pos}
 use Rattle.distance.specs.Lives.{memberOf, members, W, rate, FoldedLife, calm-folded}
 
-pub unit-pos : 0 < unit
-unfolding unit
-unit-pos = omega arith
-
--- 10^n and 10^12 in ℚ
+-- 10^n in ℚ
 abbrev pub ten : ℚ
 ten = nat 10
-
-abbrev pub U : ℚ
-U = nat unit
 
 pub nat-pow : (b n : ℕ) → nat (b ^ n) ≡ powQ (nat b) n
 nat-pow b zero = ap nat (pow-zero b) ∙ ofℤ-one

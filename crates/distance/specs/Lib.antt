@@ -1,4 +1,14 @@
+pub mod Errors
+pub mod Recursion
+pub mod Unrounded
+pub mod Start
 pub mod Lives
+pub mod Triangle
+pub mod Transform
 pub mod Exact
 pub mod Outcomes
 pub mod AverageExcess
+pub mod Members
+pub mod Cells
+pub mod Whole
+pub mod Distance

@@ -1,11 +1,11 @@
 -- The lives of a fund in the terms of the expansion: group 1 as its members, group 2 as the weights of its compound Poisson part.
-use mathlib.Core.Path.{_≡_, refl, sym, _∙_, ap}
-use mathlib.Core.Bool.{Bool, true, false}
+use mathlib.Core.Path.{_≡_, refl, ap}
+use mathlib.Core.Bool.{true}
 use mathlib.Core.List.{List, [], _∷_, map}
 use mathlib.Core.Option.{Option, none, some}
-use Prim.Native.Nat.{ℕ, zero, suc, _+_, _-_, _*_, _<_, _≤_}
+use Prim.Native.Nat.{ℕ, suc, _-_, _*_}
 use native.Mathlib.Omega.{arith}
-use lib.Dec.{T, eqb}
+use lib.Dec.{eqb}
 use Rattle.algebra.specs.Q.{ℚ}
 use Rattle.algebra.specs.Embedding.{nat}
 use Rattle.algebra.specs.Quotient.{over}

@@ -11,7 +11,8 @@ use lib.Signed.{nonNeg}
 use Rattle.algebra.specs.Laws as L
 use Rattle.algebra.specs.Solver.{_⊝_, ring1, ring2, ring4, ring5, 𝟎, 𝟏, _⊕_, _⊗_, _:=_}
 use Rattle.algebra.specs.Linear.{lin4, _≼_, _⋅_, rest, _∣_, _⊢_}
-use Rattle.algebra.specs.Q.{ℚ, ℚ-ring, ℚ-ord, negQ, zeroQ, oneQ, _+_, _-_, _*_, _≤_, ≤-refl, ≤-trans, ≤-of-eq, ≤-add, ≤-mul-left, mul-nn, sub-nn, ≤-add-nn}
+use Rattle.algebra.specs.Q.{ℚ, ℚ-ring, ℚ-ord, negQ, zeroQ, oneQ, _+_, _-_, _*_, _≤_, ≤-refl, ≤-trans, ≤-of-eq, ≤-add, ≤-mul-left}
+use Rattle.algebra.specs.Q.{mul-nn, sub-nn, ≤-add-nn}
 use Rattle.algebra.specs.Embedding.{ofℤ, ofℤ-one, nat, ofℤ-neg, ofℤ-sub, ofℤ-mul, nat-mul, ofℤ-nn}
 use Rattle.algebra.specs.Power.{powQ, ifact, ifact-nn, fact, fact-ifact}
 use Rattle.expansion.specs.Exponential.{expSum}
@@ -27,14 +28,16 @@ ev-exp zero y = ev-mono 0 y ∙ ring1 ℚ-ring (λ y. 𝟏 := 𝟏 ⊗ (𝟎 ⊕
 ev-exp (suc K) y =
     ev-add (scaleL (pos (suc K)) (expL K)) (mono (suc K)) y
     ∙ ap₂ _+_ (ev-scale (pos (suc K)) (expL K) y ∙ ap (λ u. nat (suc K) * u) (ev-exp K y)) (ev-mono (suc K) y ∙ last)
-    ∙ ring5 ℚ-ring (λ m f e i p. m ⊗ (f ⊗ e) ⊕ ((m ⊗ f) ⊗ i) ⊗ p := (m ⊗ f) ⊗ (e ⊕ i ⊗ p)) tt (nat (suc K)) (nat (fact K)) (expSum K y) (ifact (suc K)) power
+    ∙ ring5 ℚ-ring (λ m f e i p. m ⊗ (f ⊗ e) ⊕ ((m ⊗ f) ⊗ i) ⊗ p := (m ⊗ f) ⊗ (e ⊕ i ⊗ p))
+    tt (nat (suc K)) (nat (fact K)) (expSum K y) (ifact (suc K)) power
     ∙ ap (λ u. u * expSum (suc K) y) (sym (nat-mul (suc K) (fact K)))
   where
     power : ℚ
     power = powQ y (suc K)
 
     last : power ≡ nat (suc K) * nat (fact K) * ifact (suc K) * power
-    last = sym (L.one-mul ℚ-ring power) ∙ ap (λ u. u * power) (sym (fact-ifact (suc K)) ∙ ap (λ u. u * ifact (suc K)) (nat-mul (suc K) (fact K)))
+    last = sym (L.one-mul ℚ-ring power) ∙ ap (λ u. u * power) (sym (fact-ifact (suc K))
+        ∙ ap (λ u. u * ifact (suc K)) (nat-mul (suc K) (fact K)))
 
 -- ---- the test, and what it says of a polynomial on 0 to 8
 and-left : (a b : Bool) → T (a && b) → T a
@@ -58,10 +61,12 @@ module _ (y : ℚ) (y-nn : zeroQ ≤ y) (y-le : y ≤ nat 8) where
   ev-nonPos : (p : List ℤ) → T (nonPos p) → ev p y ≤ zeroQ
   unfolding ev
   ev-nonPos [] h = ≤-refl zeroQ
-  ev-nonPos (a ∷ p) h = ≤-trans (≤-add a-le (≤-mul-left y y-nn (ev-nonPos p (and-right (nonNeg (negℤ a)) (nonPos p) h)))) (≤-of-eq (ring1 ℚ-ring (λ y. 𝟎 ⊕ y ⊗ 𝟎 := 𝟎) tt y))
+  ev-nonPos (a ∷ p) h = ≤-trans (≤-add a-le (≤-mul-left y y-nn (ev-nonPos p (and-right (nonNeg (negℤ a)) (nonPos p) h))))
+      (≤-of-eq (ring1 ℚ-ring (λ y. 𝟎 ⊕ y ⊗ 𝟎 := 𝟎) tt y))
     where
       a-le : ofℤ a ≤ zeroQ
-      a-le = ≤-trans (≤-add-nn (ofℤ-nn (negℤ a) (and-left (nonNeg (negℤ a)) (nonPos p) h))) (≤-of-eq (ap (λ u. ofℤ a + u) (ofℤ-neg a) ∙ ℚ-ring .add-neg (ofℤ a)))
+      a-le = ≤-trans (≤-add-nn (ofℤ-nn (negℤ a) (and-left (nonNeg (negℤ a)) (nonPos p) h)))
+          (≤-of-eq (ap (λ u. ofℤ a + u) (ofℤ-neg a) ∙ ℚ-ring .add-neg (ofℤ a)))
 
   -- 8 p(8) ≤ y p(y), if p(8) ≤ p(y) ≤ 0
   scaled-at-8 : (p : List ℤ) → ev p y ≤ zeroQ → ev p (nat 8) ≤ ev p y → nat 8 * ev p (nat 8) ≤ y * ev p y
@@ -95,7 +100,8 @@ module _ (y : ℚ) (y-nn : zeroQ ≤ y) (y-le : y ≤ nat 8) where
       first = ≤-trans (ofℤ-nn (f -ℤ c) (and-left (nonNeg (f -ℤ c)) (nonPos p && nonNeg (evZ (c ∷ p) (pos 8))) h)) (≤-of-eq (ofℤ-sub f c))
 
       high : ofℤ c + y * ev p y ≤ ofℤ f
-      high = lin4 ℚ-ring ℚ-ord (λ c f v y. 1 ⋅ y ⊗ v ≼ y ⊗ 𝟎 ∣ 1 ⋅ 𝟎 ≼ f ⊝ c ∣ rest 0 ⊢ c ⊕ y ⊗ v ≼ f) tt (ofℤ c) (ofℤ f) (ev p y) y (≤-mul-left y y-nn (ev-nonPos p others), (first, tt))
+      high = lin4 ℚ-ring ℚ-ord (λ c f v y. 1 ⋅ y ⊗ v ≼ y ⊗ 𝟎 ∣ 1 ⋅ 𝟎 ≼ f ⊝ c ∣ rest 0 ⊢ c ⊕ y ⊗ v ≼ f)
+          tt (ofℤ c) (ofℤ f) (ev p y) y (≤-mul-left y y-nn (ev-nonPos p others), (first, tt))
 
 -- ---- the product
 abbrev productL : ℕ → List ℤ
@@ -104,8 +110,13 @@ productL K = mulL (altL (pos 1) (expL K)) (expL K)
 abbrev pub Test : ℕ → Type 0
 Test K = T (fits (productL K) (pos (fact K) *ℤ pos (fact K)))
 
-pub exp-product : (K : ℕ) → Test K → (y : ℚ) → zeroQ ≤ y → y ≤ nat 8 → (zeroQ ≤ expSum K (negQ y) * expSum K y) × (expSum K (negQ y) * expSum K y ≤ oneQ)
-exp-product K h y y-nn y-le = (≤-trans (mul-nn gg-nn (bounds .0)) (≤-of-eq (sym product-is)), ≤-trans (≤-of-eq product-is) (≤-trans (≤-mul-left (g * g) gg-nn (bounds .1)) (≤-of-eq one)))
+pub exp-product : (K : ℕ) → Test K → (y : ℚ) → zeroQ ≤ y → y ≤ nat 8 →
+    (zeroQ ≤ expSum K (negQ y) * expSum K y) × (expSum K (negQ y) * expSum K y ≤ oneQ)
+exp-product K h y y-nn y-le = (
+  ≤-trans (mul-nn gg-nn (bounds .0)) (≤-of-eq (sym product-is)),
+  ≤-trans (≤-of-eq product-is)
+      (≤-trans (≤-mul-left (g * g) gg-nn (bounds .1)) (≤-of-eq one)),
+)
   where
     f : ℚ
     f = nat (fact K)

@@ -56,7 +56,8 @@ module _ (q i p M d e : ℕ) (folded : Folded q i p M d e) where
   i-nn = over-nn (nat i) p (nat-nn i)
 
   odds-zero : z 0 ≡ zeroQ
-  odds-zero = ap₂ _+_ (place-zero d (over (nat q) p) (λ h. over-none q p (folded .q-folded h))) (place-zero e (over (nat i) p) (λ h. over-none i p (folded .i-folded h))) ∙ ℚ-ring .add-zero zeroQ
+  odds-zero = ap₂ _+_ (place-zero d (over (nat q) p) (λ h. over-none q p (folded .q-folded h)))
+      (place-zero e (over (nat i) p) (λ h. over-none i p (folded .i-folded h))) ∙ ℚ-ring .add-zero zeroQ
 
   odds-nn : NonNeg z
   odds-nn x = add-nn (place-nn d (over (nat q) p) q-nn x) (place-nn e (over (nat i) p) i-nn x)
@@ -89,12 +90,14 @@ module _ (q i p M d e : ℕ) (folded : Folded q i p M d e) where
   member-good err r h = record { z-zero = odds-zero; z-nn = odds-nn; z-sum = odds-sum; ρ-below = odds-below; e-big = h }
 
   -- one more member: g x becomes (p g(x) + q g(x - d) + i g(x - e)) / M
-  pub own-step : (err : ℚ) (g : Ser) (x : ℕ) → (own (member q i p M d e err) ⋆ g) x ≡ over (nat p * g x + nat q * shift d g x + nat i * shift e g x) M
+  pub own-step : (err : ℚ) (g : Ser) (x : ℕ) →
+      (own (member q i p M d e err) ⋆ g) x ≡ over (nat p * g x + nat q * shift d g x + nat i * shift e g x) M
   own-step err g x = cancel-eq M M-pos
       (ap (λ y. nat M * y) (S.product-assoc ℚ-ring x (const c) (oneS ⊞ z) g ∙ const-product c ((oneS ⊞ z) ⋆ g) x)
       ∙ sym (ℚ-ring .mul-assoc (nat M) c (((oneS ⊞ z) ⋆ g) x))
       ∙ ap₂ _*_ (over-ok (nat p) M M-pos) parts
-      ∙ ring6 ℚ-ring (λ p g a s b t. p ⊗ (g ⊕ (a ⊗ s ⊕ b ⊗ t)) := p ⊗ g ⊕ p ⊗ a ⊗ s ⊕ p ⊗ b ⊗ t) tt (nat p) (g x) (over (nat q) p) (shift d g x) (over (nat i) p) (shift e g x)
+      ∙ ring6 ℚ-ring (λ p g a s b t. p ⊗ (g ⊕ (a ⊗ s ⊕ b ⊗ t)) := p ⊗ g ⊕ p ⊗ a ⊗ s ⊕ p ⊗ b ⊗ t)
+      tt (nat p) (g x) (over (nat q) p) (shift d g x) (over (nat i) p) (shift e g x)
       ∙ ap₂ (λ a b. nat p * g x + a * shift d g x + b * shift e g x) (over-ok (nat q) p p-pos) (over-ok (nat i) p p-pos)
       ∙ sym (over-ok (nat p * g x + nat q * shift d g x + nat i * shift e g x) M M-pos))
     where
@@ -103,4 +106,5 @@ module _ (q i p M d e : ℕ) (folded : Folded q i p M d e) where
 
       parts : ((oneS ⊞ z) ⋆ g) x ≡ g x + (over (nat q) p * shift d g x + over (nat i) p * shift e g x)
       parts = S.product-add ℚ-ring x oneS z g ∙ ap₂ _+_ (SR.one-product ℚ-ring x g)
-          (S.product-add ℚ-ring x (place d (over (nat q) p)) (place e (over (nat i) p)) g ∙ ap₂ _+_ (place-product d (over (nat q) p) g x) (place-product e (over (nat i) p) g x))
+          (S.product-add ℚ-ring x (place d (over (nat q) p)) (place e (over (nat i) p)) g
+          ∙ ap₂ _+_ (place-product d (over (nat q) p) g x) (place-product e (over (nat i) p) g x))

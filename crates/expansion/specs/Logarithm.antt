@@ -9,7 +9,8 @@ use Rattle.algebra.specs.Q.{ℚ, ℚ-ring, negQ, zeroQ, _-_, _*_}
 use Rattle.algebra.specs.Embedding.{nat}
 use Rattle.algebra.specs.Quotient.{inv, inv-ok}
 use Rattle.algebra.specs.Power.{sgn}
-use Rattle.algebra.specs.PowerSeries.{Ser, 𝕊, _⋆_, _⊞_, minus, θ, const, oneS, zeroS, pow, const-product, const-mul, θ-zero, θ-add, θ-scale, θ-pow, Upto, vanishes-mul, vanishes-pow}
+use Rattle.algebra.specs.PowerSeries.{Ser, 𝕊, _⋆_, _⊞_, minus, θ, const, oneS, zeroS, pow, const-product, const-mul, θ-zero, θ-add}
+use Rattle.algebra.specs.PowerSeries.{θ-scale, θ-pow, Upto, vanishes-mul, vanishes-pow}
 
 -- (-1)ⁿ zⁿ⁺¹ / (n + 1)
 abbrev pub logTerm : Ser → ℕ → Ser
@@ -38,7 +39,8 @@ const-neg c = fun-ext go
     c = sgn n * inv n
 
     e : sgn n * inv n * nat (suc n) ≡ sgn n
-    e = ring3 ℚ-ring (λ s i m. s ⊗ i ⊗ m := s ⊗ (m ⊗ i)) tt (sgn n) (inv n) (nat (suc n)) ∙ ap (λ x. sgn n * x) (inv-ok n) ∙ ℚ-ring .mul-one (sgn n)
+    e = ring3 ℚ-ring (λ s i m. s ⊗ i ⊗ m := s ⊗ (m ⊗ i)) tt (sgn n) (inv n) (nat (suc n)) ∙ ap (λ x. sgn n * x) (inv-ok n)
+        ∙ ℚ-ring .mul-one (sgn n)
 
 -- (1 + z) ⋆ θL = θz ⋆ (1 - (-1)ᴺ zᴺ)
 pub log-telescope : (z : Ser) (N : ℕ) → (oneS ⊞ z) ⋆ θ (logS z N) ≡ θ z ⋆ (oneS ⊞ minus (const (sgn N) ⋆ pow z N))

@@ -3,7 +3,8 @@
 use mathlib.Core.Path.{_≡_, sym, _∙_, ap}
 use mathlib.Core.List.{List, [], _∷_}
 use Prim.Native.Nat.{ℕ}
-use Rattle.algebra.specs.Q.{ℚ, ℚ-ring, zeroQ, oneQ, _+_, _*_, _≤_, abs, ≤-trans, ≤-of-eq, ≤-add, ≤-mul-left, mul-mono, one-nn, add-nn, mul-nn, abs-nn, abs-of-nn, abs-mul}
+use Rattle.algebra.specs.Q.{ℚ, ℚ-ring, zeroQ, oneQ, _+_, _*_, _≤_, abs, ≤-trans, ≤-of-eq, ≤-add, ≤-mul-left, mul-mono, one-nn, add-nn}
+use Rattle.algebra.specs.Q.{mul-nn, abs-nn, abs-of-nn, abs-mul}
 use Rattle.algebra.specs.RationalSum.{sum, sum-ext, sum-add, sum-mul, sum-nn}
 use Rattle.algebra.specs.PowerSeries.{Ser, _⋆_, _⊞_, oneS, const-product}
 use Rattle.algebra.specs.SeriesOrder.{NonNeg, product-nn, one-series-nn, sum-product, sum-one-le, absS}
@@ -34,14 +35,17 @@ ownProduct-nn (m ∷ ms) h x = product-nn x (own m) (ownProduct ms) (own-nn m (h
 pub ownProduct-sum : (ms : List Member) → All Share ms → (X : ℕ) → sum X (ownProduct ms) ≤ oneQ
 ownProduct-sum [] h X = sum-one-le X
 ownProduct-sum (m ∷ ms) h X = ≤-trans (sum-product X (own m) (ownProduct ms) (own-nn m (h .0)) (ownProduct-nn ms (h .1)))
-    (≤-trans (mul-mono (sum-nn X (own m) (own-nn m (h .0))) one-nn (own-sum m (h .0) X) (ownProduct-sum ms (h .1) X)) (≤-of-eq (ℚ-ring .mul-one oneQ)))
+    (≤-trans (mul-mono (sum-nn X (own m) (own-nn m (h .0))) one-nn (own-sum m (h .0) X) (ownProduct-sum ms (h .1) X))
+    (≤-of-eq (ℚ-ring .mul-one oneQ)))
 
-pub distribution-mass : (s : ℚ) (W : Ser) (ƛ : ℚ) (ms : List Member) → All Share ms → W 0 ≡ zeroQ → NonNeg W → zeroQ ≤ ƛ → (X : ℕ) → sum X W ≤ ƛ →
+pub distribution-mass : (s : ℚ) (W : Ser) (ƛ : ℚ) (ms : List Member) → All Share ms → W 0 ≡ zeroQ → NonNeg W → zeroQ ≤ ƛ → (X : ℕ) →
+    sum X W ≤ ƛ →
     sum X (absS (distribution s (poisson W) ms)) ≤ abs s * sum X (expTerm ƛ)
 distribution-mass s W ƛ ms h z w p X k =
     ≤-trans (≤-of-eq (sum-ext X (absS (distribution s Q ms)) (λ x. abs s * (Q ⋆ R) x) (λ x _. abs-place x) ∙ sum-mul X (abs s) (Q ⋆ R)))
     (≤-mul-left (abs s) (abs-nn s) (≤-trans (sum-product X Q R Q-nn R-nn)
-    (≤-trans (≤-mul-left (sum X Q) (sum-nn X Q Q-nn) (ownProduct-sum ms h X)) (≤-trans (≤-of-eq (ℚ-ring .mul-one (sum X Q))) (poisson-sum W ƛ z w p X k)))))
+    (≤-trans (≤-mul-left (sum X Q) (sum-nn X Q Q-nn) (ownProduct-sum ms h X))
+    (≤-trans (≤-of-eq (ℚ-ring .mul-one (sum X Q))) (poisson-sum W ƛ z w p X k)))))
   where
     Q : Ser
     Q = poisson W
@@ -56,4 +60,5 @@ distribution-mass s W ƛ ms h z w p X k =
     R-nn = ownProduct-nn ms h
 
     abs-place : (x : ℕ) → abs (distribution s Q ms x) ≡ abs s * (Q ⋆ R) x
-    abs-place x = ap abs (const-product s (Q ⋆ R) x) ∙ abs-mul s ((Q ⋆ R) x) ∙ ap (λ y. abs s * y) (abs-of-nn ((Q ⋆ R) x) (product-nn x Q R Q-nn R-nn))
+    abs-place x = ap abs (const-product s (Q ⋆ R) x) ∙ abs-mul s ((Q ⋆ R) x)
+        ∙ ap (λ y. abs s * y) (abs-of-nn ((Q ⋆ R) x) (product-nn x Q R Q-nn R-nn))

@@ -7,7 +7,8 @@ use Rattle.algebra.specs.Laws as L
 use Rattle.algebra.specs.Solver.{ring1, ring5, 𝟎, 𝟏, _⊕_, _⊗_, _:=_}
 use Rattle.algebra.specs.Q.{ℚ, ℚ-ring, zeroQ, oneQ}
 use Rattle.algebra.specs.Embedding.{nat}
-use Rattle.algebra.specs.PowerSeries.{Ser, 𝕊, _⋆_, _⊞_, θ, const, oneS, zeroS, θ-add, θ-mul, θ-const, θ-scale, Upto, upto-of-eq, upto-trans, upto-add, upto-mul}
+use Rattle.algebra.specs.PowerSeries.{Ser, 𝕊, _⋆_, _⊞_, θ, const, oneS, zeroS, θ-add, θ-mul, θ-const, θ-scale, Upto, upto-of-eq}
+use Rattle.algebra.specs.PowerSeries.{upto-trans, upto-add, upto-mul}
 use Rattle.expansion.specs.Logarithm.{logS, log-upto}
 
 -- z: the weights over the chance of nothing, c; ρ: a bound of the sum of z; e: a bound of what the cut leaves out
@@ -41,13 +42,16 @@ abbrev pub NoneAtZero : Member → Type 0
 NoneAtZero m = m .z 0 ≡ zeroQ
 
 θ-own : (m : Member) → θ (own m) ≡ const (m .c) ⋆ θ (m .z)
-θ-own m = θ-scale (m .c) (oneS ⊞ m .z) ∙ ap (λ x. const (m .c) ⋆ x) (θ-add oneS (m .z) ∙ ap (λ x. x ⊞ θ (m .z)) (θ-const oneQ) ∙ ring1 𝕊 (λ t. 𝟎 ⊕ t := t) tt (θ (m .z)))
+θ-own m = θ-scale (m .c) (oneS ⊞ m .z) ∙ ap (λ x. const (m .c) ⋆ x)
+    (θ-add oneS (m .z) ∙ ap (λ x. x ⊞ θ (m .z)) (θ-const oneQ) ∙ ring1 𝕊 (λ t. 𝟎 ⊕ t := t) tt (θ (m .z)))
 
 pub ownProduct-upto : (N : ℕ) (ms : List Member) → All NoneAtZero ms → Upto N (θ (ownProduct ms)) (θ (logs N ms) ⋆ ownProduct ms)
-ownProduct-upto N [] h = upto-of-eq N (θ-const oneQ ∙ ring1 𝕊 (λ t. 𝟎 := 𝟎 ⊗ 𝟏) tt zeroS ∙ ap (λ x. x ⋆ oneS) (fun-ext (λ n. sym (L.mul-zero ℚ-ring (nat n)))))
+ownProduct-upto N [] h = upto-of-eq N (θ-const oneQ ∙ ring1 𝕊 (λ t. 𝟎 := 𝟎 ⊗ 𝟏) tt zeroS
+    ∙ ap (λ x. x ⋆ oneS) (fun-ext (λ n. sym (L.mul-zero ℚ-ring (nat n)))))
 ownProduct-upto N (m ∷ ms) h =
     upto-trans (upto-of-eq N (θ-mul (own m) R ∙ ap (λ x. x ⋆ R ⊞ own m ⋆ θ R) (θ-own m)))
-    (upto-trans (upto-add (upto-mul N (C ⋆ θ (m .z)) (C ⋆ ((oneS ⊞ m .z) ⋆ T)) R R first (λ x l. refl)) (upto-mul N (own m) (own m) (θ R) (U ⋆ R) (λ x l. refl) (ownProduct-upto N ms (h .1))))
+    (upto-trans (upto-add (upto-mul N (C ⋆ θ (m .z)) (C ⋆ ((oneS ⊞ m .z) ⋆ T)) R R first (λ x l. refl))
+    (upto-mul N (own m) (own m) (θ R) (U ⋆ R) (λ x l. refl) (ownProduct-upto N ms (h .1))))
     (upto-of-eq N (ring5 𝕊 (λ c z t u r. (c ⊗ ((𝟏 ⊕ z) ⊗ t)) ⊗ r ⊕ (c ⊗ (𝟏 ⊕ z)) ⊗ (u ⊗ r) := (t ⊕ u) ⊗ ((c ⊗ (𝟏 ⊕ z)) ⊗ r)) tt C (m .z) T U R
     ∙ ap (λ x. x ⋆ (own m ⋆ R)) (sym (θ-add (logS (m .z) N) (logs N ms))))))
   where

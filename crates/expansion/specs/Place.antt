@@ -100,5 +100,6 @@ pub θ-place-units : (U d u : ℕ) → 0 < U → (k : ℕ) → nat U * θ (place
 θ-place-units U d u h k = ap (λ y. nat U * y) (θ-place d (over (nat u) U) k) ∙ go (eqb d k)
   where
     go : (b : Bool) → nat U * cond b (nat d * over (nat u) U) zeroQ ≡ nat (cond b (u *ⁿ d) 0)
-    go true = ring3 ℚ-ring (λ u d o. u ⊗ (d ⊗ o) := (u ⊗ o) ⊗ d) tt (nat U) (nat d) (over (nat u) U) ∙ ap (λ y. y * nat d) (over-ok (nat u) U h) ∙ sym (nat-mul u d)
+    go true = ring3 ℚ-ring (λ u d o. u ⊗ (d ⊗ o) := (u ⊗ o) ⊗ d) tt (nat U) (nat d) (over (nat u) U)
+        ∙ ap (λ y. y * nat d) (over-ok (nat u) U h) ∙ sym (nat-mul u d)
     go false = L.mul-zero ℚ-ring (nat U) ∙ sym nat-zero

@@ -10,7 +10,8 @@ use Rattle.algebra.specs.Embedding.{nat}
 use Rattle.algebra.specs.Quotient.{inv, inv-cancel}
 use Rattle.algebra.specs.RationalSum.{sum, sum-ext, sum-zero, sum-mul, sum-swap, sum-split, sum-mono, sum-nn}
 use Rattle.algebra.specs.Power.{powQ, ifact, ifact-nn}
-use Rattle.algebra.specs.PowerSeries.{Ser, 𝕊, _⋆_, _⊞_, θ, const, oneS, pow, product-ext, const-product, const-mul, θ-add, θ-const, θ-scale, θ-pow, vanishes-pow}
+use Rattle.algebra.specs.PowerSeries.{Ser, 𝕊, _⋆_, _⊞_, θ, const, oneS, pow, product-ext, const-product, const-mul, θ-add, θ-const}
+use Rattle.algebra.specs.PowerSeries.{θ-scale, θ-pow, vanishes-pow}
 use Rattle.algebra.specs.SeriesOrder.{NonNeg, pow-nn, sum-pow}
 
 -- the first N terms
@@ -74,7 +75,8 @@ poisson-θ W z = fun-ext go
 pub poisson-nn : (W : Ser) → NonNeg W → NonNeg (poisson W)
 poisson-nn W h x = sum-nn (suc x) (λ n. ifact n * pow W n x) (λ n. mul-nn (ifact-nn n) (pow-nn n W h x))
 
-pub poisson-sum : (W : Ser) (ƛ : ℚ) → W 0 ≡ zeroQ → NonNeg W → zeroQ ≤ ƛ → (X : ℕ) → sum X W ≤ ƛ → sum X (poisson W) ≤ sum X (λ n. ifact n * powQ ƛ n)
+pub poisson-sum : (W : Ser) (ƛ : ℚ) → W 0 ≡ zeroQ → NonNeg W → zeroQ ≤ ƛ → (X : ℕ) → sum X W ≤ ƛ →
+    sum X (poisson W) ≤ sum X (λ n. ifact n * powQ ƛ n)
 poisson-sum W ƛ z h p X s =
     ≤-trans (≤-of-eq (sum-ext X (poisson W) (expS W X) (λ x l. sym (exp-poisson W z X x l)) ∙ sum-swap X X (λ x n. ifact n * pow W n x)))
     (sum-mono X (λ n. sum X (λ x. ifact n * pow W n x)) (λ n. ifact n * powQ ƛ n)

@@ -44,17 +44,20 @@ pub ev-add : (p q : List ℤ) (y : ℚ) → ev (addL p q) y ≡ ev p y + ev q y
 unfolding ev
 ev-add [] q y = sym (L.zero-add ℚ-ring (ev q y))
 ev-add (a ∷ p) [] y = ring1 ℚ-ring (λ a. a := a ⊕ 𝟎) tt (ofℤ a + y * ev p y)
-ev-add (a ∷ p) (b ∷ q) y = ap₂ (λ u v. u + y * v) (ofℤ-add a b) (ev-add p q y) ∙ ring5 ℚ-ring (λ a b y p q. (a ⊕ b) ⊕ y ⊗ (p ⊕ q) := (a ⊕ y ⊗ p) ⊕ (b ⊕ y ⊗ q)) tt (ofℤ a) (ofℤ b) y (ev p y) (ev q y)
+ev-add (a ∷ p) (b ∷ q) y = ap₂ (λ u v. u + y * v) (ofℤ-add a b) (ev-add p q y)
+    ∙ ring5 ℚ-ring (λ a b y p q. (a ⊕ b) ⊕ y ⊗ (p ⊕ q) := (a ⊕ y ⊗ p) ⊕ (b ⊕ y ⊗ q)) tt (ofℤ a) (ofℤ b) y (ev p y) (ev q y)
 
 pub ev-scale : (c : ℤ) (p : List ℤ) (y : ℚ) → ev (scaleL c p) y ≡ ofℤ c * ev p y
 unfolding ev
 ev-scale c [] y = sym (L.mul-zero ℚ-ring (ofℤ c))
-ev-scale c (a ∷ p) y = ap₂ (λ u v. u + y * v) (ofℤ-mul c a) (ev-scale c p y) ∙ ring4 ℚ-ring (λ c a y p. c ⊗ a ⊕ y ⊗ (c ⊗ p) := c ⊗ (a ⊕ y ⊗ p)) tt (ofℤ c) (ofℤ a) y (ev p y)
+ev-scale c (a ∷ p) y = ap₂ (λ u v. u + y * v) (ofℤ-mul c a) (ev-scale c p y)
+    ∙ ring4 ℚ-ring (λ c a y p. c ⊗ a ⊕ y ⊗ (c ⊗ p) := c ⊗ (a ⊕ y ⊗ p)) tt (ofℤ c) (ofℤ a) y (ev p y)
 
 pub ev-mul : (p q : List ℤ) (y : ℚ) → ev (mulL p q) y ≡ ev p y * ev q y
 unfolding ev
 ev-mul [] q y = sym (L.zero-mul ℚ-ring (ev q y))
-ev-mul (a ∷ p) q y = ev-add (scaleL a q) (pos 0 ∷ mulL p q) y ∙ ap₂ (λ u v. u + v) (ev-scale a q y) (ap₂ (λ u v. u + y * v) (nat-zero) (ev-mul p q y))
+ev-mul (a ∷ p) q y = ev-add (scaleL a q) (pos 0 ∷ mulL p q) y
+    ∙ ap₂ _+_ (ev-scale a q y) (ap₂ (λ u v. u + y * v) nat-zero (ev-mul p q y))
     ∙ ring4 ℚ-ring (λ a q y p. a ⊗ q ⊕ (𝟎 ⊕ y ⊗ (p ⊗ q)) := (a ⊕ y ⊗ p) ⊗ q) tt (ofℤ a) (ev q y) y (ev p y)
 
 pub ev-alt : (σ : ℤ) (p : List ℤ) (y : ℚ) → ev (altL σ p) y ≡ ofℤ σ * ev p (negQ y)
@@ -66,9 +69,9 @@ ev-alt σ (a ∷ p) y = ap₂ (λ u v. u + y * v) (ofℤ-mul σ a) (ev-alt (neg�
 pub ev-mono : (n : ℕ) (y : ℚ) → ev (mono n) y ≡ powQ y n
 unfolding ev
 ev-mono zero y = ap (λ u. u + y * zeroQ) ofℤ-one ∙ ring1 ℚ-ring (λ y. 𝟏 ⊕ y ⊗ 𝟎 := 𝟏) tt y
-ev-mono (suc n) y = ap₂ (λ u v. u + y * v) (nat-zero) (ev-mono n y) ∙ L.zero-add ℚ-ring (y * powQ y n)
+ev-mono (suc n) y = ap₂ (λ u v. u + y * v) nat-zero (ev-mono n y) ∙ L.zero-add ℚ-ring (y * powQ y n)
 
 pub ev-int : (p : List ℤ) (b : ℤ) → ev p (ofℤ b) ≡ ofℤ (evZ p b)
 unfolding ev
-ev-int [] b = sym (nat-zero)
+ev-int [] b = sym nat-zero
 ev-int (a ∷ p) b = ap (λ u. ofℤ a + ofℤ b * u) (ev-int p b) ∙ sym (ofℤ-add a (b *ℤ evZ p b) ∙ ap (λ u. ofℤ a + u) (ofℤ-mul b (evZ p b)))

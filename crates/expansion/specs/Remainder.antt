@@ -7,7 +7,8 @@ use native.Mathlib.Nat as NL
 use native.Mathlib.Omega.{arith}
 use Rattle.algebra.specs.Laws as L
 use Rattle.algebra.specs.Solver.{_⊝_, ring1, ring2, ring3, ring4, ring5, 𝟎, 𝟏, _⊕_, _⊗_, _:=_}
-use Rattle.algebra.specs.Q.{ℚ, ℚ-ring, zeroQ, oneQ, _+_, _-_, _*_, _≤_, abs, ≤-refl, ≤-trans, ≤-total, ≤-of-eq, ≤-add, ≤-neg, ≤-mul-left, mul-mono, mul-nn, sub-nn, ≤-cancel, abs-of-nn, abs-add, abs-mul, abs-zero-le}
+use Rattle.algebra.specs.Q.{ℚ, ℚ-ring, zeroQ, oneQ, _+_, _-_, _*_, _≤_, abs, ≤-refl, ≤-trans, ≤-total, ≤-of-eq, ≤-add, ≤-neg}
+use Rattle.algebra.specs.Q.{≤-mul-left, mul-mono, mul-nn, sub-nn, ≤-cancel, abs-of-nn, abs-add, abs-mul, abs-zero-le}
 use Rattle.algebra.specs.Embedding.{nat}
 use Rattle.algebra.specs.Quotient.{inv, inv-nn, inv-cancel, inv-le}
 use Rattle.algebra.specs.RationalSum.{sum, sum-zero, sum-add, sum-mul}
@@ -45,15 +46,20 @@ abs-logTerm z h n x =
 
 remainder-le : (z : Ser) → NonNeg z → (r m x : ℕ) → abs (logRemainder z r m x) ≤ logMajorant z r m x
 remainder-le z h r zero x = abs-zero-le (≤-refl zeroQ)
-remainder-le z h r (suc m) x = ≤-trans (abs-add (logRemainder z r m x) (logTerm z (r +ⁿ m) x)) (≤-add (remainder-le z h r m x) (≤-of-eq (abs-logTerm z h (r +ⁿ m) x)))
+remainder-le z h r (suc m) x = ≤-trans (abs-add (logRemainder z r m x) (logTerm z (r +ⁿ m) x))
+    (≤-add (remainder-le z h r m x) (≤-of-eq (abs-logTerm z h (r +ⁿ m) x)))
 
-sum-majorant : (z : Ser) (ρ : ℚ) → NonNeg z → zeroQ ≤ ρ → (X : ℕ) → sum X z ≤ ρ → (r m : ℕ) → sum X (logMajorant z r m) ≤ inv r * (powQ ρ (suc r) * sum m (powQ ρ))
+sum-majorant : (z : Ser) (ρ : ℚ) → NonNeg z → zeroQ ≤ ρ → (X : ℕ) → sum X z ≤ ρ → (r m : ℕ) →
+    sum X (logMajorant z r m) ≤ inv r * (powQ ρ (suc r) * sum m (powQ ρ))
 sum-majorant z ρ h p X s r zero = ≤-of-eq (sum-zero X ∙ ring2 ℚ-ring (λ i a. 𝟎 := i ⊗ (a ⊗ 𝟎)) tt (inv r) (powQ ρ (suc r)))
 sum-majorant z ρ h p X s r (suc m) =
-    ≤-trans (≤-of-eq (sum-add X (logMajorant z r m) (λ x. inv n * pow z (suc n) x) ∙ ap (λ x. sum X (logMajorant z r m) + x) (sum-mul X (inv n) (pow z (suc n)))))
-    (≤-trans (≤-add (sum-majorant z ρ h p X s r m) (mul-mono (inv-nn n) (powQ-nn ρ p (suc n)) (inv-le r n (omega arith)) (sum-pow z ρ h p X s (suc n))))
+    ≤-trans (≤-of-eq (sum-add X (logMajorant z r m) (λ x. inv n * pow z (suc n) x)
+    ∙ ap (λ x. sum X (logMajorant z r m) + x) (sum-mul X (inv n) (pow z (suc n)))))
+    (≤-trans (≤-add (sum-majorant z ρ h p X s r m)
+    (mul-mono (inv-nn n) (powQ-nn ρ p (suc n)) (inv-le r n (omega arith)) (sum-pow z ρ h p X s (suc n))))
     (≤-of-eq (ap (λ x. inv r * (powQ ρ (suc r) * sum m (powQ ρ)) + inv r * (ρ * x)) (powQ-add ρ r m)
-    ∙ ring5 ℚ-ring (λ i a p s b. i ⊗ ((a ⊗ p) ⊗ s) ⊕ i ⊗ (a ⊗ (p ⊗ b)) := i ⊗ ((a ⊗ p) ⊗ (s ⊕ b))) tt (inv r) ρ (powQ ρ r) (sum m (powQ ρ)) (powQ ρ m))))
+    ∙ ring5 ℚ-ring (λ i a p s b. i ⊗ ((a ⊗ p) ⊗ s) ⊕ i ⊗ (a ⊗ (p ⊗ b)) := i ⊗ ((a ⊗ p) ⊗ (s ⊕ b)))
+    tt (inv r) ρ (powQ ρ r) (sum m (powQ ρ)) (powQ ρ m))))
   where
     n : ℕ
     n = r +ⁿ m
@@ -69,8 +75,10 @@ pub record Good (r : ℕ) (m : Member) : Type 0 where
 pub majorant-le : (r : ℕ) (m : Member) → Good r m → (X k : ℕ) → sum X (logMajorant (m .z) r k) ≤ m .e
 majorant-le r m g X k = ≤-cancel u u-nn u-nz
     (≤-trans (≤-mul-left u u-nn (sum-majorant (m .z) ρ (g .z-nn) ρ-nn X (g .z-sum X) r k))
-    (≤-trans (≤-of-eq (ring4 ℚ-ring (λ u i a s. u ⊗ (i ⊗ (a ⊗ s)) := i ⊗ (a ⊗ (u ⊗ s))) tt u (inv r) power (sum k (powQ ρ)) ∙ ap (λ x. inv r * (power * x)) (geometric ρ k)))
-    (≤-trans (≤-mul-left (inv r) (inv-nn r) (≤-trans (≤-mul-left power (powQ-nn ρ ρ-nn (suc r)) at-most) (≤-trans (≤-of-eq (ℚ-ring .mul-one power)) (g .e-big))))
+    (≤-trans (≤-of-eq (ring4 ℚ-ring (λ u i a s. u ⊗ (i ⊗ (a ⊗ s)) := i ⊗ (a ⊗ (u ⊗ s))) tt u (inv r) power (sum k (powQ ρ))
+    ∙ ap (λ x. inv r * (power * x)) (geometric ρ k)))
+    (≤-trans (≤-mul-left (inv r) (inv-nn r) (≤-trans (≤-mul-left power (powQ-nn ρ ρ-nn (suc r)) at-most)
+    (≤-trans (≤-of-eq (ℚ-ring .mul-one power)) (g .e-big))))
     (≤-of-eq (ap (λ x. inv r * x) (ring3 ℚ-ring (λ e n u. e ⊗ (n ⊗ u) := n ⊗ (u ⊗ e)) tt (m .e) (nat (suc r)) u) ∙ inv-cancel r (u * m .e))))))
   where
     ρ : ℚ
@@ -118,8 +126,10 @@ logs-split r k (m ∷ ms) = ap₂ _⊞_ (log-split (m .z) r k) (logs-split r k m
 
 pub remainders-le : (r k : ℕ) (ms : List Member) → All (Good r) ms → (x : ℕ) → abs (remainders r k ms x) ≤ majorants r k ms x
 remainders-le r k [] h x = abs-zero-le (≤-refl zeroQ)
-remainders-le r k (m ∷ ms) h x = ≤-trans (abs-add (logRemainder (m .z) r k x) (remainders r k ms x)) (≤-add (remainder-le (m .z) (h .0 .z-nn) r k x) (remainders-le r k ms (h .1) x))
+remainders-le r k (m ∷ ms) h x = ≤-trans (abs-add (logRemainder (m .z) r k x) (remainders r k ms x))
+    (≤-add (remainder-le (m .z) (h .0 .z-nn) r k x) (remainders-le r k ms (h .1) x))
 
 pub majorants-le : (r k : ℕ) (ms : List Member) → All (Good r) ms → (X : ℕ) → sum X (majorants r k ms) ≤ errors ms
 majorants-le r k [] h X = ≤-of-eq (sum-zero X)
-majorants-le r k (m ∷ ms) h X = ≤-trans (≤-of-eq (sum-add X (logMajorant (m .z) r k) (majorants r k ms))) (≤-add (majorant-le r m (h .0) X k) (majorants-le r k ms (h .1) X))
+majorants-le r k (m ∷ ms) h X = ≤-trans (≤-of-eq (sum-add X (logMajorant (m .z) r k) (majorants r k ms)))
+    (≤-add (majorant-le r m (h .0) X k) (majorants-le r k ms (h .1) X))

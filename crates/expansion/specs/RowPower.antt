@@ -30,7 +30,8 @@ row q i p d e n k = sum (suc n) (λ l. rowsQ q i p n l * δ (termPlace d e n l) 
 δ-product-sum zero c s d k = S.product-comm ℚ-ring k (δ d) zeroS ∙ SR.product-zero ℚ-ring k (δ d)
 δ-product-sum (suc N) c s d k =
     SR.product-distrib ℚ-ring (δ d) (λ j. sum N (λ l. c l * δ (s l) j)) (place (s N) (c N)) k
-    ∙ ap₂ _+_ (δ-product-sum N c s d k) (S.product-comm ℚ-ring k (δ d) (place (s N) (c N)) ∙ product-scale k (c N) (δ (s N)) (δ d) ∙ ap (λ x. c N * x) one)
+    ∙ ap₂ _+_ (δ-product-sum N c s d k) (S.product-comm ℚ-ring k (δ d) (place (s N) (c N)) ∙ product-scale k (c N) (δ (s N)) (δ d)
+    ∙ ap (λ x. c N * x) one)
   where
     one : (δ (s N) ⋆ δ d) k ≡ δ (d +ⁿ s N) k
     one = S.product-comm ℚ-ring k (δ (s N)) (δ d) ∙ δ-product d (δ (s N)) k ∙ shift-δ d (s N) k
@@ -64,21 +65,25 @@ module _ (q i p d e : ℕ) where
   row-q : (n k : ℕ) → (δ d ⋆ row q i p d e n) k ≡ sum (suc (suc n)) (λ l. leftQ (v n) l * at-place (suc n) l k)
   row-q n k =
       δ-product-sum (suc n) (v n) (termPlace d e n) d k
-      ∙ sum-ext (suc n) (λ l. v n l * δ (d +ⁿ termPlace d e n l) k) (λ l. v n l * at-place (suc n) (suc l) k) (λ l h. ap (λ x. v n l * δ x k) (place-q d e n l))
+      ∙ sum-ext (suc n) (λ l. v n l * δ (d +ⁿ termPlace d e n l) k) (λ l. v n l * at-place (suc n) (suc l) k)
+      (λ l h. ap (λ x. v n l * δ x k) (place-q d e n l))
       ∙ ring2 ℚ-ring (λ x y. x := 𝟎 ⊗ y ⊕ x) tt (sum (suc n) (λ l. v n l * at-place (suc n) (suc l) k)) (at-place (suc n) 0 k)
       ∙ sym (sum-first (suc n) (λ l. leftQ (v n) l * at-place (suc n) l k))
 
   row-i : (n k : ℕ) → (δ e ⋆ row q i p d e n) k ≡ sum (suc (suc n)) (λ l. v n l * at-place (suc n) l k)
   row-i n k =
       δ-product-sum (suc n) (v n) (termPlace d e n) e k
-      ∙ sum-ext (suc n) (λ l. v n l * δ (e +ⁿ termPlace d e n l) k) (λ l. v n l * at-place (suc n) l k) (λ l h. ap (λ x. v n l * δ x k) (place-i d e n l (omega arith)))
+      ∙ sum-ext (suc n) (λ l. v n l * δ (e +ⁿ termPlace d e n l) k) (λ l. v n l * at-place (suc n) l k)
+      (λ l h. ap (λ x. v n l * δ x k) (place-i d e n l (omega arith)))
       ∙ ring2 ℚ-ring (λ x y. x := x ⊕ 𝟎 ⊗ y) tt (sum (suc n) (λ l. v n l * at-place (suc n) l k)) (at-place (suc n) (suc n) k)
-      ∙ ap (λ x. sum (suc n) (λ l. v n l * at-place (suc n) l k) + x * at-place (suc n) (suc n) k) (sym (rowsQ-beyond q i p n (suc n) (omega arith)))
+      ∙ ap (λ x. sum (suc n) (λ l. v n l * at-place (suc n) l k) + x * at-place (suc n) (suc n) k)
+      (sym (rowsQ-beyond q i p n (suc n) (omega arith)))
 
   row-next : (n k : ℕ) → (odds q i p d e ⋆ row q i p d e n) k ≡ row q i p d e (suc n) k
   row-next n k =
       S.product-add ℚ-ring k (place d a) (place e b) (row q i p d e n)
-      ∙ ap₂ _+_ (product-scale k a (δ d) (row q i p d e n) ∙ ap (λ x. a * x) (row-q n k)) (product-scale k b (δ e) (row q i p d e n) ∙ ap (λ x. b * x) (row-i n k))
+      ∙ ap₂ _+_ (product-scale k a (δ d) (row q i p d e n) ∙ ap (λ x. a * x) (row-q n k))
+      (product-scale k b (δ e) (row q i p d e n) ∙ ap (λ x. b * x) (row-i n k))
       ∙ ap₂ _+_ (sym (sum-mul (suc (suc n)) a f)) (sym (sum-mul (suc (suc n)) b g))
       ∙ sym (sum-add (suc (suc n)) (λ l. a * f l) (λ l. b * g l))
       ∙ sum-ext (suc (suc n)) (λ l. a * f l + b * g l) (λ l. v (suc n) l * at-place (suc n) l k) (λ l h.
@@ -133,7 +138,8 @@ log-rows q i p d e r k =
         sym (ℚ-ring .mul-assoc (nat k) c (pow z (suc n) k))
         ∙ ap (λ x. nat k * c * x) (pow-rows q i p d e (suc n) k)
         ∙ sym (sum-mul (suc (suc n)) (nat k * c) f)
-        ∙ sum-ext (suc (suc n)) (λ l. nat k * c * f l) (logEntry q i p d e k n) (λ l h. entry-is k n (termPlace d e (suc n) l) (rowsQ q i p (suc n) l))
+        ∙ sum-ext (suc (suc n)) (λ l. nat k * c * f l) (logEntry q i p d e k n)
+        (λ l h. entry-is k n (termPlace d e (suc n) l) (rowsQ q i p (suc n) l))
       where
         c : ℚ
         c = sgn n * inv n

@@ -8,7 +8,8 @@ use native.Mathlib.Omega.{arith}
 use lib.IntN.{pos}
 use Rattle.algebra.specs.Solver.{_⊝_, ring3, 𝟏, con, _⊗_, _:=_}
 use Rattle.algebra.specs.Linear.{lin2, _≼_, _⋅_, rest, _∣_, _⊢_}
-use Rattle.algebra.specs.Q.{ℚ, ℚ-ring, ℚ-ord, negQ, zeroQ, oneQ, _-_, _*_, _≤_, abs, ≤-trans, ≤-of-eq, ≤-mul-left, abs-nn, abs-of-nn, abs-mul}
+use Rattle.algebra.specs.Q.{ℚ, ℚ-ring, ℚ-ord, negQ, zeroQ, oneQ, _-_, _*_, _≤_, abs, ≤-trans, ≤-of-eq, ≤-mul-left, abs-nn, abs-of-nn}
+use Rattle.algebra.specs.Q.{abs-mul}
 use Rattle.algebra.specs.Embedding.{nat, nat-mul, nat-nn, nat-le}
 use Rattle.algebra.specs.Quotient.{over, over-ok, cancel}
 use Rattle.algebra.specs.RationalSum.{sum, sum-nn, sum-term}
@@ -38,7 +39,8 @@ pub record Recursion (K : ℕ) (ƛ : ℚ) (W : Ser) (ms : List Member) (X r : �
   pub start : F 0 ≡ exact K ƛ W ms 0
   pub step : (x : ℕ) → x ≤ⁿ X → nat x * F x ≡ sum x (λ k. transform r ms W (suc k) * F (x ∸ suc k))
 
-module _ (K : ℕ) (big : 64 ≤ⁿ suc K) (test : Test K) (ms : List Member) (share : All Share ms) (W : Ser) (ƛ : ℚ) (group : Group W ƛ) (X : ℕ) where
+module _ (K : ℕ) (big : 64 ≤ⁿ suc K) (test : Test K) (ms : List Member) (share : All Share ms)
+    (W : Ser) (ƛ : ℚ) (group : Group W ƛ) (X : ℕ) where
   abbrev P : Ser
   P = exact K ƛ W ms
 
@@ -68,13 +70,15 @@ module _ (K : ℕ) (big : 64 ≤ⁿ suc K) (test : Test K) (ms : List Member) (s
 
       seven : nat 7 * sum (suc X) (absS P) ≤ nat 8
       seven =
-          ≤-trans (≤-mul-left (nat 7) (nat-nn 7) (distribution-mass s W ƛ ms share (group .W-zero) (group .W-nn) ƛ-nn (suc X) (group .W-sum (suc X))))
+          ≤-trans (≤-mul-left (nat 7) (nat-nn 7) (distribution-mass s W ƛ ms share (group .W-zero) (group .W-nn) ƛ-nn (suc X)
+          (group .W-sum (suc X))))
           (≤-trans (≤-of-eq (ring3 ℚ-ring (λ a s x. a ⊗ (s ⊗ x) := s ⊗ (a ⊗ x)) tt (nat 7) (abs s) (expSum X ƛ)))
           (≤-trans (≤-mul-left (abs s) (abs-nn s) (expSum-le K ƛ ƛ-nn eights X))
           (≤-trans (≤-of-eq (ring3 ℚ-ring (λ a s x. s ⊗ (a ⊗ x) := a ⊗ (s ⊗ x)) tt (nat 8) (abs s) e))
           (≤-trans (≤-mul-left (nat 8) (nat-nn 8) se) (≤-of-eq (ℚ-ring .mul-one (nat 8)))))))
 
-  module _ (r : ℕ) (good : All (Good r) ms) (F : Ser) (recursion : Recursion K ƛ W ms X r F) (ε : ℚ) (ε-le : errors ms ≤ ε) (ε-small : nat 7 * ε ≤ nat 3) where
+  module _ (r : ℕ) (good : All (Good r) ms) (F : Ser) (recursion : Recursion K ƛ W ms X r F)
+      (ε : ℚ) (ε-le : errors ms ≤ ε) (ε-small : nat 7 * ε ≤ nat 3) where
     abbrev distance : Ser
     distance = λ x. abs (F x - P x)
 
@@ -94,26 +98,32 @@ module _ (K : ℕ) (big : 64 ≤ⁿ suc K) (test : Test K) (ms : List Member) (s
         ε-one = cancel 7 (omega arith) (≤-trans ε-small (≤-trans (nat-le (omega arith)) (≤-of-eq (sym (ℚ-ring .mul-one (nat 7))))))
 
         cut : (oneQ - ε) * D ≤ κ * ε
-        cut = truncation r X ms good (expSum K (negQ ƛ)) (poisson W) (θ W) (θ-zero W) (poisson-θ W (group .W-zero)) F (recursion .start) (recursion .step) ε κ ε-le ε-one mass
+        cut = truncation r X ms good (expSum K (negQ ƛ)) (poisson W) (θ W) (θ-zero W) (poisson-θ W (group .W-zero)) F
+            (recursion .start) (recursion .step) ε κ ε-le ε-one mass
 
         seven : nat 7 * ((oneQ - ε) * D) ≤ nat 8 * ε
-        seven = ≤-trans (≤-mul-left (nat 7) (nat-nn 7) cut) (≤-of-eq (sym (ℚ-ring .mul-assoc (nat 7) κ ε) ∙ ap (λ x. x * ε) (over-ok (nat 8) 7 (omega arith))))
+        seven = ≤-trans (≤-mul-left (nat 7) (nat-nn 7) cut)
+            (≤-of-eq (sym (ℚ-ring .mul-assoc (nat 7) κ ε) ∙ ap (λ x. x * ε) (over-ok (nat 8) 7 (omega arith))))
 
         four : nat 4 * D ≤ nat 8 * ε
-        four = lin2 ℚ-ring ℚ-ord (λ d e. 1 ⋅ d ⊗ (con (pos 7) ⊗ e) ≼ d ⊗ con (pos 3) ∣ 1 ⋅ con (pos 7) ⊗ ((𝟏 ⊝ e) ⊗ d) ≼ con (pos 8) ⊗ e ∣ rest 0 ⊢ con (pos 4) ⊗ d ≼ con (pos 8) ⊗ e) tt
+        four = lin2 ℚ-ring ℚ-ord (λ d e. 1 ⋅ d ⊗ (con (pos 7) ⊗ e) ≼ d ⊗ con (pos 3)
+            ∣ 1 ⋅ con (pos 7) ⊗ ((𝟏 ⊝ e) ⊗ d) ≼ con (pos 8) ⊗ e ∣ rest 0 ⊢ con (pos 4) ⊗ d ≼ con (pos 8) ⊗ e) tt
             D ε (≤-mul-left D (sum-nn (suc X) distance distance-nn) ε-small, (seven, tt))
 
     pub each : (x : ℕ) → x ≤ⁿ X → abs (F x - P x) ≤ nat 2 * ε
     each x l = ≤-trans (sum-term (suc X) x distance distance-nn (omega arith)) total
 
 -- ---- 63 terms
-pub mass-63 : (ms : List Member) → All Share ms → (W : Ser) (ƛ : ℚ) → Group W ƛ → (X : ℕ) → sum (suc X) (absS (exact 63 ƛ W ms)) ≤ over (nat 8) 7
+pub mass-63 : (ms : List Member) → All Share ms → (W : Ser) (ƛ : ℚ) → Group W ƛ → (X : ℕ) →
+    sum (suc X) (absS (exact 63 ƛ W ms)) ≤ over (nat 8) 7
 mass-63 = mass 63 (omega arith) test-63
 
-pub total-63 : (ms : List Member) → All Share ms → (W : Ser) (ƛ : ℚ) → Group W ƛ → (X r : ℕ) → All (Good r) ms → (F : Ser) → Recursion 63 ƛ W ms X r F →
+pub total-63 : (ms : List Member) → All Share ms → (W : Ser) (ƛ : ℚ) → Group W ƛ → (X r : ℕ) → All (Good r) ms → (F : Ser) →
+    Recursion 63 ƛ W ms X r F →
     (ε : ℚ) → errors ms ≤ ε → nat 7 * ε ≤ nat 3 → sum (suc X) (λ x. abs (F x - exact 63 ƛ W ms x)) ≤ nat 2 * ε
 total-63 = total 63 (omega arith) test-63
 
-pub each-63 : (ms : List Member) → All Share ms → (W : Ser) (ƛ : ℚ) → Group W ƛ → (X r : ℕ) → All (Good r) ms → (F : Ser) → Recursion 63 ƛ W ms X r F →
+pub each-63 : (ms : List Member) → All Share ms → (W : Ser) (ƛ : ℚ) → Group W ƛ → (X r : ℕ) → All (Good r) ms → (F : Ser) →
+    Recursion 63 ƛ W ms X r F →
     (ε : ℚ) → errors ms ≤ ε → nat 7 * ε ≤ nat 3 → (x : ℕ) → x ≤ⁿ X → abs (F x - exact 63 ƛ W ms x) ≤ nat 2 * ε
 each-63 = each 63 (omega arith) test-63

@@ -1,4 +1,4 @@
--- The exact triangle of a member with rates q, i and p for neither: rowsQ (0, 0) = 1, rowsQ (n, l) = (q rowsQ (n-1, l-1) + i rowsQ (n-1, l)) / p.
+-- The exact triangle of a member with rates q and i, and p for neither: V(0, 0) = 1, V(n, l) = (q V(n-1, l-1) + i V(n-1, l)) / p (rowsQ).
 -- It is 0 for l > n (rowsQ-beyond), for q = 0 unless l = 0 (rowsQ-no-q), and for i = 0 unless l = n (rowsQ-no-i).
 use mathlib.Core.Path.{_≡_, refl, _∙_, ap, ap₂}
 use Prim.Native.Nat.{ℕ, zero, suc, _<_, _+_ as _+ⁿ_, _*_ as _*ⁿ_, _-_ as _∸_}
@@ -25,7 +25,8 @@ termPlace d e n l = d *ⁿ l +ⁿ e *ⁿ (n ∸ l)
 
 pub rowsQ-split : (q i p n l : ℕ) → rowsQ q i p (suc n) l ≡ over (nat q) p * leftQ (rowsQ q i p n) l + over (nat i) p * rowsQ q i p n l
 unfolding rowsQ over
-rowsQ-split q i p n l = ring5 ℚ-ring (λ q i x y v. (q ⊗ x ⊕ i ⊗ y) ⊗ v := q ⊗ v ⊗ x ⊕ i ⊗ v ⊗ y) tt (nat q) (nat i) (leftQ (rowsQ q i p n) l) (rowsQ q i p n l) (inv (p ∸ 1))
+rowsQ-split q i p n l = ring5 ℚ-ring (λ q i x y v. (q ⊗ x ⊕ i ⊗ y) ⊗ v := q ⊗ v ⊗ x ⊕ i ⊗ v ⊗ y)
+    tt (nat q) (nat i) (leftQ (rowsQ q i p n) l) (rowsQ q i p n l) (inv (p ∸ 1))
 
 next-zero : (a b x y : ℚ) (p : ℕ) → a * x ≡ zeroQ → b * y ≡ zeroQ → over (a * x + b * y) p ≡ zeroQ
 next-zero a b x y p h k = ap (λ s. over s p) (ap₂ _+_ h k ∙ ℚ-ring .add-zero zeroQ) ∙ over-zero p
@@ -48,7 +49,8 @@ rowsQ-beyond q i p zero zero g = none 0 g
 rowsQ-beyond q i p zero (suc l) g = refl
 rowsQ-beyond q i p (suc n) zero g = none (suc n) g
 rowsQ-beyond q i p (suc n) (suc l) g = next-zero (nat q) (nat i) (rowsQ q i p n l) (rowsQ q i p n (suc l)) p
-    (zero-right (nat q) (rowsQ q i p n l) (rowsQ-beyond q i p n l (omega arith))) (zero-right (nat i) (rowsQ q i p n (suc l)) (rowsQ-beyond q i p n (suc l) (omega arith)))
+    (zero-right (nat q) (rowsQ q i p n l) (rowsQ-beyond q i p n l (omega arith)))
+    (zero-right (nat i) (rowsQ q i p n (suc l)) (rowsQ-beyond q i p n (suc l) (omega arith)))
 
 pub rowsQ-no-q : (i p n l : ℕ) → 0 < l → rowsQ 0 i p n l ≡ zeroQ
 unfolding rowsQ

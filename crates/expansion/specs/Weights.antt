@@ -1,6 +1,6 @@
 -- The weights of the compound Poisson part from whole numbers: a list of places with units, of U to one (weights). Folded, with λ at
 -- most 8, they are a Group (weights-group); their transform in units is a whole number (weights-transform).
-use mathlib.Core.Path.{_≡_, sym, _∙_, ap, ap₂}
+use mathlib.Core.Path.{_≡_, refl, sym, _∙_, ap, ap₂}
 use mathlib.Core.Bool.{cond}
 use mathlib.Core.List.{List, [], _∷_}
 use Prim.Native.Nat.{ℕ, _<_, _≤_ as _≤ⁿ_, _+_ as _+ⁿ_, _*_ as _*ⁿ_}
@@ -39,7 +39,7 @@ FoldedWeights [] = Unit {0}
 FoldedWeights (w ∷ ws) = (w .spot ≡ 0 → w .units ≡ 0) × FoldedWeights ws
 
 weights-zero : (U : ℕ) (ws : List Weight) → FoldedWeights ws → weights U ws 0 ≡ zeroQ
-weights-zero U [] h = λ i. zeroQ
+weights-zero U [] h = refl
 weights-zero U (w ∷ ws) h = ap₂ _+_ (place-zero (w .spot) (over (nat (w .units)) U) none) (weights-zero U ws (h .1)) ∙ ℚ-ring .add-zero zeroQ
   where
     none : w .spot ≡ 0 → over (nat (w .units)) U ≡ zeroQ
@@ -47,7 +47,8 @@ weights-zero U (w ∷ ws) h = ap₂ _+_ (place-zero (w .spot) (over (nat (w .uni
 
 weights-nn : (U : ℕ) (ws : List Weight) → NonNeg (weights U ws)
 weights-nn U [] x = ≤-refl zeroQ
-weights-nn U (w ∷ ws) x = add-nn (place-nn (w .spot) (over (nat (w .units)) U) (over-nn (nat (w .units)) U (nat-nn (w .units))) x) (weights-nn U ws x)
+weights-nn U (w ∷ ws) x = add-nn (place-nn (w .spot) (over (nat (w .units)) U) (over-nn (nat (w .units)) U (nat-nn (w .units))) x)
+    (weights-nn U ws x)
 
 weights-sum : (U : ℕ) (ws : List Weight) (n : ℕ) → sum n (weights U ws) ≤ over (nat (lambda ws)) U
 weights-sum U [] n = ≤-of-eq (sum-zero n ∙ sym (ap (λ x. over x U) nat-zero ∙ over-zero U))
@@ -58,15 +59,18 @@ weights-sum U (w ∷ ws) n = ≤-trans (≤-of-eq (sum-add n (place (w .spot) a)
     a : ℚ
     a = over (nat (w .units)) U
 
-pub weights-group : (U : ℕ) → 0 < U → (ws : List Weight) → FoldedWeights ws → lambda ws ≤ⁿ 8 *ⁿ U → Group (weights U ws) (over (nat (lambda ws)) U)
+pub weights-group : (U : ℕ) → 0 < U → (ws : List Weight) → FoldedWeights ws → lambda ws ≤ⁿ 8 *ⁿ U →
+    Group (weights U ws) (over (nat (lambda ws)) U)
 weights-group U U-pos ws h l = record { W-zero = weights-zero U ws h; W-nn = weights-nn U ws; W-sum = weights-sum U ws; ƛ-le = at-most }
   where
     at-most : over (nat (lambda ws)) U ≤ nat 8
-    at-most = cancel U U-pos (≤-trans (≤-of-eq (over-ok (nat (lambda ws)) U U-pos)) (≤-trans (nat-le l) (≤-of-eq (nat-mul 8 U ∙ ℚ-ring .mul-comm (nat 8) (nat U)))))
+    at-most = cancel U U-pos (≤-trans (≤-of-eq (over-ok (nat (lambda ws)) U U-pos))
+        (≤-trans (nat-le l) (≤-of-eq (nat-mul 8 U ∙ ℚ-ring .mul-comm (nat 8) (nat U)))))
 
 pub weights-transform : (U : ℕ) → 0 < U → (ws : List Weight) (k : ℕ) → nat U * θ (weights U ws) k ≡ nat (gain ws k)
 weights-transform U U-pos [] k = ring2 ℚ-ring (λ u k. u ⊗ (k ⊗ 𝟎) := 𝟎) tt (nat U) (nat k) ∙ sym nat-zero
 weights-transform U U-pos (w ∷ ws) k =
-    ring4 ℚ-ring (λ u k a b. u ⊗ (k ⊗ (a ⊕ b)) := u ⊗ (k ⊗ a) ⊕ u ⊗ (k ⊗ b)) tt (nat U) (nat k) (place (w .spot) (over (nat (w .units)) U) k) (weights U ws k)
+    ring4 ℚ-ring (λ u k a b. u ⊗ (k ⊗ (a ⊕ b)) := u ⊗ (k ⊗ a) ⊕ u ⊗ (k ⊗ b))
+    tt (nat U) (nat k) (place (w .spot) (over (nat (w .units)) U) k) (weights U ws k)
     ∙ ap₂ _+_ (θ-place-units U (w .spot) (w .units) U-pos k) (weights-transform U U-pos ws k)
     ∙ sym (nat-add (cond (eqb (w .spot) k) (w .units *ⁿ w .spot) 0) (gain ws k))

@@ -11,5 +11,6 @@ pub mod Refusals
 pub mod Answer
 pub mod Listing
 pub mod Exact
+pub mod Distance
 pub mod Starred
 pub mod ExactRows

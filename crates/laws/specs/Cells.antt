@@ -1,5 +1,6 @@
--- The cells as a sequence: cellAt x is f(x) and R(x), each from those before it by the sums over k (cellAt-f, cellAt-R); the
--- list of cells holds them in order (cells-are), and the premium's sums are sums over x below M (sumBelow-is, boundBelow-is).
+-- The cells as a sequence: cellAt x is f(x) and R(x), each from those before it by the sums over k (cellAt-f, cellAt-R), for any
+-- D and H and for those of a list of terms (termCell-f, termCell-R); the list of cells holds them in order (cells-are), and the
+-- premium's sums are sums over x below M (sumBelow-is, boundBelow-is).
 use mathlib.Core.Path.{_≡_, refl, sym, _∙_, ap, ap₂}
 use mathlib.Core.List.{List, [], _∷_, reverse}
 use Prim.Native.Nat.{ℕ, zero, suc, _+_, _-_, _*_, _≤_, _<_}
@@ -40,7 +41,7 @@ addF k y = nearest (k .D *ℤ y .f) unit
 abbrev pub addR : Entry → Cell → ℕ
 addR k y = up (natAbs (k .D) * y .R) unit + up (k .H * (natAbs (y .f) + y .R)) unit
 
-abbrev noEntry : Entry
+abbrev pub noEntry : Entry
 noEntry = record { D = pos 0; H = 0 }
 
 sumF-nil : (ks : List Entry) → sumF ks [] ≡ pos 0
@@ -75,22 +76,39 @@ sumR-is (k ∷ ks) g (suc m) h =
     (λ j l. ap (λ i. addR (getD ks j noEntry) (g i)) (omega arith)))
     ∙ sym (sumN-first (suc m) (λ j. addR (getD (k ∷ ks) j noEntry) (g (suc m - j))))
 
--- ---- the sequence of cells
+-- ---- the sequence of cells, for any D(1), H(1), .. and any start
+module _ (ks : List Entry) (first : Cell) where
+  unfoldable pub cellAt : ℕ → Cell
+  cellAt zero = first
+  cellAt (suc x) = nextCell ks (suc x) (cells ks first x)
+
+  cells-down : (x : ℕ) → cells ks first x ≡ downFrom cellAt x
+  unfolding cells cellAt
+  cells-down zero = refl
+  cells-down (suc x) = ap (λ l. nextCell ks (suc x) (cells ks first x) ∷ l) (cells-down x)
+
+  pub cells-are : (X : ℕ) → reverse (cells ks first X) ≡ table (suc X) cellAt
+  cells-are X = ap reverse (cells-down X) ∙ reverse-down cellAt X
+
+  pub cellAt-zero : cellAt 0 ≡ first
+  unfolding cellAt
+  cellAt-zero = refl
+
+  pub cellAt-f : (m : ℕ) → m < length ks → cellAt (suc m) .f ≡ nearest (sumZ (suc m) (λ k. addF (getD ks k noEntry) (cellAt (m - k)))) (suc m)
+  unfolding cellAt nextCell
+  cellAt-f m h = ap (λ s. nearest s (suc m)) (ap (sumF ks) (cells-down m) ∙ sumF-is ks cellAt m h)
+
+  pub cellAt-R : (m : ℕ) → m < length ks → cellAt (suc m) .R ≡ up (sumN (suc m) (λ k. addR (getD ks k noEntry) (cellAt (m - k)))) (suc m) + 1
+  unfolding cellAt nextCell
+  cellAt-R m h = ap (λ s. up s (suc m) + 1) (ap (sumR ks) (cells-down m) ∙ sumR-is ks cellAt m h)
+
+-- ---- the entries of a list of terms
 abbrev pub entryAt : List Term → ℕ → Entry
 entryAt ts k = record { D = D ts (suc k); H = H ts (suc k) }
 
 module _ (ts : List Term) (X : ℕ) (first : Cell) where
-  unfoldable pub cellAt : ℕ → Cell
-  cellAt zero = first
-  cellAt (suc x) = nextCell (entries ts X) (suc x) (cells (entries ts X) first x)
-
-  pub cells-down : (x : ℕ) → cells (entries ts X) first x ≡ downFrom cellAt x
-  unfolding cells cellAt
-  cells-down zero = refl
-  cells-down (suc x) = ap (λ l. nextCell (entries ts X) (suc x) (cells (entries ts X) first x) ∷ l) (cells-down x)
-
-  pub cells-are : reverse (cells (entries ts X) first X) ≡ table (suc X) cellAt
-  cells-are = ap reverse (cells-down X) ∙ reverse-down cellAt X
+  abbrev pub termCell : ℕ → Cell
+  termCell = cellAt (entries ts X) first
 
   entry : (k : ℕ) → k < X → getD (entries ts X) k noEntry ≡ entryAt ts k
   unfolding entries
@@ -100,27 +118,17 @@ module _ (ts : List Term) (X : ℕ) (first : Cell) where
   unfolding entries
   long m h = let e = length-table X (entryAt ts) in omega arith
 
-  pub cellAt-zero : cellAt 0 ≡ first
-  unfolding cellAt
-  cellAt-zero = refl
+  pub termCell-f : (m : ℕ) → m < X → termCell (suc m) .f ≡ nearest (sumZ (suc m) (λ k. addF (entryAt ts k) (termCell (m - k)))) (suc m)
+  termCell-f m h =
+      cellAt-f (entries ts X) first m (long m h)
+      ∙ ap (λ s. nearest s (suc m)) (S.sum-ext ℤ-ring (suc m) (λ k. addF (getD (entries ts X) k noEntry) (termCell (m - k))) (λ k. addF (entryAt ts k) (termCell (m - k)))
+      (λ k l. ap (λ e. addF e (termCell (m - k))) (entry k (omega arith))))
 
-  pub cellAt-f : (m : ℕ) → m < X → cellAt (suc m) .f ≡ nearest (sumZ (suc m) (λ k. addF (entryAt ts k) (cellAt (m - k)))) (suc m)
-  unfolding cellAt nextCell
-  cellAt-f m h =
-      ap (λ s. nearest s (suc m))
-      (ap (sumF (entries ts X)) (cells-down m)
-      ∙ sumF-is (entries ts X) cellAt m (long m h)
-      ∙ S.sum-ext ℤ-ring (suc m) (λ k. addF (getD (entries ts X) k noEntry) (cellAt (m - k))) (λ k. addF (entryAt ts k) (cellAt (m - k)))
-      (λ k l. ap (λ e. addF e (cellAt (m - k))) (entry k (omega arith))))
-
-  pub cellAt-R : (m : ℕ) → m < X → cellAt (suc m) .R ≡ up (sumN (suc m) (λ k. addR (entryAt ts k) (cellAt (m - k)))) (suc m) + 1
-  unfolding cellAt nextCell
-  cellAt-R m h =
-      ap (λ s. up s (suc m) + 1)
-      (ap (sumR (entries ts X)) (cells-down m)
-      ∙ sumR-is (entries ts X) cellAt m (long m h)
-      ∙ sumN-ext (suc m) (λ k. addR (getD (entries ts X) k noEntry) (cellAt (m - k))) (λ k. addR (entryAt ts k) (cellAt (m - k)))
-      (λ k l. ap (λ e. addR e (cellAt (m - k))) (entry k (omega arith))))
+  pub termCell-R : (m : ℕ) → m < X → termCell (suc m) .R ≡ up (sumN (suc m) (λ k. addR (entryAt ts k) (termCell (m - k)))) (suc m) + 1
+  termCell-R m h =
+      cellAt-R (entries ts X) first m (long m h)
+      ∙ ap (λ s. up s (suc m) + 1) (sumN-ext (suc m) (λ k. addR (getD (entries ts X) k noEntry) (termCell (m - k))) (λ k. addR (entryAt ts k) (termCell (m - k)))
+      (λ k l. ap (λ e. addR e (termCell (m - k))) (entry k (omega arith))))
 
 -- ---- the premium's sums
 pub sumBelow-is : (M n : ℕ) (g : ℕ → Cell) → M ≤ n → sumBelow M (table n g) ≡ sumZ M (λ x. pos (M - x) *ℤ g x .f)

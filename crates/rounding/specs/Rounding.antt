@@ -8,6 +8,7 @@ near a b = (2 * a + b) / (2 * b)
 
 -- Negative numbers too: 1/2 gives 1, -1/2 gives -1.
 unfoldable pub nearest : ℤ → ℕ → ℤ
+unfolding near
 nearest (pos a) b = pos (near a b)
 nearest (negsuc a) b = negℤ (pos (near (suc a) b))
 

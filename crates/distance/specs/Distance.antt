@@ -1,0 +1,85 @@
+-- Demand 3 at the definitions: whatever bytes and slice lengths the definitions accept, the answer is within its bounds of the exact
+-- values (distance); and with lambda 0 the exact premium is the average excess over M of all outcomes of group 1 (average).
+use mathlib.Core.Path.{_≡_, refl, sym, _∙_, ap, ap₂, subst}
+use mathlib.Core.List.{List}
+use Prim.Native.Nat.{ℕ, suc, _+_, _*_, _^_, _≤_}
+use native.Mathlib.Omega.{arith}
+use lib.IntN.{ℤ, pos, natAbs, _*ℤ_, _-ℤ_}
+use lib.ListN.{getD}
+use Rattle.algebra.specs.RationalSum.{sumN, sumN-ext}
+use Rattle.fund.specs.declared.Verdict.{Verdict}
+use Rattle.fund.specs.declared.Verdict.the-variants.{Accepted}
+use Rattle.fund.specs.Base.{sum, table}
+use Rattle.fund.specs.Reading.{FundFile, read, reading}
+use Rattle.fund.specs.Folding.{lives}
+use Rattle.fund.specs.Transform.{unit, lambda}
+use Rattle.fund.specs.Recursion.{Cell}
+use Rattle.fund.specs.Premium.{premium, within, printedBound}
+use Rattle.fund.specs.Refusals.{Lengths, verdict}
+use Rattle.fund.specs.Answer.{fileTerms, fileLambda, fileCells, fileTruncation, fileMean, Answer, accepted, answer}
+use Rattle.fund.specs.Exact.{singles, outcomes, excess}
+use Rattle.fund.specs.Distance.{fileDenominator, exactAt, exactPremiumAt, apart, WithinBounds}
+use Rattle.laws.specs.Accepted.{Accepts, accepts}
+use Rattle.laws.specs.Cells.{sum-is}
+use Rattle.laws.specs.Ranges.{FundOk, read-ranges}
+use Rattle.laws.specs.Answer.{Accepting, answer-accepted, fileCell, fileCells-are, f-cell, R-cell}
+use Rattle.distance.specs.Lives.{all-folded}
+use Rattle.distance.specs.Members.{Priceable}
+use Rattle.distance.specs.Whole.{cell-distance, cells-distance, premium-distance}
+use Rattle.distance.specs.AverageExcess.{average-excess}
+
+-- what acceptance gives of the lives
+pub priceable : (fund : FundFile) (n : Lengths) → Accepts fund n (fileCells fund) → Priceable (fund .header .order) (fund .header .frequency) (lives fund)
+priceable fund n a = record { calm = a .calm-lives; folded = all-folded fund; load-within = a .load-within; truncation-within = a .truncation-within }
+
+module _ (fund : FundFile) (n : Lengths) (ok : FundOk fund) (a : Accepts fund n (fileCells fund)) where
+  abbrev X : ℕ
+  X = fund .header .horizon
+
+  abbrev small : fund .header .order ≤ 12
+  small = ok .header .order-most
+
+  abbrev p : Priceable (fund .header .order) (fund .header .frequency) (lives fund)
+  p = priceable fund n a
+
+  abbrev A : Answer
+  A = accepted fund n
+
+  gap-is : (x : ℕ) → x ≤ X → apart fund A x ≡ natAbs (pos (fileDenominator fund) *ℤ fileCell fund x .f -ℤ pos unit *ℤ exactAt fund x)
+  unfolding apart
+  gap-is x l = ap (λ z. natAbs (pos (fileDenominator fund) *ℤ z -ℤ pos unit *ℤ exactAt fund x)) (f-cell fund n x l)
+
+  close-cell : (x : ℕ) → x ≤ X → apart fund A x ≤ fileDenominator fund * printedBound (A .truncation) (getD (A .R) x 0)
+  unfolding fileDenominator exactAt fileTerms fileLambda fileTruncation accepted
+  close-cell x l = rw (gap-is x l, R-cell fund n x l) (cell-distance X (fund .header .order) (fund .header .frequency) (lives fund) small p x l)
+
+  close-cells : (x : ℕ) → x ≤ X → sum (suc x) (apart fund A) ≤ fileDenominator fund * (sum (suc x) (λ y. getD (A .R) y 0) + 2 * A .truncation)
+  unfolding fileDenominator exactAt fileTerms fileLambda fileTruncation accepted
+  close-cells x l =
+      rw (sum-is (suc x) (apart fund A) ∙ sumN-ext (suc x) (apart fund A) (λ y. natAbs (pos (fileDenominator fund) *ℤ fileCell fund y .f -ℤ pos unit *ℤ exactAt fund y)) (λ y h. gap-is y (omega arith)),
+      sum-is (suc x) (λ y. getD (A .R) y 0) ∙ sumN-ext (suc x) (λ y. getD (A .R) y 0) (λ y. fileCell fund y .R) (λ y h. R-cell fund n y (omega arith)))
+      (cells-distance X (fund .header .order) (fund .header .frequency) (lives fund) small p x l)
+
+  close-premium : natAbs (pos (fileDenominator fund) *ℤ A .premium -ℤ exactPremiumAt fund (A .mean)) ≤ fileDenominator fund * A .within
+  unfolding fileDenominator exactPremiumAt fileTerms fileLambda fileTruncation accepted
+  close-premium =
+      subst (λ (ys : List Cell). natAbs (pos (fileDenominator fund) *ℤ premium (fund .header .deductible) (fileMean fund) ys -ℤ exactPremiumAt fund (fileMean fund)) ≤ fileDenominator fund * within (fund .header .deductible) (fileTruncation fund) ys)
+      (sym (fileCells-are fund))
+      (premium-distance X (fund .header .order) (fund .header .frequency) (lives fund) small p (fund .header .deductible) (fileMean fund) (a .deductible))
+
+pub distance : (file : List ℕ) (n : Lengths) (fund : FundFile) → reading file ≡ read fund → answer file n .verdict ≡ Accepted → WithinBounds fund (answer file n)
+distance file n fund r e =
+    let c = answer-accepted file n fund r e in
+    let ok = read-ranges file fund r in
+    let a = accepts fund n (fileCells fund) (c .verdict-is) in
+    subst (λ (x : Answer). WithinBounds fund x) (sym (c .answer-is))
+    (record { cell = close-cell fund n ok a; cells = close-cells fund n ok a; premium = close-premium fund n ok a })
+
+pub average : (file : List ℕ) (n : Lengths) (fund : FundFile) → reading file ≡ read fund → answer file n .verdict ≡ Accepted → fileLambda fund ≡ 0 →
+    exactPremiumAt fund (answer file n .mean) *ℤ pos (10 ^ (6 * singles (lives fund))) ≡ pos (10 ^ 12 * excess (fund .header .deductible) (outcomes (lives fund)) * fileDenominator fund)
+unfolding exactPremiumAt fileDenominator fileLambda fileMean accepted
+average file n fund r e z =
+    let c = answer-accepted file n fund r e in
+    let a = accepts fund n (fileCells fund) (c .verdict-is) in
+    ap (λ (x : Answer). exactPremiumAt fund (x .mean) *ℤ pos (10 ^ (6 * singles (lives fund)))) (c .answer-is)
+    ∙ average-excess (fund .header .horizon) (fund .header .order) (fund .header .frequency) (lives fund) (a .calm-lives) (all-folded fund) z (fund .header .deductible) (a .deductible)

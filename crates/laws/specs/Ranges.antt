@@ -1,0 +1,253 @@
+-- What holds of every fund that is read: the header's figures are in their ranges, and so are all rate rows and member rows and
+-- their numbers (read-ranges).
+use mathlib.Core.Path.{_≡_, refl, sym, _∙_, ap, subst}
+use mathlib.Core.Bool.{Bool, true, false, _&&_}
+use mathlib.Core.List.{List, [], _∷_, _++_, map, append-nil, append-assoc}
+use mathlib.Core.Option.{Option, none, some}
+use Prim.Native.Nat.{ℕ, zero, suc, _+_, _≤_, _<_}
+use native.Mathlib.Omega.{arith}
+use lib.Dec.{T, eqb, leb, ltb, eqb→eq, leb→le, ltb→lt}
+use lib.ListN.{length, length-append, length-map}
+use Rattle.fund.specs.declared.Fund.{Fund}
+use Rattle.fund.specs.declared.Rate.{Rate}
+use Rattle.fund.specs.declared.Member.{Member}
+use Rattle.fund.specs.declared.Refusal.{Refusal}
+use Rattle.fund.specs.declared.Refusal.the-variants.{Form, Range}
+use Rattle.fund.specs.Limits.{least-edition, most-edition, most-horizon, least-order, most-order, most-frequency, most-deductible, most-rates, most-age, most-rate, most-members, least-group, most-group, most-amount}
+use Rattle.fund.specs.Base.{if_then_else_}
+use Rattle.fund.specs.Lines.{Line, lines}
+use Rattle.fund.specs.Spelling.{value, fields, allNumbers, numbers, behind, spelled}
+use Rattle.fund.specs.Reading.{FundFile, Reading, read, stopped, between, HeaderLine, headerLines, headerOf, Row, rateRow, memberRow, endRow, otherRow, rowOf, rising, rateInRange, memberInRange, noMember, atEnd, readRows, readHeader, reading}
+use Rattle.laws.specs.Accepted.{All}
+
+pub record RateOk (r : Rate) : Type 0 where
+  pub age : r .age ≤ most-age
+  pub q : r .q ≤ most-rate
+  pub i : r .i ≤ most-rate
+  pub both : r .q + r .i ≤ most-rate
+
+pub record MemberOk (m : Member) : Type 0 where
+  pub age : m .age ≤ most-age
+  pub group-least : least-group ≤ m .group
+  pub group-most : m .group ≤ most-group
+  pub d : m .d ≤ most-amount
+  pub e : m .e ≤ most-amount
+
+pub record RowsOk (rs : List Rate) (ms : List Member) : Type 0 where
+  pub rates : All RateOk rs
+  pub members : All MemberOk ms
+  pub few-rates : length rs ≤ most-rates
+  pub few-members : length ms ≤ most-members
+
+-- ---- tests
+pub and-true : (a b : Bool) → a && b ≡ true → (a ≡ true) × (b ≡ true)
+and-true true b e = (refl, e)
+and-true false b e = let z : _≡_ {A = ℕ} 0 1 = ap (λ c. elim c [ true ↦ 1 | false ↦ 0 ]) e in absurd (omega arith)
+
+true-T : (b : Bool) → b ≡ true → T b
+true-T b e = subst (λ c. T c) (sym e) tt
+
+pub at-most : (m n : ℕ) → leb m n ≡ true → m ≤ n
+at-most m n e = leb→le m n (true-T (leb m n) e)
+
+pub below : (m n : ℕ) → ltb m n ≡ true → m < n
+below m n e = ltb→lt m n (true-T (ltb m n) e)
+
+pub between-true : (least most n : ℕ) → between least most n ≡ true → (least ≤ n) × (n ≤ most)
+unfolding between
+between-true least most n e = let h = and-true (leb least n) (leb n most) e in (at-most least n (h .0), at-most n most (h .1))
+
+all-snoc : {A : Type 0} (P : A → Type 0) (l : List A) (a : A) → All P l → P a → All P (l ++ (a ∷ []))
+all-snoc P [] a h k = (k, tt)
+all-snoc P (b ∷ l) a h k = (h .0, all-snoc P l a (h .1) k)
+
+rate-ok : (before : List Rate) (r : Rate) → rateInRange before r ≡ true → (length before < most-rates) × RateOk r
+unfolding rateInRange
+rate-ok before r e =
+    let h5 = and-true _ (leb (r .q + r .i) most-rate) e in
+    let h4 = and-true _ (leb (r .i) most-rate) (h5 .0) in
+    let h3 = and-true _ (leb (r .q) most-rate) (h4 .0) in
+    let h2 = and-true _ (rising before (r .age)) (h3 .0) in
+    let h1 = and-true (ltb (length before) most-rates) (leb (r .age) most-age) (h2 .0) in (
+      below _ _ (h1 .0),
+      record { age = at-most _ _ (h1 .1); q = at-most _ _ (h3 .1); i = at-most _ _ (h4 .1); both = at-most _ _ (h5 .1) }
+    )
+
+member-ok : (before : List Member) (m : Member) → memberInRange before m ≡ true → (length before < most-members) × MemberOk m
+unfolding memberInRange
+member-ok before m e =
+    let h4 = and-true _ (leb (m .e) most-amount) e in
+    let h3 = and-true _ (leb (m .d) most-amount) (h4 .0) in
+    let h2 = and-true _ (between least-group most-group (m .group)) (h3 .0) in
+    let h1 = and-true (ltb (length before) most-members) (leb (m .age) most-age) (h2 .0) in
+    let g = between-true least-group most-group (m .group) (h2 .1) in (
+      below _ _ (h1 .0),
+      record { age = at-most _ _ (h1 .1); group-least = g .0; group-most = g .1; d = at-most _ _ (h3 .1); e = at-most _ _ (h4 .1) }
+    )
+
+-- ---- the rows
+pub record Reads (header : Fund) (fund : FundFile) : Type 0 where
+  pub header-is : fund .header ≡ header
+  pub rows : RowsOk (fund .rates) (fund .members)
+
+never : (why : Refusal) (n : ℕ) (fund : FundFile) → stopped why n ≡ read fund → ⊥
+never why n fund e = let z : _≡_ {A = ℕ} 0 1 = cc in omega arith
+
+more-rates : (rates : List Rate) (members : List Member) (r : Rate) → RowsOk rates members → rateInRange rates r ≡ true → RowsOk (rates ++ (r ∷ [])) members
+more-rates rates members r k e =
+    let h = rate-ok rates r e in
+    let l : length rates < most-rates = h .0 in
+    record {
+      rates = all-snoc RateOk rates r (k .rates) (h .1);
+      members = k .members;
+      few-rates = omega (arith, length-append rates (r ∷ []));
+      few-members = k .few-members
+    }
+
+more-members : (rates : List Rate) (members : List Member) (m : Member) → RowsOk rates members → memberInRange members m ≡ true → RowsOk rates (members ++ (m ∷ []))
+more-members rates members m k e =
+    let h = member-ok members m e in
+    let l : length members < most-members = h .0 in
+    record {
+      rates = k .rates;
+      members = all-snoc MemberOk members m (k .members) (h .1);
+      few-rates = k .few-rates;
+      few-members = omega (arith, length-append members (m ∷ []))
+    }
+
+ended : (n : ℕ) (header : Fund) (rates : List Rate) (members : List Member) (ls : List Line) (fund : FundFile) → RowsOk rates members →
+    atEnd n (record { header = header; rates = rates; members = members }) ls ≡ read fund → Reads header fund
+unfolding atEnd
+ended n header rates members [] fund k e =
+    let file : FundFile = record { header = header; rates = rates; members = members } in
+    let z : file ≡ fund = cc in
+    subst (λ f. Reads header f) z (record { header-is = refl; rows = k })
+ended n header rates members (l ∷ ls) fund k e = absurd (never Form n fund e)
+
+-- reading stops unless a test passes
+pass : (b : Bool) (why : Refusal) (n : ℕ) (next : Reading) (fund : FundFile) → elim b [ false ↦ stopped why n | true ↦ next ] ≡ read fund → (b ≡ true) × (next ≡ read fund)
+pass true why n next fund e = (refl, e)
+pass false why n next fund e = absurd (never why n fund e)
+
+pub rows-ranges : (ls : List Line) (n : ℕ) (header : Fund) (rates : List Rate) (members : List Member) (fund : FundFile) → RowsOk rates members →
+    readRows n header rates members ls ≡ read fund → Reads header fund
+unfolding readRows
+rows-ranges [] n header rates members fund k e = absurd (never Form n fund e)
+rows-ranges (l ∷ ls) n header rates members fund k e = go (rowOf l) refl e (λ rs ms. rows-ranges ls (suc n) header rs ms fund)
+  where
+    go : (row : Row) → rowOf l ≡ row → readRows n header rates members (l ∷ ls) ≡ read fund →
+        ((rs : List Rate) (ms : List Member) → RowsOk rs ms → readRows (suc n) header rs ms ls ≡ read fund → Reads header fund) → Reads header fund
+    go (rateRow r) s h ih =
+        let h1 = pass (noMember members) Form n _ fund (rw (s, readRows) at h) in
+        let h2 = pass (rateInRange rates r) Range n (readRows (suc n) header (rates ++ (r ∷ [])) members ls) fund (h1 .1) in
+        ih (rates ++ (r ∷ [])) members (more-rates rates members r k (h2 .0)) (h2 .1)
+    go (memberRow m) s h ih =
+        let h2 = pass (memberInRange members m) Range n (readRows (suc n) header rates (members ++ (m ∷ [])) ls) fund (rw (s, readRows) at h) in
+        ih rates (members ++ (m ∷ [])) (more-members rates members m k (h2 .0)) (h2 .1)
+    go (endRow c) s h ih =
+        let h2 = pass (eqb c (length members)) Range n (atEnd (suc n) (record { header = header; rates = rates; members = members }) ls) fund (rw (s, readRows) at h) in
+        ended (suc n) header rates members ls fund k (h2 .1)
+    go otherRow s h ih = absurd (never Form n fund (rw (s, readRows) at h))
+
+-- ---- the header
+numbers-length : (count : ℕ) (text v : List ℕ) → numbers count text ≡ some v → length v ≡ count
+unfolding numbers
+numbers-length count text v e = go (eqb (length (fields text)) count) refl (allNumbers (fields text)) e
+  where
+    go : (b : Bool) → eqb (length (fields text)) count ≡ b → (c : Bool) → (if b && c then some (map value (fields text)) else none) ≡ some v → length v ≡ count
+    go true s true h =
+        let z : map value (fields text) ≡ v = cc in
+        ap length (sym z) ∙ length-map (fields text) value ∙ eqb→eq (length (fields text)) count (true-T (eqb (length (fields text)) count) s)
+    go true s false h = let z : _≡_ {A = ℕ} 0 1 = cc in absurd (omega arith)
+    go false s c h = let z : _≡_ {A = ℕ} 0 1 = cc in absurd (omega arith)
+
+pub spelled-length : (key : List ℕ) (count : ℕ) (l : Line) (v : List ℕ) → spelled key count l ≡ some v → length v ≡ count
+unfolding spelled
+spelled-length key count l v e = go (l .ended) e
+  where
+    none-some : none ≡ some v → length v ≡ count
+    none-some h = let z : _≡_ {A = ℕ} 0 1 = cc in absurd (omega arith)
+
+    text : (o : Option (List ℕ)) → elim o [ none ↦ none | some t ↦ numbers count t ] ≡ some v → length v ≡ count
+    text none h = none-some h
+    text (some t) h = numbers-length count t v h
+
+    go : (b : Bool) → elim b [ true ↦ elim (behind key (l .text)) [ none ↦ none | some t ↦ numbers count t ] | false ↦ none ] ≡ some v → length v ≡ count
+    go true h = text (behind key (l .text)) h
+    go false h = none-some h
+
+-- numbers in the ranges of header lines
+abbrev pub Within : List HeaderLine → List ℕ → Type 0
+Within [] [] = Unit {0}
+Within [] (v ∷ vs) = ⊥
+Within (h ∷ hs) [] = ⊥
+Within (h ∷ hs) (v ∷ vs) = ((h .least ≤ v) × (v ≤ h .most)) × Within hs vs
+
+pub record ReadsHeader (hs : List HeaderLine) (ns : List ℕ) (fund : FundFile) : Type 0 where
+  pub values : List ℕ
+  pub values-within : Within hs values
+  pub reads : Reads (headerOf (ns ++ values)) fund
+
+header-ranges : (hs : List HeaderLine) (n : ℕ) (ns : List ℕ) (ls : List Line) (fund : FundFile) → readHeader hs n ns ls ≡ read fund → ReadsHeader hs ns fund
+unfolding readHeader
+header-ranges [] n ns ls fund e =
+    record { values = []; values-within = tt; reads = rw append-nil (rows-ranges ls n (headerOf ns) [] [] fund (record { rates = tt; members = tt; few-rates = omega arith; few-members = omega arith }) e) }
+header-ranges (h ∷ hs) n ns [] fund e = absurd (never Form n fund e)
+header-ranges (h ∷ hs) n ns (l ∷ ls) fund e = go (spelled (h .key) 1 l) refl e (λ ms. header-ranges hs (suc n) ms ls fund)
+  where
+    go : (o : Option (List ℕ)) → spelled (h .key) 1 l ≡ o → readHeader (h ∷ hs) n ns (l ∷ ls) ≡ read fund →
+        ((ms : List ℕ) → readHeader hs (suc n) ms ls ≡ read fund → ReadsHeader hs ms fund) → ReadsHeader (h ∷ hs) ns fund
+    go none s k ih = absurd (never Form n fund (rw (s, readHeader) at k))
+    go (some []) s k ih = let z = spelled-length (h .key) 1 l [] s in absurd (omega arith)
+    go (some (v ∷ w ∷ vs)) s k ih = let z = spelled-length (h .key) 1 l (v ∷ w ∷ vs) s in absurd (omega arith)
+    go (some (v ∷ [])) s k ih =
+        let h2 = pass (between (h .least) (h .most) v) Range n (readHeader hs (suc n) (ns ++ (v ∷ [])) ls) fund (rw (s, readHeader) at k) in
+        let r = ih (ns ++ (v ∷ [])) (h2 .1) in
+        record {
+          values = v ∷ r .values;
+          values-within = (between-true (h .least) (h .most) v (h2 .0), r .values-within);
+          reads = subst (λ ms. Reads (headerOf ms) fund) (append-assoc ns (v ∷ []) (r .values)) (r .reads)
+        }
+
+pub record HeaderOk (f : Fund) : Type 0 where
+  pub rates-least : least-edition ≤ f .rates
+  pub rates-most : f .rates ≤ most-edition
+  pub members-least : least-edition ≤ f .members
+  pub members-most : f .members ≤ most-edition
+  pub horizon : f .horizon ≤ most-horizon
+  pub order-least : least-order ≤ f .order
+  pub order-most : f .order ≤ most-order
+  pub frequency : f .frequency ≤ most-frequency
+  pub deductible : f .deductible ≤ most-deductible
+
+pub record FundOk (fund : FundFile) : Type 0 where
+  pub header : HeaderOk (fund .header)
+  pub rows : RowsOk (fund .rates) (fund .members)
+
+header-ok : (vs : List ℕ) → Within headerLines vs → HeaderOk (headerOf vs)
+unfolding headerLines headerOf
+header-ok (a ∷ b ∷ c ∷ d ∷ e ∷ f ∷ []) w =
+    record {
+      rates-least = w .0 .0;
+      rates-most = w .0 .1;
+      members-least = w .1 .0 .0;
+      members-most = w .1 .0 .1;
+      horizon = w .1 .1 .0 .1;
+      order-least = w .1 .1 .1 .0 .0;
+      order-most = w .1 .1 .1 .0 .1;
+      frequency = w .1 .1 .1 .1 .0 .1;
+      deductible = w .1 .1 .1 .1 .1 .0 .1
+    }
+header-ok [] w = absurd w
+header-ok (a ∷ []) w = absurd (w .1)
+header-ok (a ∷ b ∷ []) w = absurd (w .1 .1)
+header-ok (a ∷ b ∷ c ∷ []) w = absurd (w .1 .1 .1)
+header-ok (a ∷ b ∷ c ∷ d ∷ []) w = absurd (w .1 .1 .1 .1)
+header-ok (a ∷ b ∷ c ∷ d ∷ e ∷ []) w = absurd (w .1 .1 .1 .1 .1)
+header-ok (a ∷ b ∷ c ∷ d ∷ e ∷ f ∷ g ∷ vs) w = absurd (w .1 .1 .1 .1 .1 .1)
+
+pub read-ranges : (file : List ℕ) (fund : FundFile) → reading file ≡ read fund → FundOk fund
+unfolding reading
+read-ranges file fund e =
+    let r = header-ranges headerLines 1 [] (lines file) fund e in
+    record { header = subst (λ f. HeaderOk f) (sym (r .reads .header-is)) (header-ok (r .values) (r .values-within)); rows = r .reads .rows }

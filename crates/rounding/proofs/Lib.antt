@@ -1,0 +1,5 @@
+pub mod Laws
+pub mod Rest
+pub mod Word
+mod Product
+mod Units

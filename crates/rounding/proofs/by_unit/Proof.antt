@@ -1,0 +1,22 @@
+-- The product is a times the whole units of b, and a times the rest of b (`split-right`).
+-- What `with_whole` ensures is asked at the second of these.
+use Prim.Native.Nat.{_%_, _*_}
+use borrow.Author.Needs.{needs}
+use Rattle.rounding.proofs.Product.{split-right}
+use Rattle.rounding.proofs.by_unit.Statement.{statement}
+use Rattle.rounding.proofs.by_unit.Tie as tie
+
+part-by-unit-requires : tie.Need-part-by-unit-requires
+part-by-unit-requires c κs = search needs
+
+with-whole-requires : tie.Need-with-whole-requires
+with-whole-requires c κs = search needs
+
+returns : tie.Need-returns
+returns c =
+    let s = c .before .before .args in
+    rw (split-right (s .a) (s .b) 1000000000000)
+    (c .with-whole .ensures (s .a * (s .b % 1000000000000)) 1000000000000 (c .before .part-by-unit .ensures .0))
+
+pub by-unit-spec : {M : Type 1} → statement M
+by-unit-spec = tie.close (tie.spec part-by-unit-requires with-whole-requires returns)
