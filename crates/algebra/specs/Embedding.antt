@@ -3,13 +3,13 @@ use mathlib.Core.Path.{_≡_, sym, _∙_, ap}
 use Prim.Native.Nat.{ℕ, suc, _+_ as _+ⁿ_, _*_ as _*ⁿ_, _-_ as _∸_, _≤_ as _≤ⁿ_}
 use native.Mathlib.Omega.{arith}
 use lib.Dec.{T}
-use lib.IntN.{ℤ, pos, negsuc, negℤ, natAbs, _-ℤ_, _*ℤ_}
+use lib.IntN.{ℤ, pos, negsuc, negℤ, natAbs, +ℤ-idl, -ℤ-+ℤ-cancel, _+ℤ_, _-ℤ_, _*ℤ_}
 use lib.Signed.{nonNeg}
 use Rattle.algebra.specs.IntegerOrder.{≤-pos}
 use Rattle.algebra.specs.Order as O
 use Rattle.algebra.specs.Solver as R
-use Rattle.algebra.specs.Solver.{_⊕_, _⊝_, _:=_, ring2}
-use Rattle.algebra.specs.Q.{ℚ, ℚ-ring, ℚ-ord, negQ, zeroQ, oneQ, _+_, _-_, _*_, _≤_, abs, nonneg-≤, abs-of-nn, abs-neg}
+use Rattle.algebra.specs.Solver.{𝟎, _⊕_, _⊝_, _:=_, ring2}
+use Rattle.algebra.specs.Q.{ℚ, ℚ-ring, ℚ-ord, negQ, zeroQ, oneQ, _+_, _-_, _*_, _≤_, abs, ≤-of-eq, nonneg-≤, abs-of-nn, abs-neg}
 pub use Rattle.algebra.specs.Rational.{ofℤ, ofℤ-one, ofℤ-add}
 
 abbrev pub nat : ℕ → ℚ
@@ -64,3 +64,13 @@ abs-nat n = abs-of-nn (nat n) (nat-nn n)
 pub abs-ofℤ : (a : ℤ) → abs (ofℤ a) ≡ nat (natAbs a)
 abs-ofℤ (pos a) = abs-nat a
 abs-ofℤ (negsuc a) = ap abs (ofℤ-neg (pos (suc a))) ∙ abs-neg (nat (suc a)) ∙ abs-nat (suc a)
+
+pub ofℤ-injective : (a b : ℤ) → ofℤ a ≡ ofℤ b → a ≡ b
+ofℤ-injective a b e = sym (-ℤ-+ℤ-cancel a b) ∙ ap (λ z. z +ℤ b) (none (a -ℤ b) (nat-reflect (natAbs (a -ℤ b)) 0 (≤-of-eq zero))) ∙ +ℤ-idl b
+  where
+    zero : nat (natAbs (a -ℤ b)) ≡ nat 0
+    zero = sym (abs-ofℤ (a -ℤ b)) ∙ ap abs (ofℤ-sub a b ∙ ap (λ y. y - ofℤ b) e ∙ R.ring1 ℚ-ring (λ y. y ⊝ y := 𝟎) tt (ofℤ b) ∙ sym nat-zero) ∙ abs-nat 0
+
+    none : (z : ℤ) → natAbs z ≤ⁿ 0 → z ≡ pos 0
+    none (pos n) h = ap pos (let e : n ≡ 0 = omega arith in e)
+    none (negsuc n) h = absurd (omega arith)

@@ -5,6 +5,7 @@ pub mod Solver
 pub mod Order
 pub mod Linear
 pub mod Sum
+pub mod NatSum
 pub mod Series
 pub mod SeriesRing
 pub mod History

@@ -1,6 +1,6 @@
 -- Powers of a rational number (powQ), the signs (-1)ⁿ (sgn), the geometric sum (geometric), and n! with 1 / n! (fact, ifact).
-use mathlib.Core.Path.{_≡_, _∙_, ap}
-use Prim.Native.Nat.{ℕ, zero, suc, _+_ as _+ⁿ_, _*_ as _*ⁿ_}
+use mathlib.Core.Path.{_≡_, sym, _∙_, ap}
+use Prim.Native.Nat.{ℕ, zero, suc, _+_ as _+ⁿ_, _*_ as _*ⁿ_, _^_}
 use native.Mathlib.Nat as NL
 use Rattle.algebra.specs.Solver.{_⊝_, ring1, ring2, ring3, ring4, 𝟎, 𝟏, _⊕_, _⊗_, ⊖_, _:=_}
 use Rattle.algebra.specs.Q.{ℚ, ℚ-ring, negQ, zeroQ, oneQ, _+_, _-_, _*_, _≤_, abs, one-nn, mul-nn, abs-of-nn, abs-neg}
@@ -20,6 +20,14 @@ pub powQ-add : (a : ℚ) (r m : ℕ) → powQ a (r +ⁿ m) ≡ powQ a r * powQ a
 powQ-add a r zero = ap (powQ a) (NL.add-zero r) ∙ ring1 ℚ-ring (λ l. l := l ⊗ 𝟏) tt (powQ a r)
 powQ-add a r (suc m) = ap (powQ a) (NL.add-suc r m) ∙ ap (λ x. a * x) (powQ-add a r m)
     ∙ ring3 ℚ-ring (λ a b c. a ⊗ (b ⊗ c) := b ⊗ (a ⊗ c)) tt a (powQ a r) (powQ a m)
+
+pub powQ-mul : (a : ℚ) (k n : ℕ) → powQ (powQ a k) n ≡ powQ a (k *ⁿ n)
+powQ-mul a k zero = ap (powQ a) (sym (NL.mul-zero k))
+powQ-mul a k (suc n) = ap (λ x. powQ a k * x) (powQ-mul a k n) ∙ sym (powQ-add a k (k *ⁿ n)) ∙ ap (powQ a) (NL.add-comm k (k *ⁿ n) ∙ sym (NL.mul-suc k n))
+
+pub nat-pow : (b n : ℕ) → nat (b ^ n) ≡ powQ (nat b) n
+nat-pow b zero = ap nat (NL.pow-zero b) ∙ ofℤ-one
+nat-pow b (suc n) = ap nat (NL.pow-succ' b n) ∙ nat-mul b (b ^ n) ∙ ap (λ x. nat b * x) (nat-pow b n)
 
 -- (-1)ⁿ
 abbrev pub sgn : ℕ → ℚ

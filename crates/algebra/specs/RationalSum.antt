@@ -1,12 +1,13 @@
 -- Finite sums of rational numbers: Sum's laws at ℚ, and with the order: monotone, growing, the absolute value of a sum, two
 -- sums that are close term by term (sum-close), and sums of whole numbers (nat-sum, ofℤ-sum, whole-sum-close).
-use mathlib.Core.Path.{_≡_, refl, sym, _∙_, ap, ap₂}
+use mathlib.Core.Path.{_≡_, sym, _∙_, ap, ap₂}
 use Prim.Native.Nat.{ℕ, zero, suc, _<_, _+_ as _+ⁿ_, _-_ as _∸_, _≤_ as _≤ⁿ_}
 use native.Mathlib.Omega.{arith}
 use lib.IntN.{ℤ}
 use Rattle.algebra.specs.Integer.{ℤ-ring}
 use Rattle.algebra.specs.Sum as S
 use Rattle.algebra.specs.Solver.{𝟎, 𝟏, _⊕_, _⊗_, _⊝_, _:=_, ring1, ring2, ring4}
+pub use Rattle.algebra.specs.NatSum.{sumN, sumN-ext}
 use Rattle.algebra.specs.Q.{ℚ, ℚ-ring, zeroQ, oneQ, _+_, _-_, _*_, _≤_, abs, ≤-refl, ≤-trans, ≤-of-eq, ≤-add, ≤-add-nn, ≤-nn-add}
 use Rattle.algebra.specs.Q.{add-nn, abs-add, abs-subst, abs-zero-le, abs-add-le}
 use Rattle.algebra.specs.Embedding.{nat, ofℤ, ofℤ-add, nat-zero, nat-add, nat-suc, nat-nn}
@@ -14,10 +15,6 @@ use Rattle.algebra.specs.Embedding.{nat, ofℤ, ofℤ-add, nat-zero, nat
 -- f 0 + .. + f (n - 1), in ℚ, in ℕ and in ℤ
 abbrev pub sum : ℕ → (ℕ → ℚ) → ℚ
 sum n f = S.sum ℚ-ring n f
-
-abbrev pub sumN : ℕ → (ℕ → ℕ) → ℕ
-sumN zero f = 0
-sumN (suc n) f = sumN n f +ⁿ f n
 
 abbrev pub sumZ : ℕ → (ℕ → ℤ) → ℤ
 sumZ n f = S.sum ℤ-ring n f
@@ -80,10 +77,6 @@ sum-close (suc n) a b e h = abs-subst (ring4 ℚ-ring (λ s t x y. (s ⊝ t) ⊕
     (abs-add-le (sum n a - sum n b) (a n - b n) (sum n e) (e n) (sum-close n a b e (λ k l. h k (omega arith))) (h n (omega arith)))
 
 -- ---- whole numbers
-pub sumN-ext : (n : ℕ) (f g : ℕ → ℕ) → ((k : ℕ) → k < n → f k ≡ g k) → sumN n f ≡ sumN n g
-sumN-ext zero f g h = refl
-sumN-ext (suc n) f g h = ap₂ _+ⁿ_ (sumN-ext n f g (λ k l. h k (omega arith))) (h n (omega arith))
-
 pub nat-sum : (n : ℕ) (f : ℕ → ℕ) → nat (sumN n f) ≡ sum n (λ k. nat (f k))
 nat-sum zero f = nat-zero
 nat-sum (suc n) f = nat-add (sumN n f) (f n) ∙ ap (λ x. x + nat (f n)) (nat-sum n f)

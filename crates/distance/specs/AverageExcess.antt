@@ -4,20 +4,20 @@
 use mathlib.Core.Path.{_≡_, refl, sym, _∙_, ap, ap₂, fun-ext}
 use mathlib.Core.Bool.{Bool, true, false}
 use mathlib.Core.List.{List, [], _∷_}
-use Prim.Native.Nat.{ℕ, zero, suc, _<_, _≤_ as _≤ⁿ_, _+_ as _+ⁿ_, _*_ as _*ⁿ_, _-_ as _∸_, _^_}
+use Prim.Native.Nat.{ℕ, suc, _≤_ as _≤ⁿ_, _+_ as _+ⁿ_, _*_ as _*ⁿ_, _-_ as _∸_, _^_}
 use native.Mathlib.Nat.{add-mul, mul-assoc, mul-comm, mul-left-comm}
 use native.Mathlib.Omega.{arith}
-use lib.Dec.{eqb}
-use lib.IntN.{ℤ, pos, negsuc, natAbs, +ℤ-idl, -ℤ-+ℤ-cancel, _+ℤ_, _-ℤ_, _*ℤ_}
+use lib.IntN.{ℤ, pos, _+ℤ_, _-ℤ_, _*ℤ_}
 use Rattle.algebra.specs.Laws as L
 use Rattle.algebra.specs.SeriesRing as SR
-use Rattle.algebra.specs.Q.{ℚ, ℚ-ring, negQ, zeroQ, oneQ, _+_, _-_, _*_, ≤-of-eq, abs}
-use Rattle.algebra.specs.Embedding.{ofℤ, ofℤ-add, ofℤ-mul, ofℤ-sub, nat, nat-zero, nat-add, nat-mul, nat-reflect, abs-nat, abs-ofℤ}
+use Rattle.algebra.specs.Q.{ℚ-ring, negQ, zeroQ, oneQ, _+_, _-_, _*_}
+use Rattle.algebra.specs.Embedding.{ofℤ, ofℤ-add, ofℤ-mul, ofℤ-sub, ofℤ-injective, nat, nat-zero, nat-add, nat-mul}
 use Rattle.algebra.specs.Quotient.{over, over-zero}
 use Rattle.algebra.specs.RationalSum.{sum, sum-ext, sum-mul, sum-zero, sum-first, nat-sum, ofℤ-sum}
-use Rattle.algebra.specs.Power.{powQ, ifact}
+use Rattle.algebra.specs.NatSum.{sumN-term}
+use Rattle.algebra.specs.Power.{powQ, nat-pow, ifact}
 use Rattle.algebra.specs.PowerSeries.{Ser, _⋆_, oneS, zeroS, pow, const-product}
-use Rattle.algebra.specs.Solver.{ring1, ring2, ring3, ring4, ring5, ring6, 𝟎, _⊕_, _⊗_, _⊝_, _:=_}
+use Rattle.algebra.specs.Solver.{ring2, ring3, ring4, ring5, ring6, _⊕_, _⊗_, _⊝_, _:=_}
 use Rattle.expansion.specs.Member.{ownProduct}
 use Rattle.expansion.specs.Poisson.{poisson}
 use Rattle.expansion.specs.Exponential.{expSum}
@@ -29,30 +29,14 @@ use Rattle.fund.specs.Exact.{singles, denominator, singlePart, weightAt, exact,
 use Rattle.laws.specs.Accepted.{All, Calm}
 use Rattle.laws.specs.Cells.{sumℤ-is}
 use Rattle.distance.specs.Lives.{members, W, rate, FoldedLife}
-use Rattle.distance.specs.Errors.{U}
-use Rattle.distance.specs.Exact.{sixes, nat-pow, single-is, P, exact-is}
+use Rattle.distance.specs.Errors.{U, nat-units}
+use Rattle.distance.specs.Exact.{sixes, single-is, P, exact-is}
+use Rattle.distance.specs.Members.{weights-within}
 use Rattle.distance.specs.Outcomes.{expect, below, shortfall-is, weights-are, claims, claims-are, excess-is}
 
 -- ---- no weight is left
-half-le : (b : Bool) (x : ℕ) → (if b then x else 0) ≤ⁿ x
-half-le true x = omega arith
-half-le false x = omega arith
-
-pub weightAt-le : (a : ℕ) (ms : List Life) (k : ℕ) → weightAt a ms k ≤ⁿ lambda a ms
-unfolding weightAt lambda total
-weightAt-le a ms zero = omega arith
-weightAt-le a [] (suc k) = omega arith
-weightAt-le a (m ∷ ms) (suc k) = go (single m) (weightAt-le a ms (suc k))
-  where
-    here : ℕ
-    here = (if eqb (m .d) (suc k) then weight a (m .q) else 0) +ⁿ (if eqb (m .e) (suc k) then weight a (m .i) else 0)
-
-    both : weight a (claim m) ≡ weight a (m .q) +ⁿ weight a (m .i)
-    both = omega (arith, add-mul (m .q) (m .i) a)
-
-    go : (b : Bool) → weightAt a ms (suc k) ≤ⁿ lambda a ms → (if b then 0 else here) +ⁿ weightAt a ms (suc k) ≤ⁿ (if b then 0 else weight a (claim m)) +ⁿ lambda a ms
-    go true h = omega arith
-    go false h = omega (arith, both, half-le (eqb (m .d) (suc k)) (weight a (m .q)), half-le (eqb (m .e) (suc k)) (weight a (m .i)))
+no-weight : (a : ℕ) (ms : List Life) → lambda a ms ≡ 0 → (k : ℕ) → weightAt a ms k ≡ 0
+no-weight a ms z k = let h = weights-within a ms (suc k) in let l = sumN-term (suc k) k (weightAt a ms) (omega arith) in omega arith
 
 -- group 2 adds nothing to the mean
 pub mean-claims : (a : ℕ) (ms : List Life) → lambda a ms ≡ 0 → mean a ms ≡ 1000000 *ⁿ claims ms
@@ -77,21 +61,6 @@ mean-claims a (m ∷ ms) h = go (single m) h (mean-claims a ms)
     go true h ih = let e = ih (omega arith) in omega arith
     go false h ih = let e = ih (omega arith) in let z = none (omega arith) in omega arith
 
--- ---- whole numbers in ℚ
-in-units : (k : ℕ) → nat (k *ⁿ 10 ^ 12) ≡ nat k * U
-unfolding unit
-in-units k = nat-mul k (10 ^ 12)
-
-pub ofℤ-injective : (a b : ℤ) → ofℤ a ≡ ofℤ b → a ≡ b
-ofℤ-injective a b e = sym (-ℤ-+ℤ-cancel a b) ∙ ap (λ z. z +ℤ b) (none (a -ℤ b) (nat-reflect (natAbs (a -ℤ b)) 0 (≤-of-eq zero))) ∙ +ℤ-idl b
-  where
-    zero : nat (natAbs (a -ℤ b)) ≡ nat 0
-    zero = sym (abs-ofℤ (a -ℤ b)) ∙ ap abs (ofℤ-sub a b ∙ ap (λ y. y - ofℤ b) e ∙ ring1 ℚ-ring (λ y. y ⊝ y := 𝟎) tt (ofℤ b) ∙ sym nat-zero) ∙ abs-nat 0
-
-    none : (z : ℤ) → natAbs z ≤ⁿ 0 → z ≡ pos 0
-    none (pos n) h = ap pos (let e : n ≡ 0 = omega arith in e)
-    none (negsuc n) h = absurd (omega arith)
-
 -- ---- the exact distribution without weights
 pow-none : (n x : ℕ) → pow zeroS (suc n) x ≡ zeroQ
 pow-none n x = SR.product-zero ℚ-ring x (pow zeroS n)
@@ -111,7 +80,7 @@ exp-none K =
 module _ (X r a : ℕ) (ms : List Life) (calm : All Calm ms) (folded : All FoldedLife ms) (none : lambda a ms ≡ 0) where
   no-weights : W a ms ≡ zeroS
   unfolding W
-  no-weights = fun-ext (λ k. ap (λ y. over (nat y) unit) (let h = weightAt-le a ms k in let e : weightAt a ms k ≡ 0 = omega arith in e) ∙ ap (λ y. over y unit) nat-zero ∙ over-zero unit)
+  no-weights = fun-ext (λ k. ap (λ y. over (nat y) unit) (no-weight a ms none k) ∙ ap (λ y. over y unit) nat-zero ∙ over-zero unit)
 
   no-rate : negQ (rate a ms) ≡ zeroQ
   unfolding rate
@@ -141,7 +110,7 @@ module _ (X r a : ℕ) (ms : List Life) (calm : All Calm ms) (folded : All Folde
   sum-single M l =
       ap (λ y. y * nat G) (ap ofℤ (sumℤ-is M g) ∙ ofℤ-sum M g) ∙ ℚ-ring .mul-comm (sum M (λ x. ofℤ (g x))) (nat G) ∙ sym (sum-mul M (nat G) (λ x. ofℤ (g x)))
       ∙ sum-ext M (λ x. nat G * ofℤ (g x)) (λ x. nat Δ * U * nat ((M ∸ x) *ⁿ singlePart ms x))
-      (λ x h. ap (λ y. nat G * y) (ofℤ-mul (pos ((M ∸ x) *ⁿ 10 ^ 12)) (exact X a ms x) ∙ ap (λ y. y * ofℤ (exact X a ms x)) (in-units (M ∸ x)))
+      (λ x h. ap (λ y. nat G * y) (ofℤ-mul (pos ((M ∸ x) *ⁿ 10 ^ 12)) (exact X a ms x) ∙ ap (λ y. y * ofℤ (exact X a ms x)) (nat-units (M ∸ x)))
       ∙ ring4 ℚ-ring (λ g m u e. g ⊗ (m ⊗ u ⊗ e) := m ⊗ u ⊗ (e ⊗ g)) tt (nat G) (nat (M ∸ x)) U (ofℤ (exact X a ms x))
       ∙ ap (λ y. nat (M ∸ x) * U * y) (exact-single x (omega arith))
       ∙ ring4 ℚ-ring (λ m u d s. m ⊗ u ⊗ (d ⊗ s) := d ⊗ u ⊗ (m ⊗ s)) tt (nat (M ∸ x)) U (nat Δ) (nat (singlePart ms x))
@@ -161,7 +130,7 @@ module _ (X r a : ℕ) (ms : List Life) (calm : All Calm ms) (folded : All Folde
   mean-single =
       sym (nat-mul (mean a ms) G)
       ∙ ap nat (ap (λ y. y *ⁿ G) (mean-claims a ms none) ∙ mul-assoc 1000000 (claims ms) G ∙ ap (λ y. 1000000 *ⁿ y) (sym (claims-are ms calm)) ∙ (let e : 1000000 *ⁿ (1000000 *ⁿ C) ≡ C *ⁿ 10 ^ 12 = omega arith in e))
-      ∙ in-units C ∙ ℚ-ring .mul-comm (nat C) U
+      ∙ nat-units C ∙ ℚ-ring .mul-comm (nat C) U
     where
       C : ℕ
       C = expect (λ c. c) (outcomes ms)
@@ -169,13 +138,13 @@ module _ (X r a : ℕ) (ms : List Life) (calm : All Calm ms) (folded : All Folde
   pub average-excess : (M : ℕ) → M ≤ⁿ suc X → exactPremium X M (mean a ms) a ms *ℤ pos G ≡ pos (10 ^ 12 *ⁿ excess M (outcomes ms) *ⁿ denominator X ms)
   unfolding exactPremium
   average-excess M l = ofℤ-injective (exactPremium X M (mean a ms) a ms *ℤ pos G) (pos (10 ^ 12 *ⁿ E *ⁿ Δ))
-      (ofℤ-mul (first *ℤ pos Δ +ℤ rest) (pos G) ∙ ap (λ y. y * nat G) (ofℤ-add (first *ℤ pos Δ) rest ∙ ap (λ y. y + ofℤ rest) (ofℤ-mul first (pos Δ) ∙ ap (λ y. y * nat Δ) (ofℤ-sub (pos (mean a ms)) (pos (M *ⁿ 10 ^ 12)) ∙ ap (λ y. nat (mean a ms) - y) (in-units M))))
+      (ofℤ-mul (first *ℤ pos Δ +ℤ rest) (pos G) ∙ ap (λ y. y * nat G) (ofℤ-add (first *ℤ pos Δ) rest ∙ ap (λ y. y + ofℤ rest) (ofℤ-mul first (pos Δ) ∙ ap (λ y. y * nat Δ) (ofℤ-sub (pos (mean a ms)) (pos (M *ⁿ 10 ^ 12)) ∙ ap (λ y. nat (mean a ms) - y) (nat-units M))))
       ∙ ring6 ℚ-ring (λ m k u d s g. ((m ⊝ k ⊗ u) ⊗ d ⊕ s) ⊗ g := d ⊗ (m ⊗ g ⊝ u ⊗ (k ⊗ g)) ⊕ s ⊗ g) tt (nat (mean a ms)) (nat M) U (nat Δ) (ofℤ rest) (nat G)
       ∙ ap₂ (λ x y. nat Δ * (x - U * (nat M * nat G)) + y) mean-single (sum-single M l)
       ∙ ring5 ℚ-ring (λ d u c k b. d ⊗ (u ⊗ c ⊝ u ⊗ k) ⊕ d ⊗ (u ⊗ b) := d ⊗ (u ⊗ ((c ⊕ b) ⊝ k))) tt (nat Δ) U (nat C) (nat M * nat G) (nat B)
       ∙ ap (λ y. nat Δ * (U * y)) whole
       ∙ ring3 ℚ-ring (λ d u e. d ⊗ (u ⊗ e) := e ⊗ u ⊗ d) tt (nat Δ) U (nat E)
-      ∙ ap (λ y. y * nat Δ) (sym (in-units E) ∙ ap nat (mul-comm E (10 ^ 12))) ∙ sym (nat-mul (10 ^ 12 *ⁿ E) Δ))
+      ∙ ap (λ y. y * nat Δ) (sym (nat-units E) ∙ ap nat (mul-comm E (10 ^ 12))) ∙ sym (nat-mul (10 ^ 12 *ⁿ E) Δ))
     where
       Δ : ℕ
       Δ = denominator X ms

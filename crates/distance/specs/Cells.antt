@@ -1,32 +1,30 @@
 -- The distance of every cell, for lives that pass refusals 6 to 8: f(x) is within R(x) of the recursion without roundings, which
 -- is within 2 E of the exact distribution, all places up to X added (rounded, cut). So f(x) and 10^12 times the exact value differ
 -- by at most R(x) + 2 E (cell-close), and these distances up to x add to at most R(0) + .. + R(x) + 2 E (cells-close).
-use mathlib.Core.Path.{_≡_, refl, sym, _∙_, ap, ap₂, subst}
+use mathlib.Core.Path.{_≡_, sym, _∙_, ap, ap₂, subst}
 use mathlib.Core.List.{List}
-use Prim.Native.Nat.{ℕ, zero, suc, _<_, _≤_ as _≤ⁿ_, _+_ as _+ⁿ_, _*_ as _*ⁿ_, _-_ as _∸_}
+use Prim.Native.Nat.{ℕ, suc, _≤_ as _≤ⁿ_, _+_ as _+ⁿ_, _*_ as _*ⁿ_, _-_ as _∸_}
 use native.Mathlib.Omega.{arith}
-use lib.IntN.{ℤ, pos, natAbs, _*ℤ_, _-ℤ_}
-use Rattle.algebra.specs.Solver.{ring2, ring3, ring4, con, _⊕_, _⊗_, _⊝_, _:=_}
-use Rattle.algebra.specs.Q.{ℚ, ℚ-ring, zeroQ, _+_, _-_, _*_, _≤_, abs, ≤-refl, ≤-trans, ≤-of-eq, ≤-add, ≤-mul-left, mul-nn, abs-nn, abs-add, abs-scale}
-use Rattle.algebra.specs.Embedding.{ofℤ, nat, ofℤ-mul, ofℤ-sub, nat-add, nat-mul, nat-nn, nat-le, nat-reflect, abs-ofℤ}
+use Rattle.algebra.specs.Solver.{ring3, ring4, _⊕_, _⊗_, _⊝_, _:=_}
+use Rattle.algebra.specs.Q.{ℚ-ring, zeroQ, _+_, _-_, _*_, _≤_, abs, ≤-refl, ≤-trans, ≤-of-eq, ≤-add, ≤-mul-left, mul-nn, abs-nn, abs-add, abs-scale}
+use Rattle.algebra.specs.Embedding.{ofℤ, nat, nat-add, nat-mul, nat-nn, nat-le}
 use Rattle.algebra.specs.Quotient.{over, over-ok, cancel}
 use Rattle.algebra.specs.RationalSum.{sum, sumN, sum-add, sum-mul, sum-mono, sum-grow, sum-term, nat-sum}
 use Rattle.algebra.specs.PowerSeries.{Ser, θ-zero}
 use Rattle.expansion.specs.Member.{logs, transform}
 use Rattle.expansion.specs.Solution.{solution, solution-zero, solution-step}
-use Rattle.expansion.specs.Total.{exact, Recursion, mass-63, total-63}
+use Rattle.expansion.specs.Total.{exact, total-63}
 use Rattle.fund.specs.declared.Life.{Life}
 use Rattle.fund.specs.Limits.{most-truncation}
-use Rattle.fund.specs.Transform.{unit, Term, terms, D, H, lambda, truncation}
+use Rattle.fund.specs.Transform.{unit, terms, D, H, lambda, truncation}
 use Rattle.fund.specs.Recursion.{Cell, start, startBound, entries}
-use Rattle.laws.specs.Accepted.{All, all-map}
+use Rattle.laws.specs.Accepted.{all-map}
 use Rattle.laws.specs.Cells.{termCell, termCell-f, termCell-R, cellAt-zero}
 use Rattle.distance.specs.Errors.{U, unit-pos}
 use Rattle.distance.specs.Recursion.{Steps, recursion-close}
 use Rattle.distance.specs.Start.{start-close}
 use Rattle.distance.specs.Lives.{members, W, rate}
 use Rattle.distance.specs.Transform.{calm-fair, transform-close}
-use Rattle.distance.specs.Exact.{exact-is}
 use Rattle.distance.specs.Members.{Priceable, members-good, members-share, errors-are, group, start-is}
 
 seven : (E : ℕ) → E ≤ⁿ most-truncation → 7 *ⁿ E ≤ⁿ unit *ⁿ 3

@@ -1,18 +1,17 @@
 -- Demand 3 at the definitions: whatever bytes and slice lengths the definitions accept, the answer is within its bounds of the exact
 -- values (distance); and with lambda 0 the exact premium is the average excess over M of all outcomes of group 1 (average).
-use mathlib.Core.Path.{_≡_, refl, sym, _∙_, ap, ap₂, subst}
+use mathlib.Core.Path.{_≡_, sym, _∙_, ap, subst}
 use mathlib.Core.List.{List}
 use Prim.Native.Nat.{ℕ, suc, _+_, _*_, _^_, _≤_}
 use native.Mathlib.Omega.{arith}
-use lib.IntN.{ℤ, pos, natAbs, _*ℤ_, _-ℤ_}
+use lib.IntN.{pos, natAbs, _*ℤ_, _-ℤ_}
 use lib.ListN.{getD}
-use Rattle.algebra.specs.RationalSum.{sumN, sumN-ext}
-use Rattle.fund.specs.declared.Verdict.{Verdict}
+use Rattle.algebra.specs.RationalSum.{sumN-ext}
 use Rattle.fund.specs.declared.Verdict.the-variants.{Accepted}
-use Rattle.fund.specs.Base.{sum, table}
+use Rattle.fund.specs.Base.{sum}
 use Rattle.fund.specs.Reading.{FundFile, read, reading}
 use Rattle.fund.specs.Folding.{lives}
-use Rattle.fund.specs.Transform.{unit, lambda}
+use Rattle.fund.specs.Transform.{unit}
 use Rattle.fund.specs.Recursion.{Cell}
 use Rattle.fund.specs.Premium.{premium, within, printedBound}
 use Rattle.fund.specs.Refusals.{Lengths, verdict}
@@ -22,7 +21,7 @@ use Rattle.fund.specs.Distance.{fileDenominator, exactAt, exactPremiumAt, apart
 use Rattle.laws.specs.Accepted.{Accepts, accepts}
 use Rattle.laws.specs.Cells.{sum-is}
 use Rattle.laws.specs.Ranges.{FundOk, read-ranges}
-use Rattle.laws.specs.Answer.{Accepting, answer-accepted, fileCell, fileCells-are, f-cell, R-cell}
+use Rattle.laws.specs.Answer.{answer-accepted, fileCell, fileCells-are, f-cell, R-cell}
 use Rattle.distance.specs.Lives.{all-folded}
 use Rattle.distance.specs.Members.{Priceable}
 use Rattle.distance.specs.Whole.{cell-distance, cells-distance, premium-distance}
@@ -56,8 +55,10 @@ module _ (fund : FundFile) (n : Lengths) (ok : FundOk fund) (a : Accepts fund n 
   close-cells : (x : ℕ) → x ≤ X → sum (suc x) (apart fund A) ≤ fileDenominator fund * (sum (suc x) (λ y. getD (A .R) y 0) + 2 * A .truncation)
   unfolding fileDenominator exactAt fileTerms fileLambda fileTruncation accepted
   close-cells x l =
-      rw (sum-is (suc x) (apart fund A) ∙ sumN-ext (suc x) (apart fund A) (λ y. natAbs (pos (fileDenominator fund) *ℤ fileCell fund y .f -ℤ pos unit *ℤ exactAt fund y)) (λ y h. gap-is y (omega arith)),
-      sum-is (suc x) (λ y. getD (A .R) y 0) ∙ sumN-ext (suc x) (λ y. getD (A .R) y 0) (λ y. fileCell fund y .R) (λ y h. R-cell fund n y (omega arith)))
+      rw (
+        sum-is (suc x) (apart fund A) ∙ sumN-ext (suc x) (apart fund A) (λ y. natAbs (pos (fileDenominator fund) *ℤ fileCell fund y .f -ℤ pos unit *ℤ exactAt fund y)) (λ y h. gap-is y (omega arith)),
+        sum-is (suc x) (λ y. getD (A .R) y 0) ∙ sumN-ext (suc x) (λ y. getD (A .R) y 0) (λ y. fileCell fund y .R) (λ y h. R-cell fund n y (omega arith)),
+      )
       (cells-distance X (fund .header .order) (fund .header .frequency) (lives fund) small p x l)
 
   close-premium : natAbs (pos (fileDenominator fund) *ℤ A .premium -ℤ exactPremiumAt fund (A .mean)) ≤ fileDenominator fund * A .within

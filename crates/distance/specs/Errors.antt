@@ -1,7 +1,7 @@
 -- The errors of the two roundings, in ℚ and for any divisor: nearest is off by at most a half, and by what its numerator is off over
 -- the divisor (nearest-step); up is not below the quotient (up-le). U is the unit in ℚ.
 use mathlib.Core.Path.{_≡_, sym, _∙_, ap, ap₂, subst}
-use Prim.Native.Nat.{ℕ, zero, suc, _<_, _+_ as _+ⁿ_, _*_ as _*ⁿ_}
+use Prim.Native.Nat.{ℕ, zero, suc, _<_, _+_ as _+ⁿ_, _*_ as _*ⁿ_, _^_}
 use native.Mathlib.Omega.{arith}
 use lib.IntN.{ℤ, pos, _-ℤ_, _*ℤ_}
 use Rattle.algebra.specs.Solver.{𝟏, _⊕_, _⊗_, ⊖_, _⊝_, _:=_, ring2, ring3, ring4}
@@ -21,6 +21,10 @@ unit-pos = omega arith
 -- the unit in ℚ
 abbrev pub U : ℚ
 U = nat unit
+
+pub nat-units : (k : ℕ) → nat (k *ⁿ 10 ^ 12) ≡ nat k * U
+unfolding unit
+nat-units k = nat-mul k (10 ^ 12)
 
 -- ---- the roundings
 nearest-error : (a : ℤ) (b : ℕ) → 0 < b → abs (nat b * ofℤ (nearest a b) - ofℤ a) ≤ nat b * half

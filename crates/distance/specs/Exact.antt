@@ -3,11 +3,11 @@
 use mathlib.Core.Path.{_≡_, refl, sym, _∙_, ap, ap₂}
 use mathlib.Core.Bool.{Bool, true, false}
 use mathlib.Core.List.{List, [], _∷_}
-use Prim.Native.Nat.{ℕ, zero, suc, _<_, _≤_ as _≤ⁿ_, _+_ as _+ⁿ_, _*_ as _*ⁿ_, _-_ as _∸_, _^_}
-use native.Mathlib.Nat.{pow-zero, pow-succ'}
+use Prim.Native.Nat.{ℕ, zero, suc, _≤_ as _≤ⁿ_, _+_ as _+ⁿ_, _*_ as _*ⁿ_, _-_ as _∸_, _^_}
+use native.Mathlib.Nat.{mul-comm}
 use native.Mathlib.Omega.{arith}
-use lib.Dec.{leb, leb·zero, leb·suc-zero, leb·suc-suc}
-use lib.IntN.{ℤ, pos, negℤ, _+ℤ_, _*ℤ_}
+use lib.Dec.{leb·zero, leb·suc-zero, leb·suc-suc}
+use lib.IntN.{ℤ, pos, negℤ, _*ℤ_}
 use Rattle.algebra.specs.Laws as L
 use Rattle.algebra.specs.Series as S
 use Rattle.algebra.specs.Solver.{ring1, ring3, ring4, ring5, ring7, ring8, 𝟎, 𝟏, ⊖_, _⊕_, _⊗_, _:=_}
@@ -15,40 +15,26 @@ use Rattle.algebra.specs.Q.{ℚ, ℚ-ring, negQ, zeroQ, oneQ, _+_, _*_}
 use Rattle.algebra.specs.Embedding.{ofℤ, ofℤ-one, ofℤ-add, ofℤ-mul, ofℤ-neg, nat, nat-zero, nat-add, nat-mul}
 use Rattle.algebra.specs.Quotient.{inv, inv-ok, over, over-ok, over-zero}
 use Rattle.algebra.specs.RationalSum.{sum, sum-ext, sum-mul, nat-sum, ofℤ-sum}
-use Rattle.algebra.specs.Power.{powQ, powQ-add, ifact}
-use Rattle.algebra.specs.PowerSeries.{Ser, _⋆_, const, oneS, pow, product-sum, product-ext, const-product}
+use Rattle.algebra.specs.Power.{powQ, powQ-add, powQ-mul, nat-pow, ifact}
+use Rattle.algebra.specs.PowerSeries.{Ser, _⋆_, pow, product-sum, const-product}
 use Rattle.expansion.specs.Place.{shift}
 use Rattle.expansion.specs.Member.{ownProduct, distribution}
 use Rattle.expansion.specs.FoldedMember.{own-step}
-use Rattle.expansion.specs.Poisson.{expS, poisson, exp-poisson}
+use Rattle.expansion.specs.Poisson.{poisson, exp-poisson}
 use Rattle.expansion.specs.Exponential.{expSum}
 use Rattle.fund.specs.declared.Life.{Life}
-use Rattle.fund.specs.Base.{if_then_else_, total, sum as sumⁿ, sumℤ}
+use Rattle.fund.specs.Base.{if_then_else_, total, sumℤ}
 use Rattle.fund.specs.Folding.{stay, single}
 use Rattle.fund.specs.Transform.{unit, lambda}
 use Rattle.fund.specs.Exact.{factorial, singles, denominator, shifted, one, singlePart, weightAt, convolved, fold, series, replacedPart, power, exponential, exact}
 use Rattle.laws.specs.Accepted.{All, Calm}
 use Rattle.laws.specs.Cells.{sumℤ-is, sum-is}
-use Rattle.distance.specs.Errors.{U, unit-pos}
+use Rattle.distance.specs.Errors.{U, unit-pos, nat-units}
 use Rattle.distance.specs.Lives.{memberOf, members, W, rate, FoldedLife, calm-folded}
 
 -- 10^n in ℚ
 abbrev pub ten : ℚ
 ten = nat 10
-
-pub nat-pow : (b n : ℕ) → nat (b ^ n) ≡ powQ (nat b) n
-nat-pow b zero = ap nat (pow-zero b) ∙ ofℤ-one
-nat-pow b (suc n) = ap nat (pow-succ' b n) ∙ nat-mul b (b ^ n) ∙ ap (λ x. nat b * x) (nat-pow b n)
-
-powQ-mul : (a : ℚ) (k n : ℕ) → powQ (powQ a k) n ≡ powQ a (k *ⁿ n)
-powQ-mul a k zero = ap (powQ a) e
-  where
-    e : 0 ≡ k *ⁿ 0
-    e = omega arith
-powQ-mul a k (suc n) = ap (λ x. powQ a k * x) (powQ-mul a k n) ∙ sym (powQ-add a k (k *ⁿ n)) ∙ ap (powQ a) e
-  where
-    e : k +ⁿ k *ⁿ n ≡ k *ⁿ suc n
-    e = omega arith
 
 unit-ten : U ≡ powQ ten 12
 unfolding unit
@@ -131,8 +117,7 @@ abbrev pub under : ℕ → ℚ
 under N = powQ U N * nat (factorial N)
 
 twelve : (n : ℕ) → nat (10 ^ 12 *ⁿ suc n) ≡ U * nat (suc n)
-unfolding unit
-twelve n = nat-mul (10 ^ 12) (suc n)
+twelve n = ap nat (mul-comm (10 ^ 12) (suc n)) ∙ nat-units (suc n) ∙ ℚ-ring .mul-comm (nat (suc n)) U
 
 pub series-is : (u : ℕ → ℤ) (v : ℕ → ℚ) → ((n : ℕ) → ofℤ (u n) ≡ powQ U n * v n) → (N : ℕ) → ofℤ (series u N) ≡ under N * sum (suc N) (λ n. ifact n * v n)
 unfolding series factorial

@@ -12,3 +12,4 @@ pub mod Members
 pub mod Cells
 pub mod Whole
 pub mod Distance
+pub mod Widths

@@ -10,10 +10,11 @@ use native.Mathlib.Omega.{arith}
 use lib.Dec.{eqb, eqb·suc-zero, eqb·zero-suc, eqb·suc-suc}
 use Rattle.algebra.specs.Laws as L
 use Rattle.algebra.specs.Solver.{ring1, 𝟎, 𝟏, _⊕_, _⊗_, _:=_}
-use Rattle.algebra.specs.Q.{ℚ, ℚ-ring, negQ, zeroQ, oneQ, _+_, _*_, _≤_, ≤-trans, ≤-of-eq}
+use Rattle.algebra.specs.Q.{ℚ-ring, negQ, oneQ, _+_, _*_, ≤-trans, ≤-of-eq}
 use Rattle.algebra.specs.Embedding.{nat, nat-zero, nat-add, nat-mul, nat-nn, nat-le}
 use Rattle.algebra.specs.Quotient.{over, over-ok, over-nn, over-zero, over-add, cancel}
-use Rattle.algebra.specs.RationalSum.{sum, sumN, sum-ext, sum-mul, nat-sum, sumN-ext}
+use Rattle.algebra.specs.NatSum.{sumN, sumN-ext, sumN-first, sumN-zero, sumN-add-le}
+use Rattle.algebra.specs.RationalSum.{sum, sum-ext, sum-mul, nat-sum}
 use Rattle.expansion.specs.Member as M
 use Rattle.expansion.specs.Member.{ownProduct}
 use Rattle.expansion.specs.Remainder.{Good, errors}
@@ -22,7 +23,6 @@ use Rattle.expansion.specs.FoldedMember.{member-share}
 use Rattle.expansion.specs.Figure.{figure-good}
 use Rattle.expansion.specs.Exponential.{expSum}
 use Rattle.expansion.specs.Total.{Group, exact}
-use Rattle.rounding.specs.Rounding.{up}
 use Rattle.rounding.proofs.Laws.{up-low}
 use Rattle.fund.specs.declared.Life.{Life}
 use Rattle.fund.specs.Base.{if_then_else_, total}
@@ -31,7 +31,6 @@ use Rattle.fund.specs.Limits.{most-load, most-truncation}
 use Rattle.fund.specs.Transform.{unit, weight, lambda, load, w, truncation}
 use Rattle.fund.specs.Exact.{weightAt}
 use Rattle.laws.specs.Accepted.{All, Calm}
-use Rattle.laws.specs.Cells.{sumN-first}
 use Rattle.distance.specs.Errors.{U, unit-pos}
 use Rattle.distance.specs.Start.{stays}
 use Rattle.distance.specs.Lives.{shareOf, memberOf, members, W, rate, FoldedLife, calm-folded}
@@ -95,24 +94,17 @@ errors-are r (m ∷ ms) = go (single m) (errors-are r ms)
 -- a weight stands at one place at most
 at-most-once : (d c n : ℕ) → sumN n (λ k. if eqb d k then c else 0) ≤ⁿ c
 at-most-once d c zero = omega arith
-at-most-once zero c (suc n) = omega (arith, sumN-first n (λ k. if eqb 0 k then c else 0), sumN-ext n (λ k. if eqb 0 (suc k) then c else 0) (λ k. 0) (λ k l. ap (λ b. if b then c else 0) (eqb·zero-suc k)), none n)
-  where
-    none : (n : ℕ) → sumN n (λ k. 0) ≡ 0
-    none zero = refl
-    none (suc n) = let h = none n in omega arith
+at-most-once zero c (suc n) = omega (arith, sumN-first n (λ k. if eqb 0 k then c else 0), sumN-ext n (λ k. if eqb 0 (suc k) then c else 0) (λ k. 0) (λ k l. ap (λ b. if b then c else 0) (eqb·zero-suc k)), sumN-zero n)
 at-most-once (suc d) c (suc n) =
-    omega
-    (arith,
-    sumN-first n (λ k. if eqb (suc d) k then c else 0),
-    ap (λ b. if b then c else 0) (eqb·suc-zero d),
-    sumN-ext n (λ k. if eqb (suc d) (suc k) then c else 0) (λ k. if eqb d k then c else 0) (λ k l. ap (λ b. if b then c else 0) (eqb·suc-suc d k)),
-    at-most-once d c n)
+    omega (
+      arith,
+      sumN-first n (λ k. if eqb (suc d) k then c else 0),
+      ap (λ b. if b then c else 0) (eqb·suc-zero d),
+      sumN-ext n (λ k. if eqb (suc d) (suc k) then c else 0) (λ k. if eqb d k then c else 0) (λ k l. ap (λ b. if b then c else 0) (eqb·suc-suc d k)),
+      at-most-once d c n,
+    )
 
-sum-two : (n : ℕ) (f g h : ℕ → ℕ) → ((k : ℕ) → f k ≤ⁿ g k +ⁿ h k) → sumN n f ≤ⁿ sumN n g +ⁿ sumN n h
-sum-two zero f g h l = omega arith
-sum-two (suc n) f g h l = let e = sum-two n f g h l in let k = l n in omega arith
-
-weights-within : (a : ℕ) (ms : List Life) (n : ℕ) → sumN n (weightAt a ms) ≤ⁿ lambda a ms
+pub weights-within : (a : ℕ) (ms : List Life) (n : ℕ) → sumN n (weightAt a ms) ≤ⁿ lambda a ms
 unfolding lambda total weightAt
 weights-within a [] n = go n
   where
@@ -137,19 +129,16 @@ weights-within a (m ∷ ms) n = go (single m) refl (weights-within a ms n)
     step b s (suc k) = omega (arith, ap (λ c. (if c then 0 else dead (suc k) +ⁿ disabled (suc k)) +ⁿ weightAt a ms (suc k)) s)
 
     go : (b : Bool) → single m ≡ b → sumN n (weightAt a ms) ≤ⁿ lambda a ms → sumN n (weightAt a (m ∷ ms)) ≤ⁿ (if b then 0 else weight a (claim m)) +ⁿ lambda a ms
-    go true s h = omega (arith, sum-two n (weightAt a (m ∷ ms)) (λ k. 0) (weightAt a ms) (step true s), sum-two n (λ k. 0) (λ k. 0) (λ k. 0) (λ k. omega arith), none n)
-      where
-        none : (n : ℕ) → sumN n (λ k. 0) ≡ 0
-        none zero = refl
-        none (suc n) = let h = none n in omega arith
+    go true s h = omega (arith, sumN-add-le n (weightAt a (m ∷ ms)) (λ k. 0) (weightAt a ms) (step true s), sumN-zero n)
     go false s h =
-        omega
-        (arith,
-        both,
-        sum-two n (weightAt a (m ∷ ms)) (λ k. dead k +ⁿ disabled k) (weightAt a ms) (step false s),
-        sum-two n (λ k. dead k +ⁿ disabled k) dead disabled (λ k. omega arith),
-        at-most-once (m .d) (weight a (m .q)) n,
-        at-most-once (m .e) (weight a (m .i)) n)
+        omega (
+          arith,
+          both,
+          sumN-add-le n (weightAt a (m ∷ ms)) (λ k. dead k +ⁿ disabled k) (weightAt a ms) (step false s),
+          sumN-add-le n (λ k. dead k +ⁿ disabled k) dead disabled (λ k. omega arith),
+          at-most-once (m .d) (weight a (m .q)) n,
+          at-most-once (m .e) (weight a (m .i)) n,
+        )
 
 pub lambda-within : (r a : ℕ) (ms : List Life) → Priceable r a ms → lambda a ms ≤ⁿ 8 *ⁿ unit
 unfolding load unit
@@ -162,7 +151,7 @@ group r a ms p =
       W-zero = W-zero a ms;
       W-nn = λ x. over-nn (nat (weightAt a ms x)) unit (nat-nn (weightAt a ms x));
       W-sum = λ n. cancel unit unit-pos (≤-trans (≤-of-eq (units n)) (≤-trans (nat-le (weights-within a ms n)) (≤-of-eq (sym (over-ok (nat (lambda a ms)) unit unit-pos)))));
-      ƛ-le = cancel unit unit-pos (≤-trans (≤-of-eq (over-ok (nat (lambda a ms)) unit unit-pos)) (≤-trans (nat-le (lambda-within r a ms p)) (≤-of-eq (nat-mul 8 unit ∙ ℚ-ring .mul-comm (nat 8) U))))
+      ƛ-le = cancel unit unit-pos (≤-trans (≤-of-eq (over-ok (nat (lambda a ms)) unit unit-pos)) (≤-trans (nat-le (lambda-within r a ms p)) (≤-of-eq (nat-mul 8 unit ∙ ℚ-ring .mul-comm (nat 8) U))));
     }
   where
     units : (n : ℕ) → U * sum n (λ k. over (nat (weightAt a ms k)) unit) ≡ nat (sumN n (weightAt a ms))

@@ -4,17 +4,16 @@
 use mathlib.Core.Path.{_≡_, refl, sym, _∙_, ap, ap₂}
 use mathlib.Core.Bool.{Bool, true, false}
 use mathlib.Core.List.{List, [], _∷_, _++_}
-use Prim.Native.Nat.{ℕ, zero, suc, _+_, _-_, _*_, _^_, _<_, _≤_}
+use Prim.Native.Nat.{ℕ, zero, suc, _+_, _-_, _*_, _^_}
 use native.Mathlib.Nat.{mul-add, add-mul, mul-assoc, mul-comm, mul-left-comm, mul-zero, zero-add, add-assoc, pow-succ'}
 use native.Mathlib.Omega.{arith}
 use lib.Dec.{leb, leb·zero, leb·suc-zero, leb·suc-suc}
-use Rattle.algebra.specs.RationalSum.{sumN, sumN-ext}
+use Rattle.algebra.specs.NatSum.{sumN, sumN-ext, sumN-first, sumN-zero}
 use Rattle.fund.specs.declared.Life.{Life}
 use Rattle.fund.specs.Base.{if_then_else_, total}
-use Rattle.fund.specs.Folding.{claim, stay, single}
+use Rattle.fund.specs.Folding.{stay, single}
 use Rattle.fund.specs.Exact.{singles, shifted, one, singlePart, Outcome, after, outcomes, excess}
 use Rattle.laws.specs.Accepted.{All, Calm}
-use Rattle.laws.specs.Cells.{sumN-first}
 
 -- the weighted sum of h of the totals claimed
 abbrev pub expect : (ℕ → ℕ) → List Outcome → ℕ
@@ -87,26 +86,23 @@ shifted-below g (suc d) (suc M) =
 sum-linear : (n p q i : ℕ) (k a b c : ℕ → ℕ) → sumN n (λ x. k x * (p * a x + q * b x + i * c x)) ≡ p * sumN n (λ x. k x * a x) + q * sumN n (λ x. k x * b x) + i * sumN n (λ x. k x * c x)
 sum-linear zero p q i k a b c = omega (arith, mul-zero p, mul-zero q, mul-zero i)
 sum-linear (suc n) p q i k a b c =
-    omega
-    (arith,
-    sum-linear n p q i k a b c,
-    mul-add (k n) (p * a n + q * b n) (i * c n),
-    mul-add (k n) (p * a n) (q * b n),
-    mul-left-comm (k n) p (a n),
-    mul-left-comm (k n) q (b n),
-    mul-left-comm (k n) i (c n),
-    mul-add p (sumN n (λ x. k x * a x)) (k n * a n),
-    mul-add q (sumN n (λ x. k x * b x)) (k n * b n),
-    mul-add i (sumN n (λ x. k x * c x)) (k n * c n))
+    omega (
+      arith,
+      sum-linear n p q i k a b c,
+      mul-add (k n) (p * a n + q * b n) (i * c n),
+      mul-add (k n) (p * a n) (q * b n),
+      mul-left-comm (k n) p (a n),
+      mul-left-comm (k n) q (b n),
+      mul-left-comm (k n) i (c n),
+      mul-add p (sumN n (λ x. k x * a x)) (k n * a n),
+      mul-add q (sumN n (λ x. k x * b x)) (k n * b n),
+      mul-add i (sumN n (λ x. k x * c x)) (k n * c n),
+    )
 
 one-below : (M : ℕ) → below one M ≡ M
 unfolding one
 one-below zero = refl
-one-below (suc M) = sumN-first M (λ x. (suc M - x) * one x) ∙ (let z = zeros M (λ x. suc M - suc x) in omega arith)
-  where
-    zeros : (n : ℕ) (k : ℕ → ℕ) → sumN n (λ x. k x * 0) ≡ 0
-    zeros zero k = refl
-    zeros (suc n) k = let h = zeros n k in omega (arith, mul-zero (k n))
+one-below (suc M) = sumN-first M (λ x. (suc M - x) * one x) ∙ omega (arith, sumN-ext M (λ x. (suc M - suc x) * 0) (λ x. 0) (λ x l. mul-zero (suc M - suc x)), sumN-zero M)
 
 pub shortfall-is : (ms : List Life) (M : ℕ) → below (singlePart ms) M ≡ expect (λ c. M - c) (outcomes ms)
 unfolding singlePart outcomes total
@@ -158,12 +154,13 @@ expect-add : (d : ℕ) (os : List Outcome) → expect (λ c. d + c) os ≡ d * e
 unfolding total
 expect-add d [] = omega (arith, mul-zero d)
 expect-add d (o ∷ os) =
-    omega
-    (arith,
-    expect-add d os,
-    mul-add (o .weight) d (o .claimed),
-    mul-comm (o .weight) d,
-    mul-add d (o .weight * 1) (expect (λ c. 1) os))
+    omega (
+      arith,
+      expect-add d os,
+      mul-add (o .weight) d (o .claimed),
+      mul-comm (o .weight) d,
+      mul-add d (o .weight * 1) (expect (λ c. 1) os),
+    )
 
 -- group 1's q×d + i×e
 unfoldable pub claims : List Life → ℕ
@@ -199,17 +196,18 @@ claims-are (m ∷ ms) c = go (single m) refl (weights-are ms (c .1)) (claims-are
 
         multiplied : 1000000 * (stay m * C + (m .q * (m .d * G + C) + m .i * (m .e * G + C))) ≡ (A + claims ms) * (1000000 * G)
         multiplied =
-            omega
-            (arith,
-            ih,
-            whole m (c .0) s C,
-            mul-add (m .q) (m .d * G) C,
-            mul-add (m .i) (m .e * G) C,
-            mul-assoc (m .q) (m .d) G,
-            mul-assoc (m .i) (m .e) G,
-            mul-left-comm (A + claims ms) 1000000 G,
-            add-mul A (claims ms) G,
-            add-mul (m .q * m .d) (m .i * m .e) G)
+            omega (
+              arith,
+              ih,
+              whole m (c .0) s C,
+              mul-add (m .q) (m .d * G) C,
+              mul-add (m .i) (m .e * G) C,
+              mul-assoc (m .q) (m .d) G,
+              mul-assoc (m .i) (m .e) G,
+              mul-left-comm (A + claims ms) 1000000 G,
+              add-mul A (claims ms) G,
+              add-mul (m .q * m .d) (m .i * m .e) G,
+            )
 
 -- ---- the excess: c - M plus M is c plus M - c, as whole numbers that are not negative
 pub excess-is : (M : ℕ) (os : List Outcome) → excess M os + M * expect (λ c. 1) os ≡ expect (λ c. c) os + expect (λ c. M - c) os
@@ -217,11 +215,12 @@ unfolding excess total
 excess-is M [] = omega (arith, mul-zero M)
 excess-is M (o ∷ os) =
     let e : o .claimed - M + M ≡ o .claimed + (M - o .claimed) = omega arith in
-    omega
-    (arith,
-    excess-is M os,
-    ap (λ y. o .weight * y) e,
-    mul-add (o .weight) (o .claimed - M) M,
-    mul-add (o .weight) (o .claimed) (M - o .claimed),
-    mul-comm (o .weight) M,
-    mul-add M (o .weight * 1) (expect (λ c. 1) os))
+    omega (
+      arith,
+      excess-is M os,
+      ap (λ y. o .weight * y) e,
+      mul-add (o .weight) (o .claimed - M) M,
+      mul-add (o .weight) (o .claimed) (M - o .claimed),
+      mul-comm (o .weight) M,
+      mul-add M (o .weight * 1) (expect (λ c. 1) os),
+    )

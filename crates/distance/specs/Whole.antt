@@ -1,15 +1,15 @@
 -- The distances in whole numbers over document 01's denominator: of a cell (cell-distance), of all cells up to x together
 -- (cells-distance), and of the premium (premium-distance).
-use mathlib.Core.Path.{_≡_, refl, sym, _∙_, ap, ap₂}
+use mathlib.Core.Path.{_≡_, sym, _∙_, ap, ap₂}
 use mathlib.Core.List.{List}
-use Prim.Native.Nat.{ℕ, zero, suc, _<_, _≤_ as _≤ⁿ_, _+_ as _+ⁿ_, _*_ as _*ⁿ_, _-_ as _∸_, _^_}
+use Prim.Native.Nat.{ℕ, suc, _<_, _≤_ as _≤ⁿ_, _+_ as _+ⁿ_, _*_ as _*ⁿ_, _-_ as _∸_, _^_}
 use native.Mathlib.Nat.{mul-assoc, mul-left-comm}
 use native.Mathlib.Omega.{arith}
-use lib.IntN.{ℤ, pos, natAbs, _+ℤ_, _*ℤ_, _-ℤ_}
+use lib.IntN.{ℤ, pos, natAbs, _*ℤ_, _-ℤ_}
 use Rattle.algebra.specs.Solver.{ring3, ring4, _⊕_, _⊗_, _⊝_, _:=_}
-use Rattle.algebra.specs.Q.{ℚ, ℚ-ring, zeroQ, _+_, _-_, _*_, _≤_, abs, ≤-refl, ≤-trans, ≤-of-eq, ≤-add, ≤-mul-left, ≤-mul-right, abs-scale}
+use Rattle.algebra.specs.Q.{ℚ, ℚ-ring, _+_, _-_, _*_, _≤_, abs, ≤-refl, ≤-trans, ≤-of-eq, ≤-add, ≤-mul-left, ≤-mul-right, abs-scale}
 use Rattle.algebra.specs.Embedding.{ofℤ, nat, ofℤ-add, ofℤ-mul, ofℤ-sub, nat-add, nat-mul, nat-nn, nat-le, nat-reflect, abs-ofℤ}
-use Rattle.algebra.specs.RationalSum.{sum, sumN, sumZ, sum-ext, sum-add, sum-mul, sum-mono, sum-grow, sum-abs, nat-sum, ofℤ-sum}
+use Rattle.algebra.specs.RationalSum.{sum, sumN, sum-ext, sum-add, sum-mul, sum-mono, sum-grow, sum-abs, nat-sum, ofℤ-sum}
 use Rattle.fund.specs.declared.Life.{Life}
 use Rattle.fund.specs.Base.{table, sumℤ}
 use Rattle.fund.specs.Transform.{unit, truncation}
@@ -17,14 +17,10 @@ use Rattle.fund.specs.Recursion.{Cell}
 use Rattle.fund.specs.Premium.{sumBelow, boundBelow, premium, within}
 use Rattle.fund.specs.Exact.{denominator, exact, exactPremium}
 use Rattle.laws.specs.Cells.{sumℤ-is, sumBelow-is, boundBelow-is}
-use Rattle.distance.specs.Errors.{U}
+use Rattle.distance.specs.Errors.{U, nat-units}
 use Rattle.distance.specs.Exact.{exact-is}
 use Rattle.distance.specs.Members.{Priceable}
 use Rattle.distance.specs.Cells.{cell, P, F, apart, gap-nn, cut, cell-near, cells-near}
-
-in-units : (k : ℕ) → nat (k *ⁿ 10 ^ 12) ≡ nat k * U
-unfolding unit
-in-units k = nat-mul k (10 ^ 12)
 
 module _ (X r a : ℕ) (ms : List Life) (small : r ≤ⁿ 12) (p : Priceable r a ms) where
   abbrev y : ℕ → Cell
@@ -82,10 +78,10 @@ module _ (X r a : ℕ) (ms : List Life) (small : r ≤ⁿ 12) (p : Priceable r a
     unfolding exactPremium
     exact-premium-is =
         ofℤ-add ((pos mean -ℤ pos (M *ⁿ 10 ^ 12)) *ℤ pos Δ) (sumℤ M g)
-        ∙ ap₂ _+_ (ofℤ-mul (pos mean -ℤ pos (M *ⁿ 10 ^ 12)) (pos Δ) ∙ ap (λ z. z * nat Δ) (ofℤ-sub (pos mean) (pos (M *ⁿ 10 ^ 12)) ∙ ap (λ z. nat mean - z) (in-units M)))
+        ∙ ap₂ _+_ (ofℤ-mul (pos mean -ℤ pos (M *ⁿ 10 ^ 12)) (pos Δ) ∙ ap (λ z. z * nat Δ) (ofℤ-sub (pos mean) (pos (M *ⁿ 10 ^ 12)) ∙ ap (λ z. nat mean - z) (nat-units M)))
         (ap ofℤ (sumℤ-is M g) ∙ ofℤ-sum M g
         ∙ sum-ext M (λ x. ofℤ (g x)) (λ x. nat Δ * (nat (M ∸ x) * (U * P X r a ms small p x)))
-        (λ x l. ofℤ-mul (pos ((M ∸ x) *ⁿ 10 ^ 12)) (exact X a ms x) ∙ ap₂ _*_ (in-units (M ∸ x)) (exact-is X r a ms (p .calm) (p .folded) x (omega arith))
+        (λ x l. ofℤ-mul (pos ((M ∸ x) *ⁿ 10 ^ 12)) (exact X a ms x) ∙ ap₂ _*_ (nat-units (M ∸ x)) (exact-is X r a ms (p .calm) (p .folded) x (omega arith))
         ∙ ring4 ℚ-ring (λ m u d q. m ⊗ u ⊗ (d ⊗ q) := d ⊗ (m ⊗ (u ⊗ q))) tt (nat (M ∸ x)) U (nat Δ) (P X r a ms small p x))
         ∙ sum-mul M (nat Δ) (λ x. nat (M ∸ x) * (U * P X r a ms small p x)))
         ∙ ring3 ℚ-ring (λ c d s. c ⊗ d ⊕ d ⊗ s := d ⊗ (c ⊕ s)) tt (nat mean - nat M * U) (nat Δ) (sum M (λ x. nat (M ∸ x) * (U * P X r a ms small p x)))

@@ -2,10 +2,8 @@
 -- denominator equals the row's fraction, multiplied out. By computing both sides.
 use mathlib.Core.Path.{_≡_, refl}
 use mathlib.Core.List.{List, [], _∷_, _++_, map}
-use Prim.Native.Nat.{ℕ, suc, _+_, _*_, _^_}
+use Prim.Native.Nat.{ℕ, suc, _*_, _^_}
 use lib.IntN.{ℤ, pos, _*ℤ_}
-use Rattle.rounding.specs.Rounding.{near, nearest, up}
-use Rattle.fund.specs.declared.Life.{Life}
 use Rattle.fund.specs.Base.{bytes, total, sum, sumℤ, table}
 use Rattle.fund.specs.Lines.{begun, linesFrom, lines}
 use Rattle.fund.specs.Spelling.{digits, isNumber, valueFrom, value, inFirst, fields, allNumbers, numbers, behind, spelled}

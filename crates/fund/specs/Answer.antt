@@ -1,6 +1,6 @@
 -- The answer of a pricing call, for given bytes and given lengths of the four result slices.
 use mathlib.Core.Bool.{Bool, true, false}
-use mathlib.Core.List.{List, [], _∷_, _++_, map, reverse}
+use mathlib.Core.List.{List, _++_, map, reverse}
 use Prim.Native.Nat.{ℕ, suc, _-_}
 use lib.IntN.{ℤ, pos}
 use lib.ListN.{length, getD, replicate}

@@ -1,5 +1,4 @@
 -- Demand 3: what a call that prices a fund must leave, in whole numbers over document 01's denominator.
-use mathlib.Core.List.{List}
 use Prim.Native.Nat.{ℕ, suc, _*_, _+_, _≤_}
 use lib.IntN.{ℤ, pos, natAbs, _*ℤ_, _-ℤ_}
 use lib.ListN.{getD}

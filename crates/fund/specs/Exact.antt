@@ -1,13 +1,12 @@
 -- The exact values, from the fund's input alone: whole numbers over the one denominator 10^(6g + 12X + 756)×X!×63! for g
 -- group 1 members. They use folding and lambda's weights, and nothing else of the method's figures.
-use mathlib.Core.Bool.{Bool, true, false}
 use mathlib.Core.List.{List, [], _∷_, _++_}
 use Prim.Native.Nat.{ℕ, zero, suc, _+_, _-_, _*_, _^_}
 use lib.Dec.{eqb, leb}
 use lib.IntN.{ℤ, pos, negℤ, _+ℤ_, _-ℤ_, _*ℤ_}
 use Rattle.fund.specs.declared.Life.{Life}
 use Rattle.fund.specs.Base.{if_then_else_, total, sum, sumℤ}
-use Rattle.fund.specs.Folding.{claim, stay, single}
+use Rattle.fund.specs.Folding.{stay, single}
 use Rattle.fund.specs.Transform.{weight, lambda}
 
 unfoldable pub factorial : ℕ → ℕ

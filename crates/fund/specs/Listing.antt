@@ -1,7 +1,7 @@
 -- The listing: the text that the program prints for a fund file.
-use mathlib.Core.Bool.{Bool, true, false}
+use mathlib.Core.Bool.{true, false}
 use mathlib.Core.List.{List, [], _∷_, _++_}
-use Prim.Native.Nat.{ℕ, zero, suc, _+_, _*_, _/_, _%_}
+use Prim.Native.Nat.{ℕ, zero, suc, _+_, _/_, _%_}
 use lib.Dec.{ltb}
 use lib.IntN.{ℤ, pos, negsuc}
 use lib.ListN.{take}
@@ -10,11 +10,10 @@ use Rattle.fund.specs.declared.Verdict.{Verdict}
 use Rattle.fund.specs.declared.Verdict.the-variants.{Accepted, Refused}
 use Rattle.fund.specs.Limits.{most-horizon}
 use Rattle.fund.specs.Base.{bytes}
-use Rattle.fund.specs.Reading.{FundFile, Reading, read, stopped, reading}
-use Rattle.fund.specs.Recursion.{Cell}
+use Rattle.fund.specs.Reading.{Reading, read, stopped, reading}
 use Rattle.fund.specs.Premium.{printedBound}
 use Rattle.fund.specs.Refusals.{Lengths, numberOf}
-use Rattle.fund.specs.Answer.{fileCells, Answer, answer}
+use Rattle.fund.specs.Answer.{Answer, answer}
 
 -- A number in decimal. A number has no more digits than the number itself and one.
 unfoldable pub digitsWithin : ℕ → ℕ → List ℕ → List ℕ

@@ -1,9 +1,9 @@
 -- From members to the transform: the terms that each life adds to D and to H, lambda, load, truncation figure and mean.
-use mathlib.Core.Bool.{Bool, true, false, _&&_, _||_}
+use mathlib.Core.Bool.{Bool, _&&_, _||_}
 use mathlib.Core.List.{List, [], _∷_, _++_}
 use Prim.Native.Nat.{ℕ, zero, suc, _+_, _-_, _*_, _^_}
 use lib.Dec.{eqb, leb, ltb}
-use lib.IntN.{ℤ, pos, negℤ, _+ℤ_}
+use lib.IntN.{ℤ, pos, _+ℤ_}
 use lib.ListN.{getD, replicate}
 use Rattle.rounding.specs.Rounding.{near, up}
 use Rattle.fund.specs.declared.Life.{Life}

@@ -1,25 +1,22 @@
 -- What acceptance says: none of the refusals' conditions holds (accepts).
-use mathlib.Core.Path.{_≡_, refl, sym, _∙_, ap, subst}
-use mathlib.Core.Bool.{Bool, true, false, not, _&&_, _||_}
-use mathlib.Core.List.{List, [], _∷_, map}
+use mathlib.Core.Path.{_≡_, refl, ap}
+use mathlib.Core.Bool.{Bool, true, false, not, _||_}
+use mathlib.Core.List.{List, [], _∷_}
 use mathlib.Core.Option.{Option, none, some}
-use Prim.Native.Nat.{ℕ, zero, suc, _≤_, _<_}
+use Prim.Native.Nat.{ℕ, suc, _≤_, _<_}
 use native.Mathlib.Omega.{arith}
-use lib.Dec.{T, eqb, leb, ltb, eqb→eq, leb→le, nleb→lt, nltb→le}
-use Rattle.fund.specs.declared.Rate.{Rate}
-use Rattle.fund.specs.declared.Member.{Member}
+use lib.Dec.{T, eqb, leb, ltb, eqb→eq, nleb→lt, nltb→le}
 use Rattle.fund.specs.declared.Life.{Life}
 use Rattle.fund.specs.declared.Refusal.{Refusal}
-use Rattle.fund.specs.declared.Refusal.the-variants.{Edition, Deductible, Unmatched, Half, Load, Order, Short, Wide}
 use Rattle.fund.specs.declared.Verdict.{Verdict}
-use Rattle.fund.specs.declared.Verdict.the-variants.{Accepted, Refused}
+use Rattle.fund.specs.declared.Verdict.the-variants.{Accepted}
 use Rattle.fund.specs.Base.{if_then_else_}
 use Rattle.fund.specs.Limits.{half-rate, most-load, most-truncation, most-bound}
 use Rattle.fund.specs.Reading.{FundFile}
-use Rattle.fund.specs.Folding.{rateAt, lives, claim, single}
+use Rattle.fund.specs.Folding.{lives, claim, single}
 use Rattle.fund.specs.Transform.{load, truncation}
 use Rattle.fund.specs.Recursion.{Cell}
-use Rattle.fund.specs.Refusals.{first, unmatched, half, wide, Lengths, short, refuse, at0, firstMember, verdict}
+use Rattle.fund.specs.Refusals.{first, unmatched, half, wide, Lengths, short, refuse, at0, verdict}
 
 -- a fact of every element of a list
 abbrev pub All : {A : Type 0} → (A → Type 0) → List A → Type 0

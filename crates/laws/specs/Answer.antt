@@ -1,20 +1,19 @@
 -- The answer of a call that accepts: the file was read (accepted-read), no refusal's condition holds, and the answer is the fund's
 -- figures (answer-accepted). The cells it leaves are those of the sequence (f-cell, R-cell).
 use mathlib.Core.Path.{_≡_, refl, sym, _∙_, ap}
-use mathlib.Core.List.{List, [], _∷_, _++_, map}
+use mathlib.Core.List.{List, map}
 use Prim.Native.Nat.{ℕ, suc, _-_, _<_, _≤_}
 use native.Mathlib.Omega.{arith}
-use lib.IntN.{ℤ, pos}
+use lib.IntN.{pos}
 use lib.ListN.{length, getD, replicate, List·getD-append}
 use Rattle.fund.specs.declared.Verdict.{Verdict}
 use Rattle.fund.specs.declared.Verdict.the-variants.{Accepted, Refused}
 use Rattle.fund.specs.Base.{table}
 use Rattle.fund.specs.Reading.{FundFile, Reading, read, stopped, reading}
 use Rattle.fund.specs.Folding.{lives}
-use Rattle.fund.specs.Transform.{Term}
 use Rattle.fund.specs.Recursion.{Cell, start, startBound}
 use Rattle.fund.specs.Refusals.{Lengths, verdict}
-use Rattle.fund.specs.Answer.{fileTerms, fileLambda, fileCells, refused, Answer, lent, accepted, answerOf, answerTo, answer}
+use Rattle.fund.specs.Answer.{fileTerms, fileLambda, fileCells, refused, lent, accepted, answerOf, answerTo, answer}
 use Rattle.laws.specs.Tables.{length-table, getD-table, map-table}
 use Rattle.laws.specs.Cells.{termCell, cells-are}
 

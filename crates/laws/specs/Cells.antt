@@ -10,7 +10,8 @@ use lib.IntN.{ℤ, pos, natAbs, _+ℤ_, _*ℤ_, +ℤ-idl, +ℤ-idr}
 use lib.ListN.{length, getD}
 use Rattle.algebra.specs.Integer.{ℤ-ring}
 use Rattle.algebra.specs.Sum as S
-use Rattle.algebra.specs.RationalSum.{sumN, sumZ, sumN-ext}
+use Rattle.algebra.specs.NatSum.{sumN, sumN-ext, sumN-first}
+use Rattle.algebra.specs.RationalSum.{sumZ}
 use Rattle.rounding.specs.Rounding.{nearest, up}
 use Rattle.fund.specs.Base.{sum, sumℤ, table}
 use Rattle.fund.specs.Transform.{unit, Term, D, H}
@@ -28,10 +29,6 @@ pub sum-is : (n : ℕ) (f : ℕ → ℕ) → sum n f ≡ sumN n f
 unfolding sum
 sum-is zero f = refl
 sum-is (suc n) f = ap (λ s. s + f n) (sum-is n f)
-
-pub sumN-first : (n : ℕ) (f : ℕ → ℕ) → sumN (suc n) f ≡ f 0 + sumN n (λ k. f (suc k))
-sumN-first zero f = omega arith
-sumN-first (suc n) f = let h = sumN-first n f in omega arith
 
 -- ---- the sums over k
 -- what one k adds to the sum of f and to the sum of R

@@ -4,7 +4,7 @@ use mathlib.Core.Path.{_≡_, refl, sym, _∙_, ap, subst}
 use mathlib.Core.Bool.{Bool, true, false, _&&_}
 use mathlib.Core.List.{List, [], _∷_, _++_, map, append-nil, append-assoc}
 use mathlib.Core.Option.{Option, none, some}
-use Prim.Native.Nat.{ℕ, zero, suc, _+_, _≤_, _<_}
+use Prim.Native.Nat.{ℕ, suc, _+_, _≤_, _<_}
 use native.Mathlib.Omega.{arith}
 use lib.Dec.{T, eqb, leb, ltb, eqb→eq, leb→le, ltb→lt}
 use lib.ListN.{length, length-append, length-map}
@@ -70,7 +70,7 @@ rate-ok before r e =
     let h2 = and-true _ (rising before (r .age)) (h3 .0) in
     let h1 = and-true (ltb (length before) most-rates) (leb (r .age) most-age) (h2 .0) in (
       below _ _ (h1 .0),
-      record { age = at-most _ _ (h1 .1); q = at-most _ _ (h3 .1); i = at-most _ _ (h4 .1); both = at-most _ _ (h5 .1) }
+      record { age = at-most _ _ (h1 .1); q = at-most _ _ (h3 .1); i = at-most _ _ (h4 .1); both = at-most _ _ (h5 .1) },
     )
 
 member-ok : (before : List Member) (m : Member) → memberInRange before m ≡ true → (length before < most-members) × MemberOk m
@@ -82,7 +82,7 @@ member-ok before m e =
     let h1 = and-true (ltb (length before) most-members) (leb (m .age) most-age) (h2 .0) in
     let g = between-true least-group most-group (m .group) (h2 .1) in (
       below _ _ (h1 .0),
-      record { age = at-most _ _ (h1 .1); group-least = g .0; group-most = g .1; d = at-most _ _ (h3 .1); e = at-most _ _ (h4 .1) }
+      record { age = at-most _ _ (h1 .1); group-least = g .0; group-most = g .1; d = at-most _ _ (h3 .1); e = at-most _ _ (h4 .1) },
     )
 
 -- ---- the rows
@@ -101,7 +101,7 @@ more-rates rates members r k e =
       rates = all-snoc RateOk rates r (k .rates) (h .1);
       members = k .members;
       few-rates = omega (arith, length-append rates (r ∷ []));
-      few-members = k .few-members
+      few-members = k .few-members;
     }
 
 more-members : (rates : List Rate) (members : List Member) (m : Member) → RowsOk rates members → memberInRange members m ≡ true → RowsOk rates (members ++ (m ∷ []))
@@ -112,7 +112,7 @@ more-members rates members m k e =
       rates = k .rates;
       members = all-snoc MemberOk members m (k .members) (h .1);
       few-rates = k .few-rates;
-      few-members = omega (arith, length-append members (m ∷ []))
+      few-members = omega (arith, length-append members (m ∷ []));
     }
 
 ended : (n : ℕ) (header : Fund) (rates : List Rate) (members : List Member) (ls : List Line) (fund : FundFile) → RowsOk rates members →
@@ -206,7 +206,7 @@ header-ranges (h ∷ hs) n ns (l ∷ ls) fund e = go (spelled (h .key) 1 l) refl
         record {
           values = v ∷ r .values;
           values-within = (between-true (h .least) (h .most) v (h2 .0), r .values-within);
-          reads = subst (λ ms. Reads (headerOf ms) fund) (append-assoc ns (v ∷ []) (r .values)) (r .reads)
+          reads = subst (λ ms. Reads (headerOf ms) fund) (append-assoc ns (v ∷ []) (r .values)) (r .reads);
         }
 
 pub record HeaderOk (f : Fund) : Type 0 where
@@ -236,7 +236,7 @@ header-ok (a ∷ b ∷ c ∷ d ∷ e ∷ f ∷ []) w =
       order-least = w .1 .1 .1 .0 .0;
       order-most = w .1 .1 .1 .0 .1;
       frequency = w .1 .1 .1 .1 .0 .1;
-      deductible = w .1 .1 .1 .1 .1 .0 .1
+      deductible = w .1 .1 .1 .1 .1 .0 .1;
     }
 header-ok [] w = absurd w
 header-ok (a ∷ []) w = absurd (w .1)
