@@ -11,27 +11,27 @@ use Rattle.fund.specs.declared.Verdict.the-variants.{Accepted}
 use Rattle.fund.specs.Base.{sum}
 use Rattle.fund.specs.Reading.{FundFile, read, reading}
 use Rattle.fund.specs.Folding.{lives}
-use Rattle.fund.specs.Transform.{unit}
+use Rattle.fund.specs.Transform.{unit, lambda}
 use Rattle.fund.specs.Recursion.{Cell}
 use Rattle.fund.specs.Premium.{premium, within, printedBound}
 use Rattle.fund.specs.Refusals.{Lengths, verdict}
-use Rattle.fund.specs.Answer.{fileTerms, fileLambda, fileCells, fileTruncation, fileMean, Answer, accepted, answer}
+use Rattle.fund.specs.Answer.{fundTerms, fundStart, fundCells, fundTruncation, fundMean, Answer, accepted, answer}
 use Rattle.fund.specs.Exact.{singles, outcomes, excess}
 use Rattle.fund.specs.Distance.{fileDenominator, exactAt, exactPremiumAt, apart, WithinBounds}
 use Rattle.laws.specs.Accepted.{Accepts, accepts}
 use Rattle.laws.specs.Cells.{sum-is}
 use Rattle.laws.specs.Ranges.{FundOk, read-ranges}
-use Rattle.laws.specs.Answer.{answer-accepted, fileCell, fileCells-are, f-cell, R-cell}
+use Rattle.laws.specs.Answer.{answer-accepted, fundCell, fundCells-are, f-cell, R-cell}
 use Rattle.distance.specs.Lives.{all-folded}
 use Rattle.distance.specs.Members.{Priceable}
 use Rattle.distance.specs.Whole.{cell-distance, cells-distance, premium-distance}
 use Rattle.distance.specs.AverageExcess.{average-excess}
 
 -- what acceptance gives of the lives
-pub priceable : (fund : FundFile) (n : Lengths) → Accepts fund n (fileCells fund) → Priceable (fund .header .order) (fund .header .frequency) (lives fund)
+pub priceable : (fund : FundFile) (n : Lengths) → Accepts fund n (fundCells (fund .header) (lives fund)) → Priceable (fund .header .order) (fund .header .frequency) (lives fund)
 priceable fund n a = record { calm = a .calm-lives; folded = all-folded fund; load-within = a .load-within; truncation-within = a .truncation-within }
 
-module _ (fund : FundFile) (n : Lengths) (ok : FundOk fund) (a : Accepts fund n (fileCells fund)) where
+module _ (fund : FundFile) (n : Lengths) (ok : FundOk fund) (a : Accepts fund n (fundCells (fund .header) (lives fund))) where
   abbrev X : ℕ
   X = fund .header .horizon
 
@@ -42,45 +42,45 @@ module _ (fund : FundFile) (n : Lengths) (ok : FundOk fund) (a : Accepts fund n 
   p = priceable fund n a
 
   abbrev A : Answer
-  A = accepted fund n
+  A = accepted (fund .header) (lives fund) n
 
-  gap-is : (x : ℕ) → x ≤ X → apart fund A x ≡ natAbs (pos (fileDenominator fund) *ℤ fileCell fund x .f -ℤ pos unit *ℤ exactAt fund x)
+  gap-is : (x : ℕ) → x ≤ X → apart fund A x ≡ natAbs (pos (fileDenominator fund) *ℤ fundCell (fund .header) (lives fund) x .f -ℤ pos unit *ℤ exactAt fund x)
   unfolding apart
-  gap-is x l = ap (λ z. natAbs (pos (fileDenominator fund) *ℤ z -ℤ pos unit *ℤ exactAt fund x)) (f-cell fund n x l)
+  gap-is x l = ap (λ z. natAbs (pos (fileDenominator fund) *ℤ z -ℤ pos unit *ℤ exactAt fund x)) (f-cell (fund .header) (lives fund) n x l)
 
   close-cell : (x : ℕ) → x ≤ X → apart fund A x ≤ fileDenominator fund * printedBound (A .truncation) (getD (A .R) x 0)
-  unfolding fileDenominator exactAt fileTerms fileLambda fileTruncation accepted
-  close-cell x l = rw (gap-is x l, R-cell fund n x l) (cell-distance X (fund .header .order) (fund .header .frequency) (lives fund) small p x l)
+  unfolding fileDenominator exactAt fundTerms fundStart fundTruncation accepted
+  close-cell x l = rw (gap-is x l, R-cell (fund .header) (lives fund) n x l) (cell-distance X (fund .header .order) (fund .header .frequency) (lives fund) small p x l)
 
   close-cells : (x : ℕ) → x ≤ X → sum (suc x) (apart fund A) ≤ fileDenominator fund * (sum (suc x) (λ y. getD (A .R) y 0) + 2 * A .truncation)
-  unfolding fileDenominator exactAt fileTerms fileLambda fileTruncation accepted
+  unfolding fileDenominator exactAt fundTerms fundStart fundTruncation accepted
   close-cells x l =
       rw (
-        sum-is (suc x) (apart fund A) ∙ sumN-ext (suc x) (apart fund A) (λ y. natAbs (pos (fileDenominator fund) *ℤ fileCell fund y .f -ℤ pos unit *ℤ exactAt fund y)) (λ y h. gap-is y (omega arith)),
-        sum-is (suc x) (λ y. getD (A .R) y 0) ∙ sumN-ext (suc x) (λ y. getD (A .R) y 0) (λ y. fileCell fund y .R) (λ y h. R-cell fund n y (omega arith)),
+        sum-is (suc x) (apart fund A) ∙ sumN-ext (suc x) (apart fund A) (λ y. natAbs (pos (fileDenominator fund) *ℤ fundCell (fund .header) (lives fund) y .f -ℤ pos unit *ℤ exactAt fund y)) (λ y h. gap-is y (omega arith)),
+        sum-is (suc x) (λ y. getD (A .R) y 0) ∙ sumN-ext (suc x) (λ y. getD (A .R) y 0) (λ y. fundCell (fund .header) (lives fund) y .R) (λ y h. R-cell (fund .header) (lives fund) n y (omega arith)),
       )
       (cells-distance X (fund .header .order) (fund .header .frequency) (lives fund) small p x l)
 
   close-premium : natAbs (pos (fileDenominator fund) *ℤ A .premium -ℤ exactPremiumAt fund (A .mean)) ≤ fileDenominator fund * A .within
-  unfolding fileDenominator exactPremiumAt fileTerms fileLambda fileTruncation accepted
+  unfolding fileDenominator exactPremiumAt fundTerms fundStart fundTruncation accepted
   close-premium =
-      subst (λ (ys : List Cell). natAbs (pos (fileDenominator fund) *ℤ premium (fund .header .deductible) (fileMean fund) ys -ℤ exactPremiumAt fund (fileMean fund)) ≤ fileDenominator fund * within (fund .header .deductible) (fileTruncation fund) ys)
-      (sym (fileCells-are fund))
-      (premium-distance X (fund .header .order) (fund .header .frequency) (lives fund) small p (fund .header .deductible) (fileMean fund) (a .deductible))
+      subst (λ (ys : List Cell). natAbs (pos (fileDenominator fund) *ℤ premium (fund .header .deductible) (fundMean (fund .header) (lives fund)) ys -ℤ exactPremiumAt fund (fundMean (fund .header) (lives fund))) ≤ fileDenominator fund * within (fund .header .deductible) (fundTruncation (fund .header) (lives fund)) ys)
+      (sym (fundCells-are (fund .header) (lives fund)))
+      (premium-distance X (fund .header .order) (fund .header .frequency) (lives fund) small p (fund .header .deductible) (fundMean (fund .header) (lives fund)) (a .deductible))
 
 pub distance : (file : List ℕ) (n : Lengths) (fund : FundFile) → reading file ≡ read fund → answer file n .verdict ≡ Accepted → WithinBounds fund (answer file n)
 distance file n fund r e =
     let c = answer-accepted file n fund r e in
     let ok = read-ranges file fund r in
-    let a = accepts fund n (fileCells fund) (c .verdict-is) in
+    let a = accepts fund n (fundCells (fund .header) (lives fund)) (c .verdict-is) in
     subst (λ (x : Answer). WithinBounds fund x) (sym (c .answer-is))
     (record { cell = close-cell fund n ok a; cells = close-cells fund n ok a; premium = close-premium fund n ok a })
 
-pub average : (file : List ℕ) (n : Lengths) (fund : FundFile) → reading file ≡ read fund → answer file n .verdict ≡ Accepted → fileLambda fund ≡ 0 →
+pub average : (file : List ℕ) (n : Lengths) (fund : FundFile) → reading file ≡ read fund → answer file n .verdict ≡ Accepted → lambda (fund .header .frequency) (lives fund) ≡ 0 →
     exactPremiumAt fund (answer file n .mean) *ℤ pos (10 ^ (6 * singles (lives fund))) ≡ pos (10 ^ 12 * excess (fund .header .deductible) (outcomes (lives fund)) * fileDenominator fund)
-unfolding exactPremiumAt fileDenominator fileLambda fileMean accepted
+unfolding exactPremiumAt fileDenominator fundMean accepted
 average file n fund r e z =
     let c = answer-accepted file n fund r e in
-    let a = accepts fund n (fileCells fund) (c .verdict-is) in
+    let a = accepts fund n (fundCells (fund .header) (lives fund)) (c .verdict-is) in
     ap (λ (x : Answer). exactPremiumAt fund (x .mean) *ℤ pos (10 ^ (6 * singles (lives fund)))) (c .answer-is)
     ∙ average-excess (fund .header .horizon) (fund .header .order) (fund .header .frequency) (lives fund) (a .calm-lives) (all-folded fund) z (fund .header .deductible) (a .deductible)

@@ -4,6 +4,8 @@ use mathlib.Core.List.{List, _++_, map, reverse}
 use Prim.Native.Nat.{ℕ, suc, _-_}
 use lib.IntN.{ℤ, pos}
 use lib.ListN.{length, getD, replicate}
+use Rattle.fund.specs.declared.Fund.{Fund}
+use Rattle.fund.specs.declared.Life.{Life}
 use Rattle.fund.specs.declared.Refusal.{Refusal}
 use Rattle.fund.specs.declared.Refusal.the-variants.{Form, Range, Edition, Deductible, Unmatched, Half, Load, Order, Short, Wide}
 use Rattle.fund.specs.declared.Verdict.{Verdict}
@@ -17,24 +19,24 @@ use Rattle.fund.specs.Recursion.{Cell, start, startBound, entries, cells
 use Rattle.fund.specs.Premium.{premium, within}
 use Rattle.fund.specs.Refusals.{Lengths, verdict}
 
--- The figures of document 01's steps for a file, whether it is accepted or not: the terms, and the cells of 0 to X.
-unfoldable pub fileTerms : FundFile → List Term
-fileTerms file = terms (file .header .horizon) (file .header .order) (file .header .frequency) (lives file)
+-- The figures of document 01's steps, whether the fund is accepted or not, from the header's figures and the lives: the terms,
+-- the first cell, and the cells of 0 to X.
+unfoldable pub fundTerms : Fund → List Life → List Term
+fundTerms fund ms = terms (fund .horizon) (fund .order) (fund .frequency) ms
 
-unfoldable pub fileLambda : FundFile → ℕ
-fileLambda file = lambda (file .header .frequency) (lives file)
+unfoldable pub fundStart : Fund → List Life → Cell
+fundStart fund ms =
+    let l = lambda (fund .frequency) ms in
+    record { f = start l ms; R = startBound l ms }
 
-unfoldable pub fileCells : FundFile → List Cell
-fileCells file =
-    let ms = lives file in
-    let first : Cell = record { f = start (fileLambda file) ms; R = startBound (fileLambda file) ms } in
-    reverse (cells (entries (fileTerms file) (file .header .horizon)) first (file .header .horizon))
+unfoldable pub fundCells : Fund → List Life → List Cell
+fundCells fund ms = reverse (cells (entries (fundTerms fund ms) (fund .horizon)) (fundStart fund ms) (fund .horizon))
 
-unfoldable pub fileTruncation : FundFile → ℕ
-fileTruncation file = truncation (file .header .order) (lives file)
+unfoldable pub fundTruncation : Fund → List Life → ℕ
+fundTruncation fund ms = truncation (fund .order) ms
 
-unfoldable pub fileMean : FundFile → ℕ
-fileMean file = mean (file .header .frequency) (lives file)
+unfoldable pub fundMean : Fund → List Life → ℕ
+fundMean fund ms = mean (fund .frequency) ms
 
 -- A part of the host's bytes.
 pub record Part : Type 0 where
@@ -97,19 +99,19 @@ refused file n v =
 unfoldable pub lent : {A : Type 0} → A → ℕ → List A → List A
 lent blank n values = values ++ replicate (n - length values) blank
 
-unfoldable pub accepted : FundFile → Lengths → Answer
-accepted file n =
-    let X = file .header .horizon in
-    let M = file .header .deductible in
-    let ts = fileTerms file in
-    let cells = fileCells file in
+unfoldable pub accepted : Fund → List Life → Lengths → Answer
+accepted fund ms n =
+    let X = fund .horizon in
+    let M = fund .deductible in
+    let ts = fundTerms fund ms in
+    let cells = fundCells fund ms in
     record {
       verdict = Accepted;
       part = empty;
-      truncation = fileTruncation file;
-      mean = fileMean file;
-      premium = premium M (fileMean file) cells;
-      within = within M (fileTruncation file) cells;
+      truncation = fundTruncation fund ms;
+      mean = fundMean fund ms;
+      premium = premium M (fundMean fund ms) cells;
+      within = within M (fundTruncation fund ms) cells;
       D = lent (pos 0) (n .D) (table (suc X) (D ts));
       H = lent 0 (n .H) (table (suc X) (H ts));
       f = lent (pos 0) (n .f) (map (λ (y : Cell). y .f) cells);
@@ -117,12 +119,12 @@ accepted file n =
     }
 
 unfoldable pub answerOf : List ℕ → Lengths → FundFile → Verdict → Answer
-answerOf file n fund Accepted = accepted fund n
+answerOf file n fund Accepted = accepted (fund .header) (lives fund) n
 answerOf file n fund (Refused why place) = refused file n (Refused why place)
 
 -- Reading first (1 and 2), then 3 to 10.
 unfoldable pub answerTo : List ℕ → Lengths → Reading → Answer
-answerTo file n (read fund) = answerOf file n fund (verdict fund n (fileCells fund))
+answerTo file n (read fund) = answerOf file n fund (verdict fund n (fundCells (fund .header) (lives fund)))
 answerTo file n (stopped why place) = refused file n (Refused why place)
 
 unfoldable pub answer : List ℕ → Lengths → Answer

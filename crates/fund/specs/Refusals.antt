@@ -5,6 +5,7 @@ use mathlib.Core.Option.{Option, none, some}
 use Prim.Native.Nat.{ℕ, suc, _+_}
 use lib.Dec.{eqb, leb, ltb}
 use lib.ListN.{length}
+use Rattle.fund.specs.declared.Fund.{Fund}
 use Rattle.fund.specs.declared.Rate.{Rate}
 use Rattle.fund.specs.declared.Member.{Member}
 use Rattle.fund.specs.declared.Life.{Life}
@@ -83,18 +84,19 @@ at0 holds = if holds then some 0 else none
 unfoldable pub firstMember : FundFile → ℕ
 firstMember file = 7 + length (file .rates)
 
--- The cells are those of 0, 1, .. to X.
+-- 7 to 10, of the header's figures, the lives and the cells of 0, 1, .. to X.
+unfoldable pub valued : Fund → List Life → Lengths → List Cell → Verdict
+valued fund ms n cells =
+    refuse Load (at0 (ltb most-load (load (fund .frequency) ms)))
+    (refuse Order (at0 (ltb most-truncation (truncation (fund .order) ms)))
+    (refuse Short (at0 (short n (fund .horizon)))
+    (refuse Wide (first wide 0 cells) Accepted)))
+
+-- 3 to 10.
 unfoldable pub verdict : FundFile → Lengths → List Cell → Verdict
 verdict file n cells =
     let fund = file .header in
-    let ms = lives file in
-    let X = fund .horizon in
     refuse Edition (at0 (not (eqb (fund .rates) (fund .members))))
-    (refuse Deductible (at0 (ltb (suc X) (fund .deductible)))
+    (refuse Deductible (at0 (ltb (suc (fund .horizon)) (fund .deductible)))
     (refuse Unmatched (first (unmatched (file .rates)) (firstMember file) (file .members))
-    (refuse Half (first half (firstMember file) ms)
-    (refuse Load (at0 (ltb most-load (load (fund .frequency) ms)))
-    (refuse Order (at0 (ltb most-truncation (truncation (fund .order) ms)))
-    (refuse Short (at0 (short n X))
-    (refuse Wide (first wide 0 cells)
-    Accepted)))))))
+    (refuse Half (first half (firstMember file) (lives file)) (valued fund (lives file) n cells))))

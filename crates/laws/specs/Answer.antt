@@ -6,14 +6,16 @@ use Prim.Native.Nat.{ℕ, suc, _-_, _<_, _≤_}
 use native.Mathlib.Omega.{arith}
 use lib.IntN.{pos}
 use lib.ListN.{length, getD, replicate, List·getD-append}
+use Rattle.fund.specs.declared.Fund.{Fund}
+use Rattle.fund.specs.declared.Life.{Life}
 use Rattle.fund.specs.declared.Verdict.{Verdict}
 use Rattle.fund.specs.declared.Verdict.the-variants.{Accepted, Refused}
 use Rattle.fund.specs.Base.{table}
 use Rattle.fund.specs.Reading.{FundFile, Reading, read, stopped, reading}
 use Rattle.fund.specs.Folding.{lives}
-use Rattle.fund.specs.Recursion.{Cell, start, startBound}
+use Rattle.fund.specs.Recursion.{Cell}
 use Rattle.fund.specs.Refusals.{Lengths, verdict}
-use Rattle.fund.specs.Answer.{fileTerms, fileLambda, fileCells, refused, lent, accepted, answerOf, answerTo, answer}
+use Rattle.fund.specs.Answer.{fundTerms, fundStart, fundCells, refused, lent, accepted, answerOf, answerTo, answer}
 use Rattle.laws.specs.Tables.{length-table, getD-table, map-table}
 use Rattle.laws.specs.Cells.{termCell, cells-are}
 
@@ -34,43 +36,41 @@ accepted-read file n e = go (reading file) refl e
     go (stopped why place) s h = absurd (not-accepted file n why place h)
 
 pub record Accepting (file : List ℕ) (n : Lengths) (fund : FundFile) : Type 0 where
-  pub verdict-is : verdict fund n (fileCells fund) ≡ Accepted
-  pub answer-is : answer file n ≡ accepted fund n
+  pub verdict-is : verdict fund n (fundCells (fund .header) (lives fund)) ≡ Accepted
+  pub answer-is : answer file n ≡ accepted (fund .header) (lives fund) n
 
 pub answer-accepted : (file : List ℕ) (n : Lengths) (fund : FundFile) → reading file ≡ read fund → answer file n .verdict ≡ Accepted → Accepting file n fund
 unfolding answer answerTo answerOf
-answer-accepted file n fund r e = go (verdict fund n (fileCells fund)) refl (ap (λ s. answerTo file n s .verdict) (sym r) ∙ e)
+answer-accepted file n fund r e = go (verdict fund n (fundCells (fund .header) (lives fund))) refl (ap (λ s. answerTo file n s .verdict) (sym r) ∙ e)
   where
-    go : (v : Verdict) → verdict fund n (fileCells fund) ≡ v → answerOf file n fund v .verdict ≡ Accepted → Accepting file n fund
+    go : (v : Verdict) → verdict fund n (fundCells (fund .header) (lives fund)) ≡ v → answerOf file n fund v .verdict ≡ Accepted → Accepting file n fund
     go Accepted s h = record { verdict-is = s; answer-is = ap (answerTo file n) r ∙ ap (answerOf file n fund) s }
     go (Refused why place) s h = absurd (not-accepted file n why place h)
-
--- ---- the cells
-abbrev pub fileStart : FundFile → Cell
-fileStart file = record { f = start (fileLambda file) (lives file); R = startBound (fileLambda file) (lives file) }
-
-abbrev pub fileCell : FundFile → ℕ → Cell
-fileCell file = termCell (fileTerms file) (file .header .horizon) (fileStart file)
-
-pub fileCells-are : (file : FundFile) → fileCells file ≡ table (suc (file .header .horizon)) (fileCell file)
-unfolding fileCells
-fileCells-are file = cells-are _ (fileStart file) (file .header .horizon)
 
 lent-at : {A : Type 0} (blank : A) (n k x : ℕ) (g : ℕ → A) → x < k → getD (lent blank n (table k g)) x blank ≡ g x
 unfolding lent
 lent-at blank n k x g l =
     List·getD-append (table k g) (replicate (n - length (table k g)) blank) blank x (let w = length-table k g in omega arith) ∙ getD-table k g x blank l
 
-pub f-cell : (file : FundFile) (n : Lengths) (x : ℕ) → x ≤ file .header .horizon → getD (accepted file n .f) x (pos 0) ≡ fileCell file x .f
-unfolding accepted
-f-cell file n x l =
-    ap (λ c. getD (lent (pos 0) (n .f) (map (λ (y : Cell). y .f) c)) x (pos 0)) (fileCells-are file)
-    ∙ ap (λ c. getD (lent (pos 0) (n .f) c) x (pos 0)) (map-table (λ (y : Cell). y .f) (suc (file .header .horizon)) (fileCell file))
-    ∙ lent-at (pos 0) (n .f) (suc (file .header .horizon)) x (λ k. fileCell file k .f) (omega arith)
+-- ---- the cells
+module _ (fund : Fund) (ms : List Life) where
+  abbrev pub fundCell : ℕ → Cell
+  fundCell = termCell (fundTerms fund ms) (fund .horizon) (fundStart fund ms)
 
-pub R-cell : (file : FundFile) (n : Lengths) (x : ℕ) → x ≤ file .header .horizon → getD (accepted file n .R) x 0 ≡ fileCell file x .R
-unfolding accepted
-R-cell file n x l =
-    ap (λ c. getD (lent 0 (n .R) (map (λ (y : Cell). y .R) c)) x 0) (fileCells-are file)
-    ∙ ap (λ c. getD (lent 0 (n .R) c) x 0) (map-table (λ (y : Cell). y .R) (suc (file .header .horizon)) (fileCell file))
-    ∙ lent-at 0 (n .R) (suc (file .header .horizon)) x (λ k. fileCell file k .R) (omega arith)
+  pub fundCells-are : fundCells fund ms ≡ table (suc (fund .horizon)) fundCell
+  unfolding fundCells
+  fundCells-are = cells-are _ (fundStart fund ms) (fund .horizon)
+
+  pub f-cell : (n : Lengths) (x : ℕ) → x ≤ fund .horizon → getD (accepted fund ms n .f) x (pos 0) ≡ fundCell x .f
+  unfolding accepted
+  f-cell n x l =
+      ap (λ c. getD (lent (pos 0) (n .f) (map (λ (y : Cell). y .f) c)) x (pos 0)) fundCells-are
+      ∙ ap (λ c. getD (lent (pos 0) (n .f) c) x (pos 0)) (map-table (λ (y : Cell). y .f) (suc (fund .horizon)) fundCell)
+      ∙ lent-at (pos 0) (n .f) (suc (fund .horizon)) x (λ k. fundCell k .f) (omega arith)
+
+  pub R-cell : (n : Lengths) (x : ℕ) → x ≤ fund .horizon → getD (accepted fund ms n .R) x 0 ≡ fundCell x .R
+  unfolding accepted
+  R-cell n x l =
+      ap (λ c. getD (lent 0 (n .R) (map (λ (y : Cell). y .R) c)) x 0) fundCells-are
+      ∙ ap (λ c. getD (lent 0 (n .R) c) x 0) (map-table (λ (y : Cell). y .R) (suc (fund .horizon)) fundCell)
+      ∙ lent-at 0 (n .R) (suc (fund .horizon)) x (λ k. fundCell k .R) (omega arith)
