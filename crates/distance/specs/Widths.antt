@@ -1,5 +1,5 @@
--- Why nothing wraps: for lives that pass refusals 6 to 8, |f(x)| is at most 2×10^12 wherever R(x) is not wide (f-small), and so is
--- the sum of |f| up to a horizon whose cells are not wide (f-sum-small). Both from the mass of the exact distribution, at most 8/7,
+-- Why nothing wraps: for lives that pass refusals 6 to 8, the sum of |f| up to x is at most 1.145×10^12 while no cell is wide
+-- (f-sum-small), and so is each |f(x)| (f-small). Both from the mass of the exact distribution, at most 8/7,
 -- and the cells' distances from it.
 use mathlib.Core.Path.{_≡_, sym, _∙_, ap, ap₂}
 use mathlib.Core.List.{List}
@@ -22,8 +22,12 @@ use Rattle.distance.specs.Lives.{members, W, rate}
 use Rattle.distance.specs.Members.{Priceable, members-share, group}
 use Rattle.distance.specs.Cells.{cell, P, cells-near}
 
--- 7 s ≤ 8×10^12 + 7 (b + 2 E) leaves s at most 2×10^12, for a sum of bounds b up to 4,096 cells
-small-enough : (s b E : ℕ) → 7 *ⁿ s ≤ⁿ 8 *ⁿ unit +ⁿ 7 *ⁿ (b +ⁿ 2 *ⁿ E) → b ≤ⁿ 4096 *ⁿ most-bound → E ≤ⁿ most-truncation → s ≤ⁿ 2 *ⁿ unit
+-- a bound of the sum of |f|
+abbrev pub most-sum : ℕ
+most-sum = 1145000000000
+
+-- 7 s ≤ 8×10^12 + 7 (b + 2 E), for the sum b of the bounds of 4,096 cells
+small-enough : (s b E : ℕ) → 7 *ⁿ s ≤ⁿ 8 *ⁿ unit +ⁿ 7 *ⁿ (b +ⁿ 2 *ⁿ E) → b ≤ⁿ 4096 *ⁿ most-bound → E ≤ⁿ most-truncation → s ≤ⁿ most-sum
 unfolding unit
 small-enough s b E h k l = omega arith
 
@@ -71,8 +75,8 @@ module _ (X r a : ℕ) (ms : List Life) (small : r ≤ⁿ 12) (p : Priceable r a
           ∙ sym (nat-add (8 *ⁿ unit) (7 *ⁿ B))
 
   module _ (few : X ≤ⁿ most-horizon) where
-    pub f-sum-small : (x : ℕ) → x ≤ⁿ X → ((k : ℕ) → k ≤ⁿ x → y k .R ≤ⁿ most-bound) → sumN (suc x) (λ k. natAbs (y k .f)) ≤ⁿ 2 *ⁿ unit
+    pub f-sum-small : (x : ℕ) → x ≤ⁿ X → ((k : ℕ) → k ≤ⁿ x → y k .R ≤ⁿ most-bound) → sumN (suc x) (λ k. natAbs (y k .f)) ≤ⁿ most-sum
     f-sum-small x l narrow = small-enough _ (sumN (suc x) (λ k. y k .R)) E (f-sum x l) (let h = sumN-bound (suc x) most-bound (λ k. y k .R) (λ k h. narrow k (omega arith)) in omega arith) (p .truncation-within)
 
-    pub f-small : (x : ℕ) → x ≤ⁿ X → ((k : ℕ) → k ≤ⁿ x → y k .R ≤ⁿ most-bound) → natAbs (y x .f) ≤ⁿ 2 *ⁿ unit
+    pub f-small : (x : ℕ) → x ≤ⁿ X → ((k : ℕ) → k ≤ⁿ x → y k .R ≤ⁿ most-bound) → natAbs (y x .f) ≤ⁿ most-sum
     f-small x l narrow = let h = f-sum-small x l narrow in let k = sumN-term (suc x) x (λ k. natAbs (y k .f)) (omega arith) in omega arith

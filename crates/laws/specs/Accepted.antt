@@ -1,11 +1,12 @@
 -- What acceptance says: none of the refusals' conditions holds (accepts).
 use mathlib.Core.Path.{_≡_, refl, ap}
-use mathlib.Core.Bool.{Bool, true, false, not, _||_}
+use mathlib.Core.Bool.{Bool, true, false, _||_}
 use mathlib.Core.List.{List, [], _∷_}
 use mathlib.Core.Option.{Option, none, some}
 use Prim.Native.Nat.{ℕ, suc, _≤_, _<_}
 use native.Mathlib.Omega.{arith}
-use lib.Dec.{T, eqb, leb, ltb, eqb→eq, nleb→lt, nltb→le}
+use borrow.Author.Tests.{ltb-false, leb-false, eqb-true, not-false}
+use lib.Dec.{eqb, leb}
 use Rattle.fund.specs.declared.Life.{Life}
 use Rattle.fund.specs.declared.Refusal.{Refusal}
 use Rattle.fund.specs.declared.Verdict.{Verdict}
@@ -26,14 +27,6 @@ All P (a ∷ rest) = P a × All P rest
 pub all-map : {A : Type 0} {P Q : A → Type 0} → ((a : A) → P a → Q a) → (l : List A) → All P l → All Q l
 all-map f [] h = tt
 all-map f (a ∷ rest) h = (f a (h .0), all-map f rest (h .1))
-
--- a test that failed
-pub false-not : (b : Bool) → b ≡ false → T (not b)
-false-not true e = let z : _≡_ {A = Bool} true false = e in absurd (true-false z)
-  where
-    true-false : true ≡ false → ⊥
-    true-false e = let z : _≡_ {A = ℕ} 0 1 = ap (λ b. if b then 0 else 1) e in omega arith
-false-not false e = tt
 
 pub or-false : (a b : Bool) → a || b ≡ false → (a ≡ false) × (b ≡ false)
 or-false true b e = let z : _≡_ {A = ℕ} 0 1 = ap (λ b. if b then 0 else 1) e in absurd (omega arith)
@@ -60,19 +53,13 @@ first-none met at (a ∷ rest) e = go (met a) refl e (first-none met (suc at) re
     go false e f h = (e, h f)
 
 -- ---- what acceptance says of a fund
-pub not-above : (m n : ℕ) → ltb m n ≡ false → n ≤ m
-not-above m n e = nltb→le m n (false-not (ltb m n) e)
-
-pub above : (m n : ℕ) → leb m n ≡ false → n < m
-above m n e = nleb→lt m n (false-not (leb m n) e)
-
 -- group 1's q + i is below a half
 abbrev pub Calm : Life → Type 0
 Calm m = single m ≡ true → claim m < half-rate
 
 calm : (m : Life) → half m ≡ false → Calm m
 unfolding half
-calm m e s = above half-rate (claim m) (rw s at e)
+calm m e s = leb-false half-rate (claim m) (rw s at e)
 
 pub record Accepts (file : FundFile) (n : Lengths) (cells : List Cell) : Type 0 where
   pub editions : file .header .rates ≡ file .header .members
@@ -104,19 +91,15 @@ accepts file n cells e =
     let sf = or-false _ (leb (n .f) X) (sR .0) in
     let sH = or-false (leb (n .D) X) (leb (n .H) X) (sf .0) in
     record {
-      editions = eqb→eq _ _ (not-false (eqb (file .header .rates) (file .header .members)) (at0-none _ (e3 .0)));
-      deductible = not-above _ _ (at0-none _ (e4 .0));
+      editions = eqb-true _ _ (not-false (eqb (file .header .rates) (file .header .members)) (at0-none _ (e3 .0)));
+      deductible = ltb-false _ _ (at0-none _ (e4 .0));
       matched = first-none _ _ _ (e5 .0);
       calm-lives = all-map calm (lives file) (first-none _ _ _ (e6 .0));
-      load-within = not-above _ _ (at0-none _ (e7 .0));
-      truncation-within = not-above _ _ (at0-none _ (e8 .0));
-      D-long = above _ _ (sH .0);
-      H-long = above _ _ (sH .1);
-      f-long = above _ _ (sf .1);
-      R-long = above _ _ (sR .1);
-      narrow = all-map (λ (y : Cell). not-above most-bound (y .R)) cells (first-none _ _ _ (e10 .0));
+      load-within = ltb-false _ _ (at0-none _ (e7 .0));
+      truncation-within = ltb-false _ _ (at0-none _ (e8 .0));
+      D-long = leb-false _ _ (sH .0);
+      H-long = leb-false _ _ (sH .1);
+      f-long = leb-false _ _ (sf .1);
+      R-long = leb-false _ _ (sR .1);
+      narrow = all-map (λ (y : Cell). ltb-false most-bound (y .R)) cells (first-none _ _ _ (e10 .0));
     }
-  where
-    not-false : (b : Bool) → not b ≡ false → T b
-    not-false true e = tt
-    not-false false e = false-not true e

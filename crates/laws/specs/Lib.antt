@@ -3,3 +3,4 @@ pub mod Tables
 pub mod Cells
 pub mod Ranges
 pub mod Answer
+pub mod Valued

@@ -6,7 +6,8 @@ use mathlib.Core.List.{List, [], _∷_, _++_, map, append-nil, append-assoc}
 use mathlib.Core.Option.{Option, none, some}
 use Prim.Native.Nat.{ℕ, suc, _+_, _≤_, _<_}
 use native.Mathlib.Omega.{arith}
-use lib.Dec.{T, eqb, leb, ltb, eqb→eq, leb→le, ltb→lt}
+use borrow.Author.Tests.{ltb-true, leb-true, eqb-true}
+use lib.Dec.{eqb, leb, ltb}
 use lib.ListN.{length, length-append, length-map}
 use Rattle.fund.specs.declared.Fund.{Fund}
 use Rattle.fund.specs.declared.Rate.{Rate}
@@ -44,18 +45,9 @@ pub and-true : (a b : Bool) → a && b ≡ true → (a ≡ true) × (b ≡ true)
 and-true true b e = (refl, e)
 and-true false b e = let z : _≡_ {A = ℕ} 0 1 = ap (λ c. elim c [ true ↦ 1 | false ↦ 0 ]) e in absurd (omega arith)
 
-true-T : (b : Bool) → b ≡ true → T b
-true-T b e = subst (λ c. T c) (sym e) tt
-
-pub at-most : (m n : ℕ) → leb m n ≡ true → m ≤ n
-at-most m n e = leb→le m n (true-T (leb m n) e)
-
-pub below : (m n : ℕ) → ltb m n ≡ true → m < n
-below m n e = ltb→lt m n (true-T (ltb m n) e)
-
 pub between-true : (least most n : ℕ) → between least most n ≡ true → (least ≤ n) × (n ≤ most)
 unfolding between
-between-true least most n e = let h = and-true (leb least n) (leb n most) e in (at-most least n (h .0), at-most n most (h .1))
+between-true least most n e = let h = and-true (leb least n) (leb n most) e in (leb-true least n (h .0), leb-true n most (h .1))
 
 all-snoc : {A : Type 0} (P : A → Type 0) (l : List A) (a : A) → All P l → P a → All P (l ++ (a ∷ []))
 all-snoc P [] a h k = (k, tt)
@@ -69,8 +61,8 @@ rate-ok before r e =
     let h3 = and-true _ (leb (r .q) most-rate) (h4 .0) in
     let h2 = and-true _ (rising before (r .age)) (h3 .0) in
     let h1 = and-true (ltb (length before) most-rates) (leb (r .age) most-age) (h2 .0) in (
-      below _ _ (h1 .0),
-      record { age = at-most _ _ (h1 .1); q = at-most _ _ (h3 .1); i = at-most _ _ (h4 .1); both = at-most _ _ (h5 .1) },
+      ltb-true _ _ (h1 .0),
+      record { age = leb-true _ _ (h1 .1); q = leb-true _ _ (h3 .1); i = leb-true _ _ (h4 .1); both = leb-true _ _ (h5 .1) },
     )
 
 member-ok : (before : List Member) (m : Member) → memberInRange before m ≡ true → (length before < most-members) × MemberOk m
@@ -81,8 +73,8 @@ member-ok before m e =
     let h2 = and-true _ (between least-group most-group (m .group)) (h3 .0) in
     let h1 = and-true (ltb (length before) most-members) (leb (m .age) most-age) (h2 .0) in
     let g = between-true least-group most-group (m .group) (h2 .1) in (
-      below _ _ (h1 .0),
-      record { age = at-most _ _ (h1 .1); group-least = g .0; group-most = g .1; d = at-most _ _ (h3 .1); e = at-most _ _ (h4 .1) },
+      ltb-true _ _ (h1 .0),
+      record { age = leb-true _ _ (h1 .1); group-least = g .0; group-most = g .1; d = leb-true _ _ (h3 .1); e = leb-true _ _ (h4 .1) },
     )
 
 -- ---- the rows
@@ -157,7 +149,7 @@ numbers-length count text v e = go (eqb (length (fields text)) count) refl (allN
     go : (b : Bool) → eqb (length (fields text)) count ≡ b → (c : Bool) → (if b && c then some (map value (fields text)) else none) ≡ some v → length v ≡ count
     go true s true h =
         let z : map value (fields text) ≡ v = cc in
-        ap length (sym z) ∙ length-map (fields text) value ∙ eqb→eq (length (fields text)) count (true-T (eqb (length (fields text)) count) s)
+        ap length (sym z) ∙ length-map (fields text) value ∙ eqb-true (length (fields text)) count s
     go true s false h = let z : _≡_ {A = ℕ} 0 1 = cc in absurd (omega arith)
     go false s c h = let z : _≡_ {A = ℕ} 0 1 = cc in absurd (omega arith)
 
