@@ -2,11 +2,17 @@
 
     python3 tests/cases.py write DIR N SEED
     python3 tests/cases.py check DIR
+    python3 tests/cases.py stream DIR N SEED
+    python3 tests/cases.py check-stream DIR
 
 A case is two files of one name.  NAME.fund holds the raw bytes for standard
 input.  NAME.listing holds the exact bytes that the program must print on
 standard output, every line with its line feed.  Nothing else is stored.
 The names begin with a running number and say how the file was made.
+
+A stream is all cases in two files of one folder, for a program that reads them
+one after the other.  stdin has for each case its length as six decimal digits
+and a line feed, then its bytes.  stdout has each listing and an empty line.
 """
 
 import random
@@ -17,6 +23,9 @@ from pathlib import Path
 import document_funds
 import generate
 import pricing
+
+
+LONGEST = 65536      # what the program that reads a stream has room for
 
 
 def listing_of(data):
@@ -80,6 +89,36 @@ def check(directory):
     return 0 if count and not bad else 1
 
 
+def stream_of(files):
+    return (b"".join(b"%06d\n" % len(data) + data for data in files),
+            b"".join(listing_of(data) + b"\n" for data in files))
+
+
+def files_of(stream):
+    files = []
+    while stream:
+        size = int(stream[:6])
+        files.append(stream[7:7 + size])
+        stream = stream[7 + size:]
+    return files
+
+
+def write_stream(directory, count, seed):
+    directory.mkdir(parents=True, exist_ok=True)
+    files = [case.data for case in chosen(count, seed) if len(case.data) <= LONGEST]
+    given, wanted = stream_of(files)
+    (directory / "stdin").write_bytes(given)
+    (directory / "stdout").write_bytes(wanted)
+    return len(files)
+
+
+def check_stream(directory):
+    files = files_of((directory / "stdin").read_bytes())
+    same = stream_of(files)[1] == (directory / "stdout").read_bytes()
+    print(f"{len(files)} cases, " + ("none differs" if same else "some differ"))
+    return 0 if files and same else 1
+
+
 def main(arguments):
     if len(arguments) == 4 and arguments[0] == "write":
         count = write(Path(arguments[1]), int(arguments[2]), int(arguments[3]))
@@ -87,6 +126,12 @@ def main(arguments):
         return 0
     if len(arguments) == 2 and arguments[0] == "check":
         return check(Path(arguments[1]))
+    if len(arguments) == 4 and arguments[0] == "stream":
+        count = write_stream(Path(arguments[1]), int(arguments[2]), int(arguments[3]))
+        print(f"{count} cases written")
+        return 0
+    if len(arguments) == 2 and arguments[0] == "check-stream":
+        return check_stream(Path(arguments[1]))
     print(__doc__, file=sys.stderr)
     return 2
 
