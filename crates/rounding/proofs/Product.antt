@@ -37,6 +37,25 @@ unit-parts a b h g =
       sum = split-left a b 1000000000000 ∙ ap (λ x. a / 1000000000000 * b * 1000000000000 + x) (split-left (a % 1000000000000) b 1000000);
     }
 
+-- The parts for a up to 10^18 and b up to 10^13.
+pub record SmallParts (a b : ℕ) : Type 0 where
+  pub high : a / 1000000000000 * b ≤ 1000000 * 10000000000000
+  pub middle : a % 1000000000000 / 1000000 * b ≤ 999999 * 10000000000000
+  pub low : a % 1000000000000 % 1000000 * b ≤ 999999 * 10000000000000
+  pub sum : a * b ≡ a / 1000000000000 * b * 1000000000000 + (a % 1000000000000 / 1000000 * b * 1000000 + a % 1000000000000 % 1000000 * b)
+
+pub small-parts : (a b : ℕ) → a ≤ 10 ^ 18 → b ≤ 10 ^ 13 → SmallParts a b
+small-parts a b h g =
+    let x : a / 1000000000000 ≤ 1000000 = omega arith in
+    let y : a % 1000000000000 / 1000000 ≤ 999999 = omega arith in
+    let z : a % 1000000000000 % 1000000 ≤ 999999 = omega arith in
+    record {
+      high = N.mul-le-mul x g;
+      middle = N.mul-le-mul y g;
+      low = N.mul-le-mul z g;
+      sum = split-left a b 1000000000000 ∙ ap (λ x. a / 1000000000000 * b * 1000000000000 + x) (split-left (a % 1000000000000) b 1000000);
+    }
+
 pub record MillionParts (a b : ℕ) : Type 0 where
   pub high : a / 1000000 * b ≤ 18446744073709 * 999999
   pub low : a % 1000000 * b ≤ 999999 * 999999

@@ -1,7 +1,7 @@
 -- The roundings of a number that is k divisors and a rest: the rest alone decides whether one is added to k.
 -- Then the rest of a number in units that is divided by n units.
 use mathlib.Core.Path.{_≡_, sym, _∙_, ap}
-use Prim.Native.Nat.{ℕ, _+_, _*_, _/_, _%_, _<_, _≤_}
+use Prim.Native.Nat.{ℕ, _+_, _*_, _/_, _%_, _^_, _<_, _≤_}
 use native.Mathlib.Nat as N
 use native.Mathlib.Omega.{arith}
 use Rattle.rounding.specs.Rounding.{near, up}
@@ -35,3 +35,12 @@ half-low k l n unit c h g = omega (arith, N.mul-le-mul-right unit g)
 
 pub half-high : (k l n unit c : ℕ) → c * unit ≤ 2 * l → n ≤ 2 * k + c → n * unit ≤ 2 * (k * unit + l)
 half-high k l n unit c h g = omega (arith, N.mul-le-mul-right unit g)
+
+-- ---- a quotient by the unit, rounded by what is added before the division
+pub near-raised : (p : ℕ) → near p (10 ^ 12) ≡ (p + 500000000000) / 10 ^ 12
+unfolding near
+near-raised p = omega arith
+
+pub up-raised : (p : ℕ) → up p (10 ^ 12) ≡ (p + 999999999999) / 10 ^ 12
+unfolding up
+up-raised p = omega arith

@@ -4,7 +4,7 @@
 
 ghost use mathlib.Core.Path.{_≡_};
 ghost use mathlib.Core.Bool.{true, false};
-ghost use Prim.Native.Nat.{ℕ, _+_, _*_, _^_, _<_, _≤_};
+ghost use Prim.Native.Nat.{ℕ, _+_, _*_, _/_, _^_, _<_, _≤_};
 ghost use Rattle.rounding.specs.Division.{Divided};
 ghost use Rattle.rounding.specs.Rounding.{near, up};
 ghost use Rattle.rounding.specs.Word.{word, scaled};
@@ -26,6 +26,11 @@ struct Division {
 pub fn nearest_per_unit(a: u64, b: u64) -> u64
     ensures { λ r. ⌜ r ≡ word (near (a * b) (10 ^ 12)) ⌝ }
 {
+    if a <= 1000000000000000000 {
+        if b <= 10000000000000 {
+            return raised(a, b, UNIT / 2);
+        }
+    }
     nearest_of(by_unit(a, b), UNIT)
 }
 
@@ -33,7 +38,25 @@ pub fn nearest_per_unit(a: u64, b: u64) -> u64
 pub fn up_per_unit(a: u64, b: u64) -> u64
     ensures { λ r. ⌜ r ≡ word (up (a * b) (10 ^ 12)) ⌝ }
 {
+    if a <= 1000000000000000000 {
+        if b <= 10000000000000 {
+            return raised(a, b, UNIT - 1);
+        }
+    }
     up_of(by_unit(a, b), UNIT)
+}
+
+// a * b with less than a unit added, divided by 10^12, for factors whose parts fit a word with no test: a in base 10^6,
+// from its highest part down.
+fn raised(a: u64, b: u64, add: u64) -> u64
+    requires { ⌜ (a ≤ 10 ^ 18) × (b ≤ 10 ^ 13) × (add < 10 ^ 12) ⌝ }
+    ensures { λ r. ⌜ r ≡ (a * b + add) / 10 ^ 12 ⌝ }
+{
+    let high = a / UNIT;
+    let low = a % UNIT;
+    let middle = low / MILLION * b;
+    let rest = middle % MILLION * MILLION + low % MILLION * b + add;
+    high * b + middle / MILLION + rest / UNIT
 }
 
 // a * b / 10^6, to the nearest.

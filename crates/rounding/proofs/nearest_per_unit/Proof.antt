@@ -1,8 +1,21 @@
--- What `nearest_of` ensures of anything that was divided, at the product that `by_unit` divides.
+-- A product of small factors is rounded by adding half a unit before the division; any other by what `nearest_of` ensures of anything
+-- that was divided, at the product that `by_unit` divides.
+use mathlib.Core.Path.{sym, _∙_}
 use Prim.Native.Nat.{_*_}
 use borrow.Author.Needs.{needs}
+use native.Mathlib.Omega.{arith}
+use Rattle.rounding.proofs.Rest.{near-raised}
+use Rattle.rounding.proofs.Word.{near-rounds, per-unit-is}
 use Rattle.rounding.proofs.nearest_per_unit.Statement.{statement}
 use Rattle.rounding.proofs.nearest_per_unit.Tie as tie
+
+raised-requires : tie.Need-raised-requires
+raised-requires c κs = search needs
+
+returns : tie.Need-returns
+returns c =
+    let s = c .before .before .before .args in
+    c .raised .ensures ∙ sym (per-unit-is near-rounds (s .a) (s .b) (omega arith) (omega arith) ∙ near-raised (s .a * s .b))
 
 by-unit-requires : tie.Need-by-unit-requires
 by-unit-requires c κs = search needs
@@ -10,10 +23,11 @@ by-unit-requires c κs = search needs
 nearest-of-requires : tie.Need-nearest-of-requires
 nearest-of-requires c κs = search needs
 
-returns : tie.Need-returns
-returns c =
-    let s = c .before .before .args in
+returns-2 : tie.Need-returns-2
+returns-2 c =
+    let s = c .before .before .before .args in
     c .nearest-of .ensures (s .a * s .b) (c .before .by-unit .ensures)
 
 pub nearest-per-unit-spec : {M : Type 1} → statement M
-nearest-per-unit-spec = tie.close (tie.spec by-unit-requires nearest-of-requires returns)
+nearest-per-unit-spec =
+    tie.close (tie.spec raised-requires returns by-unit-requires nearest-of-requires returns-2)
