@@ -4,3 +4,4 @@ pub mod Cells
 pub mod Ranges
 pub mod Answer
 pub mod Valued
+pub mod Slices

@@ -1,0 +1,44 @@
+-- How long a piece can be: a word has at most 20 digits, and so a cell line at most 53 bytes.
+use mathlib.Core.Path.{_≡_, sym}
+use mathlib.Core.List.{List}
+use Prim.Native.Nat.{ℕ, suc, _≤_, _<_, _^_}
+use native.Mathlib.Omega.{arith}
+use lib.IntN.{ℤ, pos, negsuc}
+use lib.ListN.{length, length-append}
+use mir.Syntax.{w64}
+use mir.Val.{SFits}
+use Rattle.fund.specs.declared.Refusal.{Refusal}
+use Rattle.fund.specs.Base.{bytes}
+use Rattle.fund.specs.Refusals.{numberOf}
+use Rattle.fund.specs.Listing.{decimal, signed, joined, refusedLine}
+use Rattle.text.specs.Writing.{Room}
+use Rattle.text.specs.Shown.{room}
+use Rattle.text.specs.Pieces.{cellLine, head, foot}
+use Rattle.text.proofs.Decimal.{decimal-length}
+
+decimal-word : (n : ℕ) → n < 2 ^ 64 → length (decimal n) ≤ 20
+decimal-word n h = decimal-length 19 n (omega arith)
+
+signed-word : (z : ℤ) → SFits w64 z → length (signed z) ≤ 21
+unfolding signed
+signed-word (pos n) f = omega (arith, decimal-word n (omega (arith, f .sfits)))
+signed-word (negsuc n) f = omega (arith, decimal-word (suc n) (omega (arith, f .sfits)))
+
+pub cell-size : (x : ℕ) (f : ℤ) (bound : ℕ) → x < 4096 → SFits w64 f → bound < 2 ^ 64 → length (cellLine x f bound) ≤ 53
+unfolding cellLine joined bytes
+cell-size x f bound h g b =
+    simp length-append (omega (arith, decimal-length 3 x (omega arith), signed-word f g, decimal-word bound b))
+
+pub head-size : (E mean : ℕ) → E < 2 ^ 64 → mean < 2 ^ 64 → length (head E mean) ≤ 58
+unfolding head joined bytes
+head-size E mean h g = simp length-append (omega (arith, decimal-word E h, decimal-word mean g))
+
+pub foot-size : (premium : ℤ) (within : ℕ) → SFits w64 premium → within < 2 ^ 64 → length (foot premium within) ≤ 58
+unfolding foot joined bytes
+foot-size premium within h g = simp length-append (omega (arith, signed-word premium h, decimal-word within g))
+
+pub refusal-room : {text : List ℕ} (why : Refusal) (place n : ℕ) → n ≡ numberOf why → n < 2 ^ 64 → place < 2 ^ 64 → room ≤ length text
+    → Room text 0 (refusedLine why place)
+unfolding refusedLine joined bytes
+refusal-room why place n e h g r =
+    record { fits = simp (length-append, sym e) (omega (arith, decimal-word n h, decimal-word place g)) }

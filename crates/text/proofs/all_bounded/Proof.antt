@@ -1,0 +1,59 @@
+-- `text::all_bounded` meets its contract. The invariant: whether all are bounded is whether those from x on are.
+use mathlib.Core.Path.{_≡_, refl, sym, ap, _∙_}
+use Prim.Native.Nat.{_≤_, _-_}
+use native.Mathlib.Omega.{arith}
+use lib.ListN.{length, drop, drop-of-length-le}
+use Rattle.text.specs.Shown.{bounded}
+use Rattle.text.proofs.Pieces.{bounded-step, bounded-over}
+use Rattle.text.proofs.all_bounded.Statement.{statement}
+use Rattle.text.proofs.all_bounded.Tie as tie
+
+abbrev Inv-loop : tie.InvT-loop
+Inv-loop r x₀ x = (x ≤ length r) × (bounded (drop x r) ≡ bounded r)
+
+abbrev μ-loop : tie.MeasureT-loop
+μ-loop r x₀ x = length r - x
+
+loop-holds : tie.Need-loop-holds Inv-loop μ-loop
+loop-holds c = (omega arith, refl)
+
+mul-if1 : tie.Need-mul-if1 Inv-loop μ-loop
+mul-if1 c = omega arith
+
+shared-slice-read-if1 : tie.Need-shared-slice-read-if1 Inv-loop μ-loop
+shared-slice-read-if1 c = omega arith
+
+returns : tie.Need-returns Inv-loop μ-loop
+returns c =
+    let l = c .before .before .before in
+    sym (sym (l .loop .inv .1) ∙ bounded-over (l .before .args .r .now) (l .loop .x) (c .before .before .loop-test .taken) (c .if1 .taken))
+
+add-x : tie.Need-add-x Inv-loop μ-loop
+add-x c = omega arith
+
+loop-less : tie.Need-loop-less Inv-loop μ-loop
+loop-less c = omega arith
+
+loop-again : tie.Need-loop-again Inv-loop μ-loop
+loop-again c =
+    let l = c .before .before .before in
+    (omega arith, sym (bounded-step (l .before .args .r .now) (l .loop .x) (c .before .before .loop-test .taken) (c .if1 .left)) ∙ l .loop .inv .1)
+
+returns-2 : tie.Need-returns-2 Inv-loop μ-loop
+unfolding bounded
+returns-2 c = sym (ap bounded (drop-of-length-le (c .before .before .args .r .now) (c .loop-test .left))) ∙ c .before .loop .inv .1
+
+pub all-bounded-spec : {M : Type 1} → statement M
+all-bounded-spec =
+    tie.close
+    (tie.spec
+    Inv-loop
+    μ-loop
+    loop-holds
+    mul-if1
+    shared-slice-read-if1
+    returns
+    add-x
+    loop-less
+    loop-again
+    returns-2)

@@ -1,0 +1,86 @@
+-- `text::listing` meets its contract: the range test decides what is shown, and the verdict which of the two texts.
+use mathlib.Core.Path.{_≡_, sym, _∙_}
+use mathlib.Core.Bool.{true}
+use native.Mathlib.Omega.{arith}
+use borrow.Author.Tests.{not-true, not-false}
+use lib.ListN.{length}
+use lib.Seq.{length-take-le}
+use mir.Facts.{toZ-ofZ}
+use Rattle.text.specs.Shown.{inRange}
+use Rattle.text.proofs.Putting.{written-none, written-as}
+use Rattle.text.proofs.Range.{InRange, in-range, given, shown-out, shown-accepted, shown-refused}
+use borrow.Author.Needs.{needs}
+use Rattle.text.proofs.listing.Statement.{statement}
+use Rattle.text.proofs.listing.Tie as tie
+
+in-range-requires : tie.Need-in-range-requires
+in-range-requires c κs = search needs
+
+-- Past the range test.
+test : (c : tie.Else1) → let a = c .before .before .before .before .args in inRange (a .truncation) (a .horizon) (length (a .f .now)) (a .r .now) (length (a .text .now)) ≡ true
+test c = sym (c .before .in-range .ensures) ∙ not-false _ (c .if1 .left)
+
+range : (c : tie.Else1) → let a = c .before .before .before .before .args in InRange (a .truncation) (a .horizon) (length (a .f .now)) (a .r .now) (length (a .text .now))
+range c = in-range _ _ _ _ _ (test c)
+
+returns : tie.Need-returns
+returns c = written-as _ (shown-out _ _ _ (sym (c .before .in-range .ensures) ∙ not-true _ (c .if1 .taken))) (written-none _)
+
+add-count : tie.Need-add-count
+add-count c = omega (arith, range c .horizon)
+
+enum-told : tie.Need-enum-told
+enum-told c = search needs
+
+slice-aggregate-put-accepted : tie.Need-slice-aggregate-put-accepted
+slice-aggregate-put-accepted c = sym (length-take-le _ _ (omega (arith, range (c .before .before .before) .enough-f)))
+
+slice-aggregate-put-accepted-2 : tie.Need-slice-aggregate-put-accepted-2
+slice-aggregate-put-accepted-2 c = sym (length-take-le _ _ (omega (arith, range (c .before .before .before .before) .enough-R)))
+
+put-accepted-requires : tie.Need-put-accepted-requires
+put-accepted-requires c κs = (given _ _ (range (c .before .before .before .before .before)), range (c .before .before .before .before .before) .enough-text)
+
+enum-known-verdict : tie.Need-enum-known-verdict
+enum-known-verdict c = search needs
+
+put-refusal-requires : tie.Need-put-refusal-requires
+put-refusal-requires c κs = range (c .before .before .before .before) .enough-text
+
+returns-2 : tie.Need-returns-2
+returns-2 c =
+    let p = c .before .before in
+    let told = p .before .before .before .before in
+    let s = told .before .before .before .before .before .before in
+    written-as _ (shown-accepted _ _ _ (test (told .before .before)) (told .enum-told .given .1))
+    (rw (toZ-ofZ (s .fits .premium)) at (p .put-accepted .ensures))
+
+same-length : tie.Need-same-length
+same-length c = c .before .before .put-accepted .kept .1 .1 .1 .1 .1 .1 .0
+
+returns-3 : tie.Need-returns-3
+returns-3 c =
+    let p = c .before .before in
+    let told = p .before .before .before in
+    written-as _ (shown-refused _ _ _ _ _ (test (told .before .before)) (told .verdict .given .1)) (p .put-refusal .ensures)
+
+same-length-2 : tie.Need-same-length-2
+same-length-2 c = c .before .before .put-refusal .kept .1 .1 .0
+
+pub listing-spec : {M : Type 1} → statement M
+listing-spec =
+    tie.close
+    (tie.spec
+    in-range-requires
+    returns
+    add-count
+    enum-told
+    slice-aggregate-put-accepted
+    slice-aggregate-put-accepted-2
+    put-accepted-requires
+    enum-known-verdict
+    put-refusal-requires
+    same-length
+    returns-2
+    same-length-2
+    returns-3)

@@ -1,0 +1,45 @@
+-- What `listing` writes: the listing of the figures that it is given, where they are in range and there is room for it.
+use mathlib.Core.Bool.{Bool, true, _&&_}
+use mathlib.Core.List.{List, [], _∷_}
+use Prim.Native.Nat.{ℕ, suc}
+use lib.Dec.{leb, ltb}
+use lib.IntN.{ℤ}
+use lib.ListN.{length, take}
+use Rattle.fund.specs.declared.Verdict.{Verdict}
+use Rattle.fund.specs.Base.{if_then_else_}
+use Rattle.fund.specs.Limits.{most-horizon, most-truncation, most-bound}
+use Rattle.fund.specs.Answer.{Answer, empty}
+use Rattle.fund.specs.Listing.{printed}
+
+-- Room for every listing: 4,096 cell lines of at most 53 bytes, and 116 bytes for the other lines.
+abbrev pub room : ℕ
+room = 217204
+
+-- The answer with the figures that are printed.
+abbrev pub figures : Verdict → ℕ → ℕ → ℤ → ℕ → List ℤ → List ℕ → Answer
+figures verdict truncation mean premium within f R =
+    record {
+      verdict = verdict;
+      part = empty;
+      truncation = truncation;
+      mean = mean;
+      premium = premium;
+      within = within;
+      D = [];
+      H = [];
+      f = f;
+      R = R;
+    }
+
+-- No R(x) is above its limit.
+unfoldable pub bounded : List ℕ → Bool
+bounded [] = true
+bounded (R ∷ Rs) = leb R most-bound && bounded Rs
+
+-- The figures of the cells 0 to X are there and in range, and a text of that size has room for every listing.
+unfoldable pub inRange : ℕ → ℕ → ℕ → List ℕ → ℕ → Bool
+inRange E X cells R size =
+    leb X most-horizon && (ltb X cells && (ltb X (length R) && (leb E most-truncation && (leb room size && bounded (take (suc X) R)))))
+
+unfoldable pub shown : Answer → ℕ → ℕ → List ℕ
+shown a X size = if inRange (a .truncation) X (length (a .f)) (a .R) size then printed a X (a .verdict) else []

@@ -1,0 +1,259 @@
+// The bytes of a listing. Each private function writes one piece into a text from a place on, and returns the place behind it.
+use fund::Fund;
+use fund::Refusal;
+use fund::Verdict;
+ghost use mathlib.Core.Path.{_≡_};
+ghost use mathlib.Core.List.{[], _∷_, _++_};
+ghost use Prim.Native.Nat.{_+_, _*_, _<_, _≤_};
+ghost use lib.IntN.{natAbs};
+ghost use lib.ListN.{length};
+ghost use Rattle.fund.specs.Listing.{decimal, signed, joined, cellLines, refusedLine};
+ghost use Rattle.text.specs.Writing.{Room, Put, Written};
+ghost use Rattle.text.specs.Pieces.{cellLine, head, foot, lines, Given};
+ghost use Rattle.text.specs.Shown.{room, figures, bounded, inRange, shown};
+
+// Bytes enough for every listing.
+pub const ROOM: usize = 217204;
+
+// Writes the listing of the figures from the start of the text, and returns its size. Where a figure is out of range or the
+// text is too short, it writes nothing.
+pub fn listing(
+    verdict: Verdict,
+    truncation: u64,
+    mean: u64,
+    premium: i64,
+    within: u64,
+    horizon: usize,
+    f: &[i64],
+    r: &[u64],
+    text: &mut [u8],
+) -> usize
+    ensures { λ size. ⌜
+        Written
+        (shown (figures verdict truncation mean premium within (now (f .entry)) (now (r .entry))) horizon (length (now (text .entry))))
+        (now (text .entry)) (now (text .exit)) size ⌝ }
+{
+    if !in_range(truncation, horizon, f.len(), r, text.len()) {
+        return 0;
+    }
+    let count = horizon + 1;
+    match verdict {
+        Verdict::Accepted => put_accepted(
+            truncation,
+            mean,
+            premium,
+            within,
+            &f[..count],
+            &r[..count],
+            text,
+        ),
+        Verdict::Refused(why, place) => put_refusal(why, place, text),
+    }
+}
+
+// Writes the byte.
+fn put_byte(byte: u8, text: &mut [u8], at: usize) -> usize
+    requires { ⌜ Room (now text) at (byte ∷ []) ⌝ }
+    ensures { λ next. ⌜ Put (now (text .entry)) at (byte ∷ []) (now (text .exit)) next ⌝ }
+{
+    text[at] = byte;
+    at + 1
+}
+
+// Writes the key's bytes.
+fn put_key(key: &[u8], text: &mut [u8], at: usize) -> usize
+    requires { ⌜ Room (now text) at (now key) ⌝ }
+    ensures { λ next. ⌜ Put (now (text .entry)) at (now (key .entry)) (now (text .exit)) next ⌝ }
+{
+    let mut next = at;
+    let mut i = 0;
+    while i < key.len() {
+        next = put_byte(key[i], text, next);
+        i += 1;
+    }
+    next
+}
+
+// Writes one digit.
+fn put_digit(digit: u64, text: &mut [u8], at: usize) -> usize
+    requires { ⌜ (digit < 10) × Room (now text) at ((48 + digit) ∷ []) ⌝ }
+    ensures { λ next. ⌜ Put (now (text .entry)) at ((48 + digit) ∷ []) (now (text .exit)) next ⌝ }
+{
+    put_byte(b'0' + digit as u8, text, at)
+}
+
+// Writes the number in decimal: the digits before the last, then the last.
+fn put_decimal(n: u64, text: &mut [u8], at: usize) -> usize
+    requires { ⌜ Room (now text) at (decimal n) ⌝ }
+    ensures { λ next. ⌜ Put (now (text .entry)) at (decimal n) (now (text .exit)) next ⌝ }
+{
+    if n < 10 {
+        return put_digit(n, text, at);
+    }
+    let last = put_decimal(n / 10, text, at);
+    put_digit(n % 10, text, last)
+}
+
+// The magnitude, also of the least number.
+fn magnitude(z: i64) -> u64
+    ensures { λ n. ⌜ n ≡ natAbs z ⌝ }
+{
+    if z < 0 {
+        let below = -1 - z;
+        let n = below as u64;
+        n + 1
+    } else {
+        z as u64
+    }
+}
+
+// Writes the number in decimal, a negative one with its sign.
+fn put_signed(z: i64, text: &mut [u8], at: usize) -> usize
+    requires { ⌜ Room (now text) at (signed z) ⌝ }
+    ensures { λ next. ⌜ Put (now (text .entry)) at (signed z) (now (text .exit)) next ⌝ }
+{
+    let n = magnitude(z);
+    if z < 0 {
+        let digits = put_byte(b'-', text, at);
+        return put_decimal(n, text, digits);
+    }
+    put_decimal(n, text, at)
+}
+
+// Writes the number and the byte behind it: a comma, or the line feed.
+fn put_figure(n: u64, end: u8, text: &mut [u8], at: usize) -> usize
+    requires { ⌜ Room (now text) at (decimal n ++ (end ∷ [])) ⌝ }
+    ensures { λ next. ⌜ Put (now (text .entry)) at (decimal n ++ (end ∷ [])) (now (text .exit)) next ⌝ }
+{
+    let behind = put_decimal(n, text, at);
+    put_byte(end, text, behind)
+}
+
+// The same for a number that may be negative.
+fn put_signed_figure(z: i64, end: u8, text: &mut [u8], at: usize) -> usize
+    requires { ⌜ Room (now text) at (signed z ++ (end ∷ [])) ⌝ }
+    ensures { λ next. ⌜ Put (now (text .entry)) at (signed z ++ (end ∷ [])) (now (text .exit)) next ⌝ }
+{
+    let behind = put_signed(z, text, at);
+    put_byte(end, text, behind)
+}
+
+// Writes a line with one figure.
+fn put_line(key: &[u8], n: u64, text: &mut [u8], at: usize) -> usize
+    requires { ⌜ Room (now text) at (now key ++ joined (decimal n) []) ⌝ }
+    ensures { λ next. ⌜ Put (now (text .entry)) at (now (key .entry) ++ joined (decimal n) []) (now (text .exit)) next ⌝ }
+{
+    let figure = put_key(key, text, at);
+    put_figure(n, b'\n', text, figure)
+}
+
+// Writes the line of a cell.
+fn put_cell(x: u64, f: i64, bound: u64, text: &mut [u8], at: usize) -> usize
+    requires { ⌜ Room (now text) at (cellLine x f bound) ⌝ }
+    ensures { λ next. ⌜ Put (now (text .entry)) at (cellLine x f bound) (now (text .exit)) next ⌝ }
+{
+    let x_at = put_key(b"cell=", text, at);
+    let f_at = put_figure(x, b',', text, x_at);
+    let bound_at = put_signed_figure(f, b',', text, f_at);
+    put_figure(bound, b'\n', text, bound_at)
+}
+
+// Writes the lines of the cells, from x = 0 on, each with the bound R(x) + 2×E. A line has at most 53 bytes.
+fn put_cells(truncation: u64, f: &[i64], r: &[u64], text: &mut [u8], at: usize) -> usize
+    requires { ⌜ Given truncation (now f) (now r) × (at + 53 * length (now r) ≤ length (now text)) ⌝ }
+    ensures { λ next. ⌜ Put (now (text .entry)) at (cellLines truncation 0 (now (f .entry)) (now (r .entry))) (now (text .exit)) next ⌝ }
+    ensures { λ next. ⌜ next ≤ at + 53 * length (now (r .entry)) ⌝ }
+{
+    let mut next = at;
+    let mut x = 0;
+    while x < r.len() {
+        next = put_cell(x as u64, f[x], r[x] + 2 * truncation, text, next);
+        x += 1;
+    }
+    next
+}
+
+// Writes the lines before the cells.
+fn put_head(truncation: u64, mean: u64, text: &mut [u8]) -> usize
+    requires { ⌜ Room (now text) 0 (head truncation mean) ⌝ }
+    ensures { λ next. ⌜ Put (now (text .entry)) 0 (head truncation mean) (now (text .exit)) next ⌝ }
+{
+    let next = put_line(b"truncation=", truncation, text, 0);
+    put_line(b"mean=", mean, text, next)
+}
+
+// Writes the lines behind the cells.
+fn put_foot(premium: i64, within: u64, text: &mut [u8], at: usize) -> usize
+    requires { ⌜ Room (now text) at (foot premium within) ⌝ }
+    ensures { λ next. ⌜ Put (now (text .entry)) at (foot premium within) (now (text .exit)) next ⌝ }
+{
+    let figure = put_key(b"premium=", text, at);
+    let next = put_signed_figure(premium, b'\n', text, figure);
+    put_line(b"within=", within, text, next)
+}
+
+// Writes the lines of an accepted fund.
+fn put_accepted(
+    truncation: u64,
+    mean: u64,
+    premium: i64,
+    within: u64,
+    f: &[i64],
+    r: &[u64],
+    text: &mut [u8],
+) -> usize
+    requires { ⌜ Given truncation (now f) (now r) × (room ≤ length (now text)) ⌝ }
+    ensures { λ size. ⌜ Written (lines truncation mean premium within (now (f .entry)) (now (r .entry))) (now (text .entry)) (now (text .exit)) size ⌝ }
+{
+    let cells = put_head(truncation, mean, text);
+    let foot = put_cells(truncation, f, r, text, cells);
+    put_foot(premium, within, text, foot)
+}
+
+// Writes the line of a refusal.
+fn put_refusal(why: Refusal, place: u64, text: &mut [u8]) -> usize
+    requires { ⌜ room ≤ length (now text) ⌝ }
+    ensures { λ size. ⌜ Written (refusedLine why place) (now (text .entry)) (now (text .exit)) size ⌝ }
+{
+    let number = fund::number(why);
+    let number_at = put_key(b"refused=", text, 0);
+    let place_at = put_figure(number, b',', text, number_at);
+    put_figure(place, b'\n', text, place_at)
+}
+
+// No R(x) is above its limit.
+fn all_bounded(r: &[u64]) -> bool
+    ensures { λ yes. ⌜ yes ≡ bounded (now (r .entry)) ⌝ }
+{
+    let mut x: usize = 0;
+    while x < r.len() {
+        if Fund::MOST_BOUND < r[x] {
+            return false;
+        }
+        x += 1;
+    }
+    true
+}
+
+// The figures of the cells are there and in range, and there is room.
+fn in_range(truncation: u64, horizon: usize, cells: usize, r: &[u64], room: usize) -> bool
+    ensures { λ yes. ⌜ yes ≡ inRange truncation horizon cells (now (r .entry)) room ⌝ }
+{
+    if Fund::MOST_HORIZON < horizon as u64 {
+        return false;
+    }
+    if cells <= horizon {
+        return false;
+    }
+    if r.len() <= horizon {
+        return false;
+    }
+    if Fund::MOST_TRUNCATION < truncation {
+        return false;
+    }
+    if room < ROOM {
+        return false;
+    }
+    let count = horizon + 1;
+    all_bounded(&r[..count])
+}
