@@ -92,11 +92,15 @@ valued fund ms n cells =
     (refuse Short (at0 (short n (fund .horizon)))
     (refuse Wide (first wide 0 cells) Accepted)))
 
--- 3 to 10.
-unfoldable pub verdict : FundFile → Lengths → List Cell → Verdict
-verdict file n cells =
+-- 3 to 6, and what follows them.
+unfoldable pub matched : FundFile → Verdict → Verdict
+matched file after =
     let fund = file .header in
     refuse Edition (at0 (not (eqb (fund .rates) (fund .members))))
     (refuse Deductible (at0 (ltb (suc (fund .horizon)) (fund .deductible)))
     (refuse Unmatched (first (unmatched (file .rates)) (firstMember file) (file .members))
-    (refuse Half (first half (firstMember file) (lives file)) (valued fund (lives file) n cells))))
+    (refuse Half (first half (firstMember file) (lives file)) after)))
+
+-- 3 to 10.
+unfoldable pub verdict : FundFile → Lengths → List Cell → Verdict
+verdict file n cells = matched file (valued (file .header) (lives file) n cells)

@@ -17,7 +17,7 @@ use Rattle.fund.specs.Reading.{FundFile}
 use Rattle.fund.specs.Folding.{lives, claim, single}
 use Rattle.fund.specs.Transform.{load, truncation}
 use Rattle.fund.specs.Recursion.{Cell}
-use Rattle.fund.specs.Refusals.{first, unmatched, half, wide, Lengths, short, refuse, at0, valued, verdict}
+use Rattle.fund.specs.Refusals.{first, unmatched, half, wide, Lengths, short, refuse, at0, valued, matched, verdict}
 
 -- a fact of every element of a list
 abbrev pub All : {A : Type 0} → (A → Type 0) → List A → Type 0
@@ -75,7 +75,7 @@ pub record Accepts (file : FundFile) (n : Lengths) (cells : List Cell) : Type 0 
   pub narrow : All (λ (y : Cell). y .R ≤ most-bound) cells
 
 pub accepts : (file : FundFile) (n : Lengths) (cells : List Cell) → verdict file n cells ≡ Accepted → Accepts file n cells
-unfolding verdict valued short wide
+unfolding verdict matched valued short wide
 accepts file n cells e =
     let X = file .header .horizon in
     let e3 = refuse-accepted _ _ _ e in

@@ -1,7 +1,7 @@
 -- `text::put_decimal` meets its contract. A number of more than one digit is the digits of its tenth and its last digit.
 -- The measure is the number.
 use mathlib.Core.Path.{_∙_}
-use Prim.Native.Nat.{ℕ, _+_, _<_}
+use Prim.Native.Nat.{ℕ, _<_}
 use native.Mathlib.Omega.{arith}
 use Rattle.text.proofs.Putting.{put-then, room-first, room-then}
 use Rattle.text.proofs.Decimal.{decimal-digit, decimal-step}

@@ -7,7 +7,6 @@ use mir.Facts.{toZ-ofZ}
 use Rattle.text.specs.Pieces.{head, foot, lines}
 use Rattle.text.proofs.Putting.{put-length, put-then, put-written}
 use Rattle.text.proofs.Sizes.{head-size, foot-size}
-use borrow.Author.Needs.{needs}
 use Rattle.text.proofs.put_accepted.Statement.{statement}
 use Rattle.text.proofs.put_accepted.Tie as tie
 

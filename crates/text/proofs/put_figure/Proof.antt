@@ -1,6 +1,5 @@
 -- `text::put_figure` meets its contract: the digits, and the byte behind them.
 use Rattle.text.proofs.Putting.{put-length, put-then, room-first, room-then}
-use borrow.Author.Needs.{needs}
 use Rattle.text.proofs.put_figure.Statement.{statement}
 use Rattle.text.proofs.put_figure.Tie as tie
 

@@ -1,7 +1,6 @@
 -- `text::put_line` meets its contract: the key, and the figure with the line feed.
 use Rattle.fund.specs.Listing.{joined}
 use Rattle.text.proofs.Putting.{put-length, put-then, room-first, room-then}
-use borrow.Author.Needs.{needs}
 use Rattle.text.proofs.put_line.Statement.{statement}
 use Rattle.text.proofs.put_line.Tie as tie
 

@@ -1,7 +1,6 @@
 -- `text::put_signed_figure` meets its contract: the number, and the byte behind it.
 use mir.Facts.{toZ-ofZ}
 use Rattle.text.proofs.Putting.{put-length, put-then, room-first, room-then}
-use borrow.Author.Needs.{needs}
 use Rattle.text.proofs.put_signed_figure.Statement.{statement}
 use Rattle.text.proofs.put_signed_figure.Tie as tie
 

@@ -1,0 +1,130 @@
+-- Laws of the header lines: each step of the definition `readHeader`, at a line of a file and at the file's end.
+use mathlib.Core.Path.{_≡_, refl, sym, ap, _∙_}
+use mathlib.Core.Bool.{Bool, true, false, _&&_}
+use mathlib.Core.List.{List, [], _∷_, _++_, map}
+use mathlib.Core.Option.{Option, none, some}
+use Prim.Native.Nat.{ℕ, zero, suc, _+_, _-_, _≤_, _<_}
+use native.Mathlib.Numerals.{add-one}
+use native.Mathlib.Omega.{arith}
+use borrow.Author.Tests.{eqb-true}
+use lib.Dec.{eqb}
+use lib.ListN.{length, take, drop, getD, length-map, drop-of-length-le}
+use lib.Seq.{drop-cons, take-all}
+use Rattle.fund.specs.declared.Refusal.the-variants.{Form, Range}
+use Rattle.fund.specs.Base.{if_then_else_}
+use Rattle.fund.specs.Lines.{Line as FundLine, linesFrom, lines}
+use Rattle.fund.specs.Spelling.{value, fields, allNumbers, numbers, behind, spelled}
+use Rattle.fund.specs.Answer.{namesLine}
+use Rattle.fund.specs.Reading.{Reading, stopped, between, HeaderLine, headerLines, headerOf, readHeader, readRows, reading}
+use Rattle.reader.specs.declared.line.Line.{Line}
+use Rattle.reader.specs.declared.line.Stop.{Stop}
+use Rattle.reader.specs.declared.text.Numbers.{Numbers}
+use Rattle.reader.specs.Text.{numbersIn}
+use Rattle.reader.specs.Lines.{linesAt, lineOf, NextLine, Passed, stopAt}
+use Rattle.reader.specs.Header.{noLine, headerLine, headerFrom, HeaderNext, HeaderStop}
+use Rattle.reader.proofs.Texts.{numbers-none, numbers-some}
+use Rattle.reader.proofs.Lines.{hands-line, hands-none, passed-next}
+
+-- A text that is spelled so has just as many numbers.
+numbers-length : (count : ℕ) (s ns : List ℕ) → numbers count s ≡ some ns → length ns ≡ count
+unfolding numbers
+numbers-length count s ns e = go (eqb (length (fields s)) count) (allNumbers (fields s)) refl e
+  where
+    go : (t u : Bool) → eqb (length (fields s)) count ≡ t → (if t && u then some (map value (fields s)) else none) ≡ some ns → length ns ≡ count
+    go true true w e′ =
+        let z : map value (fields s) ≡ ns = cc in
+        ap length (sym z) ∙ length-map (fields s) value ∙ eqb-true (length (fields s)) count w
+    go true false w e′ = let z : _≡_ {A = ℕ} 0 1 = cc in absurd (omega arith)
+    go false u w e′ = let z : _≡_ {A = ℕ} 0 1 = cc in absurd (omega arith)
+
+pub spelled-length : (key : List ℕ) (count : ℕ) (l : FundLine) (ns : List ℕ) → spelled key count l ≡ some ns → length ns ≡ count
+unfolding spelled
+spelled-length key count l ns e = go (l .ended) (behind key (l .text)) e
+  where
+    go
+        : (t : Bool) (o : Option (List ℕ))
+        → elim t [ true ↦ elim o [ none ↦ none | some text ↦ numbers count text ] | false ↦ none ] ≡ some ns
+        → length ns ≡ count
+    go true none e′ = let z : _≡_ {A = ℕ} 0 1 = cc in absurd (omega arith)
+    go true (some text) e′ = numbers-length count text ns e′
+    go false o e′ = let z : _≡_ {A = ℕ} 0 1 = cc in absurd (omega arith)
+
+one-number : (ns : List ℕ) → length (take 1 ns) ≡ 1 → take 1 ns ≡ getD ns 0 0 ∷ []
+one-number [] e = absurd (omega arith)
+one-number (n ∷ ns) e = refl
+
+split : (k : ℕ) → k < 6 → drop k headerLines ≡ headerLine k ∷ drop (suc k) headerLines
+unfolding headerLines headerLine
+split k h = drop-cons headerLines k noLine h
+
+module _ (file : List ℕ) (k at : ℕ) (h : k < 6) (ns : List ℕ) where
+  pub header-missing : length file ≤ at → headerFrom file k ns at ≡ stopped Form (k + 1)
+  unfolding readHeader linesFrom
+  header-missing g = rw (split k h, drop-of-length-le file g)
+
+  module _ (l : Line) (n : NextLine file at l) where
+    pub header-form : spelled (headerLine k .key) 1 (lineOf file l) ≡ none → headerFrom file k ns at ≡ stopped Form (k + 1)
+    unfolding readHeader
+    header-form e = rw (split k h, n .first) (rw (e, readHeader))
+
+    module _ (v : List ℕ) (e : spelled (headerLine k .key) 1 (lineOf file l) ≡ some (take 1 v)) where
+      one : spelled (headerLine k .key) 1 (lineOf file l) ≡ some (getD v 0 0 ∷ [])
+      one = e ∙ ap some (one-number v (spelled-length (headerLine k .key) 1 (lineOf file l) (take 1 v) e))
+
+      pub header-range : between (headerLine k .least) (headerLine k .most) (getD v 0 0) ≡ false → headerFrom file k ns at ≡ stopped Range (k + 1)
+      unfolding readHeader
+      header-range f = rw (split k h, n .first) (rw (one, readHeader) (rw (f, readHeader)))
+
+      pub header-next : between (headerLine k .least) (headerLine k .most) (getD v 0 0) ≡ true → headerFrom file k ns at ≡ headerFrom file (k + 1) (ns ++ (getD v 0 0 ∷ [])) (l .next)
+      unfolding readHeader
+      header-next f = rw (split k h, n .first, add-one k) (rw (one, readHeader) (rw (f, readHeader) (rw (add-one (suc k)))))
+
+-- What a step answers.
+module _ (file : List ℕ) (k at : ℕ) (p : Passed file k at) (h : k < 6) where
+  pub step-missing : (l : Line) (s : Stop) → length file ≤ at → l ≡ record { start = 0; end = 0; next = 0 } → s ≡ stopAt Form k l → HeaderStop file k at s
+  unfolding namesLine
+  step-missing l s g e f =
+      rw (f, e) (record { hands = hands-none file k at p Form refl g; same = λ ns. header-missing file k at h ns g })
+
+  module _ (l : Line) (n : NextLine file at l) (r : Numbers) (e : numbersIn 1 r ≡ spelled (headerLine k .key) 1 (lineOf file l)) where
+    pub step-form : (s : Stop) → r .spelled ≡ false → s ≡ stopAt Form k l → HeaderStop file k at s
+    unfolding namesLine
+    step-form s g f =
+        rw f
+        (record {
+          hands = hands-line file k at p Form l refl n;
+          same = λ ns. header-form file k at h ns l n (sym e ∙ numbers-none 1 r g);
+        })
+
+    module _ (g : r .spelled ≡ true) where
+      is : spelled (headerLine k .key) 1 (lineOf file l) ≡ some (take 1 (r .values))
+      is = sym e ∙ numbers-some 1 r g
+
+      pub step-range : (s : Stop) → between (headerLine k .least) (headerLine k .most) (getD (r .values) 0 0) ≡ false → s ≡ stopAt Range k l → HeaderStop file k at s
+      unfolding namesLine
+      step-range s b f =
+          rw f
+          (record {
+            hands = hands-line file k at p Range l refl n;
+            same = λ ns. header-range file k at h ns l n (r .values) is b;
+          })
+
+      pub step-next : between (headerLine k .least) (headerLine k .most) (getD (r .values) 0 0) ≡ true → HeaderNext file k at (getD (r .values) 0 0) (l .next)
+      step-next b =
+          record {
+            later = n .later;
+            passed = passed-next file k at p l n;
+            same = λ ns. header-next file k at h ns l n (r .values) is b;
+          }
+
+pub passed-none : (file : List ℕ) → Passed file 0 0
+unfolding lines
+passed-none file = record { inside = omega arith; few = omega arith; left = refl }
+
+pub header-start : (file : List ℕ) → reading file ≡ headerFrom file 0 [] 0
+unfolding reading lines
+header-start file = refl
+
+pub header-end : (file v : List ℕ) (at : ℕ) → length v ≡ 6 → headerFrom file 6 (take 6 v) at ≡ readRows 7 (headerOf v) [] [] (linesAt file at)
+unfolding readHeader headerLines
+header-end file v at e = rw (take-all 6 v (omega arith))

@@ -1,0 +1,50 @@
+-- `reader::clear_rates`: slices of zeros are a table of no rows.
+use borrow.Author.Needs.{needs}
+use lib.ListN.{length}
+use Rattle.reader.specs.Read.{rateTable}
+use Rattle.reader.proofs.Whole.{zeros}
+use Rattle.reader.proofs.clear_rates.Statement.{statement}
+use Rattle.reader.proofs.clear_rates.Tie as tie
+
+clear-requires : tie.Need-clear-requires
+clear-requires c κs = search needs
+
+clear-requires-2 : tie.Need-clear-requires-2
+clear-requires-2 c κs = search needs
+
+clear-requires-3 : tie.Need-clear-requires-3
+clear-requires-3 c κs = search needs
+
+same-length : tie.Need-same-length
+same-length c = search needs
+
+same-length-2 : tie.Need-same-length-2
+same-length-2 c = search needs
+
+same-length-3 : tie.Need-same-length-3
+same-length-3 c = search needs
+
+returns : tie.Need-returns
+unfolding rateTable
+returns c =
+    let a = c .before .before .before .before .before .before .before .before .before .before .before .before .before .before .before .args in
+    rw (
+      c .before .before .before .before .before .before .before .before .before .before .clear .ensures,
+      c .before .before .before .before .before .before .clear2 .ensures,
+      c .before .before .clear3 .ensures,
+      zeros (length (a .ages .now)),
+      zeros (length (a .q .now)),
+      zeros (length (a .i .now)),
+    )
+
+pub clear-rates-spec : {M : Type 1} → statement M
+clear-rates-spec =
+    tie.close
+    (tie.spec
+    clear-requires
+    clear-requires-2
+    clear-requires-3
+    same-length
+    same-length-2
+    same-length-3
+    returns)

@@ -1,0 +1,36 @@
+-- `reader::row::member_in_range`: the tests of the definition, in its order.
+use mathlib.Core.Path.{_≡_, sym, _∙_}
+use native.Mathlib.Omega.{arith}
+use borrow.Author.Needs.{needs}
+use borrow.Author.Tests.{lt-ltb, le-ltb, le-leb, lt-leb}
+use Rattle.fund.specs.Reading.{memberInRange}
+use Rattle.reader.proofs.Rows.{length-members}
+use Rattle.reader.proofs.row.member_in_range.Statement.{statement}
+use Rattle.reader.proofs.row.member_in_range.Tie as tie
+
+returns : tie.Need-returns
+unfolding memberInRange
+returns c = let a = c .before .args in λ u. rw (length-members, le-ltb (a .n) 1000 (omega arith))
+
+returns-2 : tie.Need-returns-2
+unfolding memberInRange
+returns-2 c = let a = c .before .before .before .args in λ u. rw (length-members, lt-ltb (a .n) 1000 (omega arith), lt-leb (a .m .age) 120 (omega arith))
+
+within-requires : tie.Need-within-requires
+within-requires c κs = search needs
+
+returns-3 : tie.Need-returns-3
+unfolding memberInRange
+returns-3 c = let a = c .before .before .before .before .before .before .before .args in λ u. rw (length-members, lt-ltb (a .n) 1000 (omega arith), le-leb (a .m .age) 120 (omega arith), sym (c .before .before .before .within .ensures) ∙ c .before .before .if3 .taken, lt-leb (a .m .d) 65535 (omega arith))
+
+returns-4 : tie.Need-returns-4
+unfolding memberInRange
+returns-4 c = let a = c .before .before .before .before .before .before .before .before .args in λ u. rw (length-members, lt-ltb (a .n) 1000 (omega arith), le-leb (a .m .age) 120 (omega arith), sym (c .before .before .before .before .within .ensures) ∙ c .before .before .before .if3 .taken, le-leb (a .m .d) 65535 (omega arith))
+
+returns-5 : tie.Need-returns-5
+unfolding memberInRange
+returns-5 c = let a = c .before .before .before .before .before .args in λ u. rw (length-members, lt-ltb (a .n) 1000 (omega arith), le-leb (a .m .age) 120 (omega arith), sym (c .before .within .ensures) ∙ c .if3 .left)
+
+pub member-in-range-spec : {M : Type 1} → statement M
+member-in-range-spec =
+    tie.close (tie.spec returns returns-2 within-requires returns-3 returns-4 returns-5)

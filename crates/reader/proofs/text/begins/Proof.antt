@@ -1,0 +1,68 @@
+-- `reader::text::begins`: what stands behind the key is what stands behind the rest of it, from i on in both.
+use mathlib.Core.Path.{_≡_, refl, _∙_}
+use Prim.Native.Nat.{_-_, _≤_}
+use native.Mathlib.Numerals.{add-one}
+use native.Mathlib.Nat.{le-antisymm}
+use native.Mathlib.Omega.{arith}
+use lib.ListN.{length, drop}
+use Rattle.fund.specs.Spelling.{behind}
+use Rattle.reader.proofs.Texts.{behind-next, behind-not, behind-short, behind-end}
+use Rattle.reader.proofs.text.begins.Statement.{statement}
+use Rattle.reader.proofs.text.begins.Tie as tie
+
+abbrev Inv-loop : tie.InvT-loop
+Inv-loop text key i₀ i = (i ≤ length key) × (i ≤ length text) × (behind key text ≡ behind (drop i key) (drop i text))
+
+abbrev μ-loop : tie.MeasureT-loop
+μ-loop text key i₀ i = length key - i
+
+loop-holds : tie.Need-loop-holds Inv-loop μ-loop
+loop-holds c = (omega arith, omega arith, refl)
+
+returns : tie.Need-returns Inv-loop μ-loop
+returns c = c .before .before .loop .inv .2 ∙ behind-short _ _ _ (c .before .loop-test .taken) (c .if1 .taken)
+
+shared-slice-read-if2 : tie.Need-shared-slice-read-if2 Inv-loop μ-loop
+shared-slice-read-if2 c = omega arith
+
+shared-slice-read-if2-2 : tie.Need-shared-slice-read-if2-2 Inv-loop μ-loop
+shared-slice-read-if2-2 c = omega arith
+
+returns-2 : tie.Need-returns-2 Inv-loop μ-loop
+returns-2 c =
+    let t = c .before .before .before .before in
+    let l = t .before .loop in
+    l .inv .2 ∙ behind-not _ _ _ (t .loop-test .taken) (omega arith) (c .if2 .taken)
+
+add-i : tie.Need-add-i Inv-loop μ-loop
+add-i c = omega arith
+
+loop-less : tie.Need-loop-less Inv-loop μ-loop
+loop-less c = omega arith
+
+loop-again : tie.Need-loop-again Inv-loop μ-loop
+loop-again c =
+    let t = c .before .before .before .before in
+    let l = t .before .loop in
+    (omega arith, omega arith, rw add-one (l .inv .2 ∙ behind-next _ _ _ (t .loop-test .taken) (omega arith) (c .if2 .left)))
+
+returns-3 : tie.Need-returns-3 Inv-loop μ-loop
+returns-3 c =
+    let l = c .before .loop in
+    rw (le-antisymm (c .loop-test .left) (l .inv .0)) (l .inv .2 ∙ behind-end _ _ _ (c .loop-test .left))
+
+pub begins-spec : {M : Type 1} → statement M
+begins-spec =
+    tie.close
+    (tie.spec
+    Inv-loop
+    μ-loop
+    loop-holds
+    returns
+    shared-slice-read-if2
+    shared-slice-read-if2-2
+    returns-2
+    add-i
+    loop-less
+    loop-again
+    returns-3)

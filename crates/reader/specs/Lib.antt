@@ -1,0 +1,6 @@
+pub mod Text
+pub mod Lines
+pub mod Header
+pub mod Rows
+pub mod Body
+pub mod Read

@@ -1,0 +1,29 @@
+-- What the functions on a text answer, in the words of the fund's definitions.
+use mathlib.Core.Bool.{Bool, true, false}
+use mathlib.Core.List.{List, [], _∷_}
+use mathlib.Core.Option.{Option, none, some}
+use Prim.Native.Nat.{ℕ, suc}
+use lib.Dec.{eqb}
+use lib.ListN.{take, drop}
+use Rattle.fund.specs.Base.{if_then_else_}
+use Rattle.fund.specs.Spelling.{isNumber, value}
+use Rattle.reader.specs.declared.text.Number.{Number}
+use Rattle.reader.specs.declared.text.Number.the-variants.{Value, Misspelled}
+use Rattle.reader.specs.declared.text.Numbers.{Numbers}
+
+-- How many bytes stand before the first `b`, or before the end where there is none.
+unfoldable pub before : ℕ → List ℕ → ℕ
+before b [] = 0
+before b (x ∷ xs) = if eqb x b then 0 else suc (before b xs)
+
+-- What stands behind a key of n bytes, where the text begins with it.
+abbrev pub behindIf : Bool → ℕ → List ℕ → Option (List ℕ)
+behindIf true n text = some (drop n text)
+behindIf false n text = none
+
+unfoldable pub numberIn : List ℕ → Number
+numberIn text = if isNumber text then Value (value text) else Misspelled
+
+-- The first numbers of an answer, where the text is spelled so.
+unfoldable pub numbersIn : ℕ → Numbers → Option (List ℕ)
+numbersIn count r = if r .spelled then some (take count (r .values)) else none

@@ -1,0 +1,117 @@
+// The header lines, in their order, each with one number and its range.
+use crate::line;
+use crate::line::Line;
+use crate::line::Stop;
+use crate::text::Numbers;
+use fund::Fund;
+use fund::Refusal;
+ghost use mathlib.Core.Path.{_≡_};
+ghost use Prim.Native.Nat.{_<_};
+ghost use Rattle.fund.specs.Spelling.{spelled};
+ghost use Rattle.fund.specs.Reading.{between};
+ghost use Rattle.reader.specs.Text.{numbersIn};
+ghost use Rattle.reader.specs.Lines.{lineOf, Within, Passed};
+ghost use Rattle.reader.specs.Header.{headerLine, HeaderStepped, HeaderRead};
+
+// What a header line gives: its number and the next line's start, or where reading stops.
+pub(crate) enum HeaderStep {
+    Number(u64, usize),
+    Stopped(Stop),
+}
+
+// What the header gives: its figures and the first row's start, or where reading stops.
+pub(crate) enum Header {
+    Whole(Fund, usize),
+    Stopped(Stop),
+}
+
+pub(crate) fn within(least: u64, most: u64, n: u64) -> bool
+    ensures { λ r. ⌜ r ≡ between least most n ⌝ }
+{
+    if n < least {
+        return false;
+    }
+    n <= most
+}
+
+// The number of the header line k.
+fn numbers_at(file: &[u8], line: Line, k: usize) -> Numbers
+    requires { ⌜ Within (now file) line ⌝ }
+    requires { ⌜ k < 6 ⌝ }
+    ensures { λ r. ⌜ numbersIn 1 r ≡ spelled (headerLine k .key) 1 (lineOf (now (file .entry)) line) ⌝ }
+{
+    match k {
+        0 => line::spelled(file, line, b"rates=", 1),
+        1 => line::spelled(file, line, b"members=", 1),
+        2 => line::spelled(file, line, b"horizon=", 1),
+        3 => line::spelled(file, line, b"order=", 1),
+        4 => line::spelled(file, line, b"frequency=", 1),
+        _ => line::spelled(file, line, b"deductible=", 1),
+    }
+}
+
+// Whether n is in the range of the header line k.
+fn in_range(k: usize, n: u64) -> bool
+    requires { ⌜ k < 6 ⌝ }
+    ensures { λ r. ⌜ r ≡ between (headerLine k .least) (headerLine k .most) n ⌝ }
+{
+    match k {
+        0 => within(Fund::LEAST_EDITION, Fund::MOST_EDITION, n),
+        1 => within(Fund::LEAST_EDITION, Fund::MOST_EDITION, n),
+        2 => within(0, Fund::MOST_HORIZON, n),
+        3 => within(Fund::LEAST_ORDER, Fund::MOST_ORDER, n),
+        4 => within(0, Fund::MOST_FREQUENCY, n),
+        _ => within(0, Fund::MOST_DEDUCTIBLE, n),
+    }
+}
+
+// The header line k, which starts at `at`: form before range.
+fn step(file: &[u8], at: usize, k: usize) -> HeaderStep
+    requires { ⌜ Passed (now file) k at ⌝ }
+    requires { ⌜ k < 6 ⌝ }
+    ensures { λ r. ⌜ HeaderStepped (now (file .entry)) k at r ⌝ }
+{
+    if file.len() <= at {
+        return HeaderStep::Stopped(line::stop_at(Refusal::Form, k, line::missing()));
+    }
+    let l = line::next_line(file, at);
+    let ns = numbers_at(file, l, k);
+    if ns.spelled {
+        let values = ns.values;
+        let n = values[0];
+        if in_range(k, n) {
+            return HeaderStep::Number(n, l.next);
+        }
+        return HeaderStep::Stopped(line::stop_at(Refusal::Range, k, l));
+    }
+    HeaderStep::Stopped(line::stop_at(Refusal::Form, k, l))
+}
+
+pub(crate) fn read_header(file: &[u8]) -> Header
+    ensures { λ r. ⌜ HeaderRead (now (file .entry)) r ⌝ }
+{
+    let mut values = [0u64; 6];
+    let mut at: usize = 0;
+    let mut k: usize = 0;
+    while k < 6 {
+        match step(file, at, k) {
+            HeaderStep::Stopped(s) => {
+                return Header::Stopped(s);
+            }
+            HeaderStep::Number(n, next) => {
+                values[k] = n;
+                at = next;
+            }
+        }
+        k += 1;
+    }
+    let fund = Fund {
+        rates: values[0],
+        members: values[1],
+        horizon: values[2],
+        order: values[3],
+        frequency: values[4],
+        deductible: values[5],
+    };
+    Header::Whole(fund, at)
+}

@@ -1,0 +1,94 @@
+// The lines of a file, one after the other, and the place where reading stops.
+use crate::text;
+use crate::text::Numbers;
+use fund::Refusal;
+ghost use mathlib.Core.Path.{_≡_};
+ghost use Prim.Native.Nat.{_+_, _≤_, _<_};
+ghost use lib.ListN.{length};
+ghost use Rattle.fund.specs.Spelling.{spelled};
+ghost use Rattle.reader.specs.Text.{numbersIn};
+ghost use Rattle.reader.specs.Lines.{lineOf, Within, NextLine, stopAt};
+
+// A line is the bytes from start to end; the next one starts at next, which is behind end where the line feed is there.
+pub(crate) struct Line {
+    pub(crate) start: usize,
+    pub(crate) end: usize,
+    pub(crate) next: usize,
+}
+
+// Why and at which line reading stops, and where that line starts and ends.
+pub(crate) struct Stop {
+    pub(crate) why: Refusal,
+    pub(crate) place: u64,
+    pub(crate) start: usize,
+    pub(crate) end: usize,
+}
+
+// The line that starts at `at`.
+pub(crate) fn next_line(file: &[u8], at: usize) -> Line
+    requires { ⌜ at < length (now file) ⌝ }
+    ensures { λ r. ⌜ NextLine (now (file .entry)) at r ⌝ }
+{
+    let end = text::find(file, b'\n', at);
+    if end < file.len() {
+        return Line {
+            start: at,
+            end,
+            next: end + 1,
+        };
+    }
+    Line {
+        start: at,
+        end,
+        next: end,
+    }
+}
+
+// The numbers of a line `key=..`, where there are just `count`. "A last line without its line feed is form."
+pub(crate) fn spelled(file: &[u8], line: Line, key: &[u8], count: usize) -> Numbers
+    requires { ⌜ Within (now file) line ⌝ }
+    requires { ⌜ count ≤ 4 ⌝ }
+    ensures { λ r. ⌜ numbersIn count r ≡ spelled (now (key .entry)) count (lineOf (now (file .entry)) line) ⌝ }
+{
+    let start = line.start;
+    let end = line.end;
+    if line.next <= end {
+        return Numbers {
+            spelled: false,
+            values: [0u64; 4],
+        };
+    }
+    let text = &file[start..end];
+    if text::begins(text, key) {
+        let from = key.len();
+        return text::numbers_of(&text[from..], count);
+    }
+    Numbers {
+        spelled: false,
+        values: [0u64; 4],
+    }
+}
+
+// A refusal at a line, after the lines that were passed.
+pub(crate) fn stop_at(why: Refusal, passed: usize, line: Line) -> Stop
+    requires { ⌜ passed < 0xffff_ffff_ffff_ffff ⌝ }
+    ensures { λ r. ⌜ r ≡ stopAt why passed line ⌝ }
+{
+    Stop {
+        why,
+        place: (passed as u64) + 1,
+        start: line.start,
+        end: line.end,
+    }
+}
+
+// "For a missing line, an empty part."
+pub(crate) fn missing() -> Line
+    ensures { λ r. ⌜ r ≡ record { start = 0; end = 0; next = 0 } ⌝ }
+{
+    Line {
+        start: 0,
+        end: 0,
+        next: 0,
+    }
+}

@@ -1,0 +1,114 @@
+// The spelling of a text: where a byte stands, whether a key begins it, and its numbers between commas.
+ghost use mathlib.Core.Path.{_≡_};
+ghost use Prim.Native.Nat.{_+_, _≤_};
+ghost use lib.ListN.{length, take, drop};
+ghost use Rattle.fund.specs.Spelling.{behind, numbers};
+ghost use Rattle.reader.specs.Text.{before, behindIf, numberIn, numbersIn};
+
+// A number of one to seven digits.
+pub(crate) enum Number {
+    Value(u64),
+    Misspelled,
+}
+
+// The numbers of a text, where it is spelled so.
+pub(crate) struct Numbers {
+    pub(crate) spelled: bool,
+    pub(crate) values: [u64; 4],
+}
+
+// The place of the first byte `b` from `from` on, or the length.
+pub(crate) fn find(s: &[u8], b: u8, from: usize) -> usize
+    ensures { λ r. ⌜ r ≡ from + before b (drop from (now (s .entry))) ⌝ }
+{
+    let mut i = from;
+    while i < s.len() {
+        if s[i] == b {
+            return i;
+        }
+        i += 1;
+    }
+    i
+}
+
+// Whether the key begins the text.
+pub(crate) fn begins(text: &[u8], key: &[u8]) -> bool
+    ensures { λ r. ⌜ behind (now (key .entry)) (now (text .entry)) ≡ behindIf r (length (now (key .entry))) (now (text .entry)) ⌝ }
+{
+    let mut i = 0;
+    while i < key.len() {
+        if text.len() <= i {
+            return false;
+        }
+        if text[i] != key[i] {
+            return false;
+        }
+        i += 1;
+    }
+    true
+}
+
+// "decimal, without sign, space or leading zero (0 itself is `0`), of one to seven digits"
+pub(crate) fn number_of(text: &[u8]) -> Number
+    ensures { λ r. ⌜ r ≡ numberIn (now (text .entry)) ⌝ }
+{
+    let n = text.len();
+    if n == 0 {
+        return Number::Misspelled;
+    }
+    if 7 < n {
+        return Number::Misspelled;
+    }
+    if text[0] == b'0' {
+        if n == 1 {
+            return Number::Value(0);
+        }
+        return Number::Misspelled;
+    }
+    let mut value: u64 = 0;
+    let mut i = 0;
+    while i < n {
+        let b = text[i];
+        if b < b'0' {
+            return Number::Misspelled;
+        }
+        if b'9' < b {
+            return Number::Misspelled;
+        }
+        value = 10 * value + ((b - b'0') as u64);
+        i += 1;
+    }
+    Number::Value(value)
+}
+
+// Just `count` numbers between commas.
+pub(crate) fn numbers_of(text: &[u8], count: usize) -> Numbers
+    requires { ⌜ count ≤ 4 ⌝ }
+    ensures { λ r. ⌜ numbersIn count r ≡ numbers count (now (text .entry)) ⌝ }
+{
+    let mut values = [0u64; 4];
+    let mut k: usize = 0;
+    let mut at: usize = 0;
+    while k < count {
+        let end = find(text, b',', at);
+        let Number::Value(v) = number_of(&text[at..end]) else {
+            return Numbers {
+                spelled: false,
+                values,
+            };
+        };
+        values[k] = v;
+        k += 1;
+        if end == text.len() {
+            return Numbers {
+                spelled: k == count,
+                values,
+            };
+        }
+        at = end + 1;
+    }
+    Numbers {
+        spelled: false,
+        values,
+    }
+}

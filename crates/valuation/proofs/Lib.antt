@@ -1,0 +1,10 @@
+mod Growing
+mod Signs
+mod Added
+mod SumsTo
+pub mod Filled
+mod Terms
+mod Members
+mod Weighed
+mod Telling
+mod Clearing

@@ -1,0 +1,13 @@
+-- Only an amount of 0 asks for a rate of 0.
+use Rattle.valuation.proofs.Telling.{tells-yes, tells-eq}
+use Rattle.valuation.proofs.inside.folded.Statement.{statement}
+use Rattle.valuation.proofs.inside.folded.Tie as tie
+
+returns : tie.Need-returns
+returns c = tells-eq _ _ (λ h z. h) (λ h. h (c .if1 .taken))
+
+returns-2 : tie.Need-returns-2
+returns-2 c = tells-yes (λ z. absurd (c .if1 .left z))
+
+pub folded-spec : {M : Type 1} → statement M
+folded-spec = tie.close (tie.spec returns returns-2)

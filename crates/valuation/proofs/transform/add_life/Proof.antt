@@ -1,0 +1,56 @@
+-- The group decides which terms are added. H gains nothing from group 2.
+use borrow.Author.Needs.{needs}
+use borrow.Author.Tests.{eq-eqb, ne-eqb}
+use Rattle.widths.specs.Placing.{life-single, life-replaced, replaced-none}
+use Rattle.valuation.proofs.transform.add_life.Statement.{statement}
+use Rattle.valuation.proofs.transform.add_life.Tie as tie
+
+add-single-requires : tie.Need-add-single-requires
+add-single-requires c κs =
+    let s = c .before .before .before .before .before in
+    let a = s .args in
+    let e = eq-eqb _ _ (c .before .before .if1 .taken) in
+    (s .pre .0, e, s .pre .1, rw (life-single (a .horizon) (a .order) (a .a) (a .m) e) at (s .pre .3))
+
+same-length : tie.Need-same-length
+same-length c = search needs
+
+same-length-2 : tie.Need-same-length-2
+same-length-2 c = search needs
+
+returns : tie.Need-returns
+returns c =
+    let n = c .before .before .before .before .before .before in
+    let a = n .before .before .before .args in
+    let e = life-single (a .horizon) (a .order) (a .a) (a .m) (eq-eqb _ _ (n .if1 .taken)) in
+    let t = c .before .before .before .add-single .ensures in
+    (rw e (t .0), rw e (t .1))
+
+add-replaced-requires : tie.Need-add-replaced-requires
+add-replaced-requires c κs =
+    let s = c .before .before .before .before in
+    let a = s .args in
+    let e = life-replaced (a .horizon) (a .order) (a .a) (a .m) (ne-eqb _ _ (c .before .if1 .left)) in
+    (s .pre .0, s .pre .2, rw e at (s .pre .3 .inD))
+
+same-length-3 : tie.Need-same-length-3
+same-length-3 c = search needs
+
+returns-2 : tie.Need-returns-2
+returns-2 c =
+    let n = c .before .before .before in
+    let a = n .before .before .before .args in
+    let e = life-replaced (a .horizon) (a .order) (a .a) (a .m) (ne-eqb _ _ (n .if1 .left)) in
+    (rw e (c .before .add-replaced .ensures), rw e (replaced-none (a .horizon) (a .a) (a .m) (a .h .now)))
+
+pub add-life-spec : {M : Type 1} → statement M
+add-life-spec =
+    tie.close
+    (tie.spec
+    add-single-requires
+    same-length
+    same-length-2
+    returns
+    add-replaced-requires
+    same-length-3
+    returns-2)

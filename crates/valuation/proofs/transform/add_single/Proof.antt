@@ -1,0 +1,102 @@
+-- After n turns the row is row n, and the terms of the rows up to n are added.
+use mathlib.Core.Path.{_≡_}
+use mathlib.Core.Bool.{true}
+use Prim.Native.Nat.{_+_, _-_, _≤_}
+use native.Mathlib.Omega.{arith}
+use Rattle.fund.specs.Folding.{single}
+use Rattle.fund.specs.Transform.{row as rowOf, rowTerms, singleTerms}
+use Rattle.widths.specs.Lives.{InRange}
+use Rattle.widths.specs.Adding.{Row}
+use Rattle.widths.specs.Triangle.{row-within, row-first, row-next}
+use Rattle.widths.specs.Placing.{single-start, single-goes}
+use Rattle.widths.specs.Filling.{Filling, begin, turn-room, turn, end-d, end-h, long-d, long-h}
+use Rattle.valuation.proofs.transform.add_single.Statement.{statement}
+use Rattle.valuation.proofs.transform.add_single.Tie as tie
+
+abbrev Inv-loop : tie.InvT-loop
+Inv-loop d₀ h₀ horizon m order row₀ n₀ d h row n =
+    Filling horizon d₀ h₀ (singleTerms horizon m) order n d h
+    × InRange m
+    × (single m ≡ true)
+    × (order ≤ 12)
+    × (row ≡ rowOf m n)
+
+abbrev μ-loop : tie.MeasureT-loop
+μ-loop d₀ h₀ horizon m order row₀ n₀ d h row n = order - n
+
+loop-holds : tie.Need-loop-holds Inv-loop μ-loop
+loop-holds c =
+    let s = c .before in
+    let a = s .args in (
+      begin (singleTerms (a .horizon) (a .m)) (a .order) (single-start (a .horizon) (a .m)) (s .pre .3),
+      s .pre .0,
+      s .pre .1,
+      s .pre .2,
+      row-first (a .m),
+    )
+
+next-row-requires : tie.Need-next-row-requires Inv-loop μ-loop
+next-row-requires c κs =
+    let v = c .before .loop .inv in
+    let calm = v .1 .calm (v .2) in
+    (calm, rw (v .4) (row-within _ calm _))
+
+add-n : tie.Need-add-n Inv-loop μ-loop
+add-n c = let v = c .before .before .loop .inv in omega arith
+
+-- the row after
+next-is : (c : tie.After-next-row Inv-loop μ-loop) → c .next-row .result ≡ rowOf (c .before .before .before .before .args .m) (c .before .before .loop .n + 1)
+next-is c =
+    let l = c .before .before .loop in
+    row-next (c .before .before .before .before .args .m) (l .n) (l .row) (c .next-row .result) (l .inv .4) (c .next-row .ensures)
+
+add-row-requires : tie.Need-add-row-requires Inv-loop μ-loop
+add-row-requires c κs =
+    let v = c .before .before .before .before .loop .inv in
+    let a = c .before .before .before .before .before .before .args in
+    let r : Row (a .m) (c .before .before .before .before .loop .n + 1) = record { life = v .1; alone = v .2; n-least = omega arith; n-most = omega (arith, v .3, c .before .before .before .loop-test .taken) } in (
+      r,
+      next-is (c .before .before),
+      turn-room (singleTerms (a .horizon) (a .m)) (λ n. rowTerms (a .horizon) (a .m) (n + 1) (n + 1 + 1)) (single-goes (a .horizon) (a .m)) (v .0) (c .before .before .before .loop-test .taken),
+    )
+
+loop-less : tie.Need-loop-less Inv-loop μ-loop
+loop-less c = omega arith
+
+loop-again : tie.Need-loop-again Inv-loop μ-loop
+loop-again c =
+    let i = c .before .before .before .before .before .before in
+    let v = i .before .before .loop .inv in
+    let a = i .before .before .before .before .args in
+    let t = c .before .before .before .add-row in (
+      turn (singleTerms (a .horizon) (a .m)) (λ n. rowTerms (a .horizon) (a .m) (n + 1) (n + 1 + 1)) (single-goes (a .horizon) (a .m)) (v .0) (i .before .loop-test .taken) (t .ensures .0) (t .ensures .1),
+      v .1,
+      v .2,
+      v .3,
+      next-is i,
+    )
+
+same-length : tie.Need-same-length Inv-loop μ-loop
+same-length c = long-d (c .before .loop .inv .0)
+
+same-length-2 : tie.Need-same-length-2 Inv-loop μ-loop
+same-length-2 c = long-h (c .before .loop .inv .0)
+
+returns : tie.Need-returns Inv-loop μ-loop
+returns c = let f = c .before .loop .inv .0 in (end-d f (c .loop-test .left), end-h f (c .loop-test .left))
+
+pub add-single-spec : {M : Type 1} → statement M
+add-single-spec =
+    tie.close
+    (tie.spec
+    Inv-loop
+    μ-loop
+    loop-holds
+    next-row-requires
+    add-n
+    add-row-requires
+    loop-less
+    loop-again
+    same-length
+    same-length-2
+    returns)

@@ -1,0 +1,31 @@
+-- The products are at most 65,535 × 12.
+use borrow.Author.Needs.{needs}
+use Prim.Native.Nat.{_-_, _*_, _≤_}
+use native.Mathlib.Nat.{mul-le-mul}
+use native.Mathlib.Omega.{arith}
+use Rattle.valuation.proofs.transform.place.Statement.{statement}
+use Rattle.valuation.proofs.transform.place.Tie as tie
+
+deaths : (c : tie.Start) → c .args .m .d * c .args .l ≤ 65535 * 12
+deaths c = let h : c .args .l ≤ 12 = omega arith in mul-le-mul (c .pre .0 .death) h
+
+disabilities : (c : tie.Start) → c .args .m .e * (c .args .n - c .args .l) ≤ 65535 * 12
+disabilities c = let h : c .args .n - c .args .l ≤ 12 = omega arith in mul-le-mul (c .pre .0 .disability) h
+
+mul-result : tie.Need-mul-result
+mul-result c = omega (arith, deaths (c .before))
+
+sub-result : tie.Need-sub-result
+sub-result c = search needs
+
+mul-result-2 : tie.Need-mul-result-2
+mul-result-2 c = omega (arith, disabilities (c .before .before))
+
+add-result : tie.Need-add-result
+add-result c = omega (arith, deaths (c .before .before), disabilities (c .before .before))
+
+returns : tie.Need-returns
+returns c = search needs
+
+pub place-spec : {M : Type 1} → statement M
+place-spec = tie.close (tie.spec mul-result sub-result mul-result-2 add-result returns)

@@ -1,0 +1,47 @@
+-- What is stored is what `moved` gives of the cell as it was read.
+use borrow.Author.Needs.{needs, sfits-of}
+use mathlib.Core.Path.{_∙_, ap}
+use lib.IntN.{pos, _+ℤ_}
+use lib.ListN.{getD, set}
+use mir.Syntax.{w64}
+use mir.Facts.{toZ-ofZ}
+use Rattle.widths.specs.Sign.{signed}
+use Rattle.valuation.proofs.transform.shift.Statement.{statement}
+use Rattle.valuation.proofs.transform.shift.Tie as tie
+
+mul-moved : tie.Need-mul-moved
+mul-moved c = search needs
+
+slice-copy-out-moved : tie.Need-slice-copy-out-moved
+slice-copy-out-moved c = search needs
+
+moved-requires : tie.Need-moved-requires
+moved-requires c κs = search needs
+
+mul-t9 : tie.Need-mul-t9
+mul-t9 c = search needs
+
+slice-set-from-d : tie.Need-slice-set-from-d
+slice-set-from-d c = search needs
+
+same-length : tie.Need-same-length
+same-length c = search needs
+
+returns : tie.Need-returns
+returns c =
+    let a = c .before .before .args in
+    let cell = toZ-ofZ {w = w64} {z = getD (a .d .now) (a .x) (pos 0)} (sfits-of (c .before .moved-arg .given)) in
+    ap (set (a .d .now) (a .x))
+    (toZ-ofZ (sfits-of {w = w64} (c .moved .ok)) ∙ c .moved .ensures ∙ ap (λ z. z +ℤ signed (a .minus) (a .amount)) cell)
+
+pub shift-spec : {M : Type 1} → statement M
+shift-spec =
+    tie.close
+    (tie.spec
+    mul-moved
+    slice-copy-out-moved
+    moved-requires
+    mul-t9
+    slice-set-from-d
+    same-length
+    returns)

@@ -1,0 +1,18 @@
+-- What the tests of a header and of lives tell.
+use mathlib.Core.Path.{_≡_}
+use mathlib.Core.Bool.{Bool, true}
+use Prim.Native.Nat.{suc, _≤_}
+use Rattle.fund.specs.declared.Fund.{Fund}
+use Rattle.fund.specs.Limits.{most-horizon, most-order, most-frequency}
+
+-- The header's figures that the valuation uses are in their ranges.
+pub record HeaderIn (fund : Fund) : Type 0 where
+  pub horizon : fund .horizon ≤ most-horizon
+  pub order : fund .order ≤ most-order
+  pub frequency : fund .frequency ≤ most-frequency
+  pub deductible : fund .deductible ≤ suc (fund .horizon)
+
+-- A test tells whether something holds.
+pub record Tells (r : Bool) (P : Type 0) : Type 0 where
+  pub yes : r ≡ true → P
+  pub no : P → r ≡ true

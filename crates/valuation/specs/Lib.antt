@@ -1,0 +1,6 @@
+pub mod Sums
+pub mod Lent
+pub mod Recursion
+pub mod Start
+pub mod Premium
+pub mod Inside

@@ -1,0 +1,236 @@
+// The transform: each life's terms, added to D and H at their places.
+use super::lives::MILLION;
+use super::lives::UNIT;
+use super::lives::life;
+use fund::Life;
+ghost use mathlib.Core.Path.{_≡_};
+ghost use mathlib.Core.Bool.{true, _||_};
+ghost use mathlib.Core.List.{_++_};
+ghost use Prim.Native.Nat.{suc, _+_, _*_, _-_, _^_, _<_, _≤_};
+ghost use lib.Dec.{ltb, eqb};
+ghost use lib.IntN.{pos, natAbs, _+ℤ_};
+ghost use lib.ListN.{length, getD, set, drop};
+ghost use Rattle.rounding.specs.Rounding.{near};
+ghost use Rattle.fund.specs.Base.{table, alternate};
+ghost use Rattle.fund.specs.Limits.{half-rate, most-rate, most-order, most-frequency, most-load};
+ghost use Rattle.fund.specs.Folding.{claim, stay, single};
+ghost use Rattle.fund.specs.Transform.{D as dOf, H as hOf, load, nextRow, placeOf, placed as placedOf, replacedTerm, replacedTerms, row as rowOf, rowTerms, singleTerms, terms, unit, weight};
+ghost use Rattle.laws.specs.Accepted.{All};
+ghost use Rattle.widths.specs.Lives.{livesOf, Lives, InRange};
+ghost use Rattle.widths.specs.Adding.{addD, addH, Room, RoomD, Row, TermRoom, termsAt, lifeTerms, Cleared};
+ghost use Rattle.widths.specs.Sign.{signed};
+
+// a / b to the nearest, halves up.
+fn nearest(a: u64, b: u64) -> u64
+    requires { ⌜ (0 < b) × (b ≤ most-rate) × (a ≤ 2 ^ 61) ⌝ }
+    ensures { λ r. ⌜ r ≡ near a b ⌝ }
+{
+    (2 * a + b) / (2 * b)
+}
+
+// A number of a row, from the two above it.
+fn entry(m: Life, left: u64, v: u64) -> u64
+    requires { ⌜ (claim m < half-rate) × (left ≤ unit) × (v ≤ unit) ⌝ }
+    ensures { λ r. ⌜ r ≡ near (m .q * left + m .i * v) (stay m) ⌝ }
+{
+    nearest(m.q * left + m.i * v, MILLION - (m.q + m.i))
+}
+
+// The row after `row`: v(n,l) comes from v(n-1,l-1) by q and from v(n-1,l) by i.
+fn next_row(row: [u64; 13], m: Life) -> [u64; 13]
+    requires { ⌜ (claim m < half-rate) × All (λ v. v ≤ unit) row ⌝ }
+    ensures { λ r. ⌜ r ≡ nextRow m 0 row ⌝ }
+{
+    let mut out = [0u64; 13];
+    let mut left: u64 = 0;
+    let mut l: usize = 0;
+    while l < 13 {
+        let v = row[l];
+        out[l] = entry(m, left, v);
+        left = v;
+        l += 1;
+    }
+    out
+}
+
+// A rate above 0, or none of its steps.
+fn reached(rate: u64, l: u64, end: u64) -> bool
+    ensures { λ r. ⌜ r ≡ (ltb 0 rate || eqb l end) ⌝ }
+{
+    if 0 < rate {
+        return true;
+    }
+    l == end
+}
+
+// Where the term of row n and column l stands.
+fn place(m: Life, n: u64, l: u64) -> u64
+    requires { ⌜ InRange m × (n ≤ most-order) × (l ≤ n) ⌝ }
+    ensures { λ r. ⌜ r ≡ placeOf m n l ⌝ }
+{
+    m.d * l + m.e * (n - l)
+}
+
+// Whether that term, at x, is placed.
+fn placed(horizon: u64, x: u64, m: Life, n: u64, l: u64) -> bool
+    requires { ⌜ x ≡ placeOf m n l ⌝ }
+    ensures { λ r. ⌜ r ≡ placedOf horizon m n l ⌝ }
+{
+    if horizon < x {
+        return false;
+    }
+    if !reached(m.q, l, 0) {
+        return false;
+    }
+    reached(m.i, l, n)
+}
+
+// A cell with an amount added or subtracted.
+fn moved(cell: i64, minus: bool, amount: u64) -> i64
+    requires { ⌜ natAbs cell + amount ≤ 2 ^ 62 ⌝ }
+    ensures { λ r. ⌜ r ≡ cell +ℤ signed minus amount ⌝ }
+{
+    let z = amount as i64;
+    if minus {
+        return cell - z;
+    }
+    cell + z
+}
+
+// The cell at a place, moved by an amount.
+fn shift(d: &mut [i64], x: usize, minus: bool, amount: u64)
+    requires { ⌜ (x < length (now d)) × (natAbs (getD (now d) x (pos 0)) + amount ≤ 2 ^ 62) ⌝ }
+    ensures { λ r. ⌜ now (d .exit) ≡ set (now (d .entry)) x (getD (now (d .entry)) x (pos 0) +ℤ signed minus amount) ⌝ }
+{
+    d[x] = moved(d[x], minus, amount);
+}
+
+// A placed number v of row n: nearest(x×v/n) is added to D at x for odd n, subtracted for even n, and x is added to H.
+fn add_term(d: &mut [i64], h: &mut [u64], x: u64, v: u64, n: u64)
+    requires { ⌜ TermRoom (now d) (now h) x v n ⌝ }
+    ensures { λ r. ⌜ now (d .exit) ≡
+        set (now (d .entry)) x (getD (now (d .entry)) x (pos 0) +ℤ alternate (suc n) (pos (near (x * v) n))) ⌝ }
+    ensures { λ r. ⌜ now (h .exit) ≡ set (now (h .entry)) x (getD (now (h .entry)) x 0 + x) ⌝ }
+{
+    let k = x as usize;
+    h[k] = h[k] + x;
+    if v == 0 {
+        return;
+    }
+    shift(d, k, n % 2 == 0, nearest(x * v, n));
+}
+
+// The term of row n and column l, if it is placed.
+fn add_at(d: &mut [i64], h: &mut [u64], horizon: u64, m: Life, v: u64, n: u64, l: u64)
+    requires { ⌜ Row m n × (l ≤ n) × (v ≡ getD (rowOf m n) l 0)
+        × Room horizon (now d) (now h) (termsAt horizon m n l) ⌝ }
+    ensures { λ r. ⌜ now (d .exit) ≡ addD (now (d .entry)) (termsAt horizon m n l) ⌝ }
+    ensures { λ r. ⌜ now (h .exit) ≡ addH (now (h .entry)) (termsAt horizon m n l) ⌝ }
+{
+    let x = place(m, n, l);
+    if !placed(horizon, x, m, n, l) {
+        return;
+    }
+    add_term(d, h, x, v, n);
+}
+
+// The terms of row n.
+fn add_row(d: &mut [i64], h: &mut [u64], horizon: u64, m: Life, row: [u64; 13], n: u64)
+    requires { ⌜ Row m n × (row ≡ rowOf m n) × Room horizon (now d) (now h) (rowTerms horizon m n (n + 1)) ⌝ }
+    ensures { λ r. ⌜ now (d .exit) ≡ addD (now (d .entry)) (rowTerms horizon m n (n + 1)) ⌝ }
+    ensures { λ r. ⌜ now (h .exit) ≡ addH (now (h .entry)) (rowTerms horizon m n (n + 1)) ⌝ }
+{
+    let mut l: u64 = 0;
+    while l <= n {
+        let k = l as usize;
+        add_at(d, h, horizon, m, row[k], n, l);
+        l += 1;
+    }
+}
+
+// The terms of a life of group 1, row by row.
+fn add_single(d: &mut [i64], h: &mut [u64], horizon: u64, m: Life, order: u64)
+    requires { ⌜ InRange m × (single m ≡ true) × (order ≤ most-order)
+        × Room horizon (now d) (now h) (singleTerms horizon m order) ⌝ }
+    ensures { λ r. ⌜ now (d .exit) ≡ addD (now (d .entry)) (singleTerms horizon m order) ⌝ }
+    ensures { λ r. ⌜ now (h .exit) ≡ addH (now (h .entry)) (singleTerms horizon m order) ⌝ }
+{
+    let mut row = [UNIT, 0, 0, 0, 0, 0, 0, 0, 0, 0, 0, 0, 0];
+    let mut n: u64 = 0;
+    while n < order {
+        let next = next_row(row, m);
+        n += 1;
+        add_row(d, h, horizon, m, next, n);
+        row = next;
+    }
+}
+
+// One of the two terms of a life of group 2: the weight w times its place k.
+fn add_replaced_term(d: &mut [i64], horizon: u64, w: u64, k: u64)
+    requires { ⌜ (w ≤ weight most-frequency most-rate) × RoomD horizon (now d) (replacedTerm horizon w k) ⌝ }
+    ensures { λ r. ⌜ now (d .exit) ≡ addD (now (d .entry)) (replacedTerm horizon w k) ⌝ }
+{
+    if w == 0 {
+        return;
+    }
+    if k == 0 {
+        return;
+    }
+    if horizon < k {
+        return;
+    }
+    shift(d, k as usize, false, w * k);
+}
+
+// The terms of a life of group 2, by death and by disability.
+fn add_replaced(d: &mut [i64], horizon: u64, m: Life, a: u64)
+    requires { ⌜ InRange m × (a ≤ most-frequency) × RoomD horizon (now d) (replacedTerms horizon a m) ⌝ }
+    ensures { λ r. ⌜ now (d .exit) ≡ addD (now (d .entry)) (replacedTerms horizon a m) ⌝ }
+{
+    add_replaced_term(d, horizon, m.q * a * 1000, m.d);
+    add_replaced_term(d, horizon, m.i * a * 1000, m.e);
+}
+
+// The terms of a life.
+fn add_life(d: &mut [i64], h: &mut [u64], horizon: u64, m: Life, order: u64, a: u64)
+    requires { ⌜ InRange m × (order ≤ most-order) × (a ≤ most-frequency)
+        × Room horizon (now d) (now h) (lifeTerms horizon order a m) ⌝ }
+    ensures { λ r. ⌜ now (d .exit) ≡ addD (now (d .entry)) (lifeTerms horizon order a m) ⌝ }
+    ensures { λ r. ⌜ now (h .exit) ≡ addH (now (h .entry)) (lifeTerms horizon order a m) ⌝ }
+{
+    if m.group == 1 {
+        add_single(d, h, horizon, m, order);
+        return;
+    }
+    add_replaced(d, horizon, m, a);
+}
+
+// D and H of all lives, into slices that are 0 up to the horizon. Cells beyond it stay as they are.
+pub(crate) fn fill(
+    groups: &[u64],
+    q: &[u64],
+    i: &[u64],
+    d: &[u64],
+    e: &[u64],
+    n: usize,
+    horizon: u64,
+    order: u64,
+    a: u64,
+    transform: &mut [i64],
+    h: &mut [u64],
+)
+    requires { ⌜ Lives n (now groups) (now q) (now i) (now d) (now e) × (order ≤ most-order) × (a ≤ most-frequency)
+        × (load a (livesOf n (now groups) (now q) (now i) (now d) (now e)) ≤ most-load) × Cleared horizon (now transform) (now h) ⌝ }
+    ensures { λ r. ⌜ now (transform .exit) ≡
+        table (suc horizon) (dOf (terms horizon order a (livesOf n (now (groups .entry)) (now (q .entry)) (now (i .entry)) (now (d .entry)) (now (e .entry)))))
+        ++ drop (suc horizon) (now (transform .entry)) ⌝ }
+    ensures { λ r. ⌜ now (h .exit) ≡
+        table (suc horizon) (hOf (terms horizon order a (livesOf n (now (groups .entry)) (now (q .entry)) (now (i .entry)) (now (d .entry)) (now (e .entry)))))
+        ++ drop (suc horizon) (now (h .entry)) ⌝ }
+{
+    let mut k: usize = 0;
+    while k < n {
+        add_life(transform, h, horizon, life(groups, q, i, d, e, k), order, a);
+        k += 1;
+    }
+}

@@ -1,0 +1,15 @@
+pub mod Sign
+pub mod Lives
+pub mod Parts
+pub mod Adding
+pub mod Sums
+pub mod Signed
+pub mod PartBounds
+pub mod AddingLaws
+pub mod Loops
+pub mod Bounds
+pub mod Triangle
+pub mod Placing
+pub mod Filling
+pub mod TermLaws
+pub mod Widths

@@ -1,0 +1,26 @@
+-- What one life adds to lambda, to the load, to the truncation figure, to the mean and to the number of group 1 members:
+-- the summands of fund's definitions, by name.
+use Prim.Native.Nat.{ℕ, suc, _+_, _-_, _*_, _^_}
+use Rattle.rounding.specs.Rounding.{up}
+use Rattle.fund.specs.declared.Life.{Life}
+use Rattle.fund.specs.Base.{if_then_else_}
+use Rattle.fund.specs.Folding.{claim, stay, single}
+use Rattle.fund.specs.Transform.{unit, weight, w}
+
+abbrev pub lambdaPart : ℕ → Life → ℕ
+lambdaPart a m = if single m then 0 else weight a (claim m)
+
+abbrev pub singlePart : Life → ℕ
+singlePart m = if single m then up (unit * claim m) (stay m) else 0
+
+abbrev pub loadPart : ℕ → Life → ℕ
+loadPart a m = lambdaPart a m + singlePart m
+
+abbrev pub truncationPart : ℕ → Life → ℕ
+truncationPart r m = if single m then up (w m (suc r) * stay m) ((stay m - claim m) * suc r) else 0
+
+abbrev pub meanPart : ℕ → Life → ℕ
+meanPart a m = if single m then (m .q * m .d + m .i * m .e) * 10 ^ 6 else weight a (m .q * m .d + m .i * m .e)
+
+abbrev pub onePart : Life → ℕ
+onePart m = if single m then 1 else 0

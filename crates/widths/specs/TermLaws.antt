@@ -1,0 +1,180 @@
+-- The terms of all lives: life by life (`terms-goes`), each of them at a place up to the horizon and 0 at place 0 (`terms-sound`);
+-- so cells that were 0 hold D and H after the terms are added (`filled-d`, `filled-h`).
+use mathlib.Core.Path.{_≡_, refl, sym, _∙_, ap, ap₂}
+use mathlib.Core.Bool.{Bool, true, false, _&&_}
+use mathlib.Core.List.{List, [], _∷_, _++_, append-assoc, append-nil}
+use Prim.Native.Nat.{ℕ, zero, suc, _+_, _*_, _≤_, _<_}
+use native.Mathlib.Nat as N
+use native.Mathlib.Omega.{arith}
+use borrow.Author.Tests.{leb-true, ltb-true}
+use lib.Dec.{eqb, leb, ltb, eqb·suc-zero}
+use lib.IntN.{ℤ, pos, natAbs, _+ℤ_, +ℤ-idl}
+use lib.ListN.{length, getD, take, drop, take-append-drop}
+use lib.Seq.{ext-getD, getD-take, length-take-le}
+use Rattle.fund.specs.declared.Life.{Life}
+use Rattle.fund.specs.Base.{if_then_else_, table}
+use Rattle.fund.specs.Folding.{single}
+use Rattle.fund.specs.Transform.{Term, row, placeOf, placed, termOf, rowTerms, singleTerms, replacedTerm, replacedTerms, weight, terms, sumD, sumH, D, H}
+use Rattle.laws.specs.Accepted.{All, all-map}
+use Rattle.laws.specs.Tables.{length-table, getD-table}
+use Rattle.widths.specs.Adding.{addD, addH, sizeD, sizeH, Room, termsAt, lifeTerms, Cleared}
+use Rattle.widths.specs.AddingLaws.{addD-at, addH-at, addD-beyond, addH-beyond, length-addD, length-addH}
+use Rattle.widths.specs.Placing.{placed-within, term-zero}
+use Rattle.widths.specs.Filling.{Filling, turn-room, turn}
+
+-- ---- life by life
+terms-append : (X r a : ℕ) (xs ys : List Life) → terms X r a (xs ++ ys) ≡ terms X r a xs ++ terms X r a ys
+unfolding terms
+terms-append X r a [] ys = refl
+terms-append X r a (m ∷ xs) ys =
+    ap (λ ts. lifeTerms X r a m ++ ts) (terms-append X r a xs ys)
+    ∙ sym (append-assoc (lifeTerms X r a m) (terms X r a xs) (terms X r a ys))
+
+pub terms-start : (X r a : ℕ) (g : ℕ → Life) → terms X r a (table 0 g) ≡ []
+unfolding terms table
+terms-start X r a g = refl
+
+pub terms-goes : (X r a : ℕ) (g : ℕ → Life) (k : ℕ) → terms X r a (table (suc k) g) ≡ terms X r a (table k g) ++ lifeTerms X r a (g k)
+unfolding terms table
+terms-goes X r a g k =
+    terms-append X r a (table k g) (g k ∷ []) ∙ ap (λ ts. terms X r a (table k g) ++ ts) (append-nil (lifeTerms X r a (g k)))
+
+-- ---- places
+pub record Sound (X : ℕ) (t : Term) : Type 0 where
+  pub within : t .place ≤ X
+  pub no-D : t .place ≡ 0 → t .toD ≡ pos 0
+  pub no-H : t .place ≡ 0 → t .toH ≡ 0
+
+all-join : {A : Type 0} (P : A → Type 0) (xs ys : List A) → All P xs → All P ys → All P (xs ++ ys)
+all-join P [] ys p q = q
+all-join P (x ∷ xs) ys p q = (p .0, all-join P xs ys (p .1) q)
+
+at-sound : (X : ℕ) (m : Life) (n l : ℕ) → 0 < n → All (Sound X) (termsAt X m n l)
+unfolding termOf
+at-sound X m n l h = go (placed X m n l) refl
+  where
+    go : (b : Bool) → placed X m n l ≡ b → All (Sound X) (if b then termOf m n l ∷ [] else [])
+    go true e = (
+      record {
+        within = placed-within X m n l e;
+        no-D = λ z. term-zero n (placeOf m n l) (getD (row m n) l 0) h (ap (λ x. x * getD (row m n) l 0) z ∙ N.zero-mul (getD (row m n) l 0));
+        no-H = λ z. z;
+      },
+      tt,
+    )
+    go false e = tt
+
+row-sound : (X : ℕ) (m : Life) (n l : ℕ) → 0 < n → All (Sound X) (rowTerms X m n l)
+unfolding rowTerms
+row-sound X m n zero h = tt
+row-sound X m n (suc l) h = all-join (Sound X) (rowTerms X m n l) (termsAt X m n l) (row-sound X m n l h) (at-sound X m n l h)
+
+single-sound : (X : ℕ) (m : Life) (r : ℕ) → All (Sound X) (singleTerms X m r)
+unfolding singleTerms
+single-sound X m zero = tt
+single-sound X m (suc r) =
+    all-join (Sound X) (singleTerms X m r) (rowTerms X m (suc r) (suc (suc r))) (single-sound X m r) (row-sound X m (suc r) (suc (suc r)) (omega arith))
+
+replaced-sound : (X w k : ℕ) → All (Sound X) (replacedTerm X w k)
+unfolding replacedTerm
+replaced-sound X w k = go (ltb 0 k) (leb k X) refl refl
+  where
+    go : (b c : Bool) → ltb 0 k ≡ b → leb k X ≡ c → All (Sound X) (if b && c then record { place = k; toD = pos (w * k); toH = 0 } ∷ [] else [])
+    go true true e f =
+        let h = ltb-true 0 k e in
+        (record { within = leb-true k X f; no-D = λ z. absurd (let b : ⊥ = omega arith in b); no-H = λ z. refl }, tt)
+    go true false e f = tt
+    go false c e f = tt
+
+pub terms-sound : (X r a : ℕ) (ms : List Life) → All (Sound X) (terms X r a ms)
+unfolding terms replacedTerms
+terms-sound X r a [] = tt
+terms-sound X r a (m ∷ ms) = all-join (Sound X) (lifeTerms X r a m) (terms X r a ms) (go (single m)) (terms-sound X r a ms)
+  where
+    go : (b : Bool) → All (Sound X) (if b then singleTerms X m r else replacedTerms X a m)
+    go true = single-sound X m r
+    go false =
+        all-join (Sound X) (replacedTerm X (weight a (m .q)) (m .d)) (replacedTerm X (weight a (m .i)) (m .e))
+        (replaced-sound X (weight a (m .q)) (m .d)) (replaced-sound X (weight a (m .i)) (m .e))
+
+-- ---- D and H are the sums over the terms at each place, 0 among them
+sumD-zero : (X : ℕ) (ts : List Term) → All (Sound X) ts → sumD 0 ts ≡ pos 0
+unfolding sumD
+sumD-zero X [] a = refl
+sumD-zero X (t ∷ ts) a = ap₂ _+ℤ_ (go (t .place) (a .0 .no-D)) (sumD-zero X ts (a .1))
+  where
+    go : (p : ℕ) → (p ≡ 0 → t .toD ≡ pos 0) → (if eqb p 0 then t .toD else pos 0) ≡ pos 0
+    go zero f = f refl
+    go (suc p) f = rw (eqb·suc-zero p)
+
+sumH-zero : (X : ℕ) (ts : List Term) → All (Sound X) ts → sumH 0 ts ≡ 0
+unfolding sumH
+sumH-zero X [] a = refl
+sumH-zero X (t ∷ ts) a = ap₂ _+_ (go (t .place) (a .0 .no-H)) (sumH-zero X ts (a .1))
+  where
+    go : (p : ℕ) → (p ≡ 0 → t .toH ≡ 0) → (if eqb p 0 then t .toH else 0) ≡ 0
+    go zero f = f refl
+    go (suc p) f = rw (eqb·suc-zero p)
+
+pub D-is : (X : ℕ) (ts : List Term) → All (Sound X) ts → (k : ℕ) → sumD k ts ≡ D ts k
+unfolding D
+D-is X ts a zero = sumD-zero X ts a
+D-is X ts a (suc k) = refl
+
+pub H-is : (X : ℕ) (ts : List Term) → All (Sound X) ts → (k : ℕ) → sumH k ts ≡ H ts k
+unfolding H
+H-is X ts a zero = sumH-zero X ts a
+H-is X ts a (suc k) = refl
+
+-- ---- a list by its first n elements and the rest
+filled : {A : Type 0} (z : A) (now before : List A) (g : ℕ → A) (n : ℕ) → n ≤ length now → ((k : ℕ) → k < n → getD now k z ≡ g k) → drop n now ≡ drop n before → now ≡ table n g ++ drop n before
+filled z now before g n h f e =
+    sym (take-append-drop n now)
+    ∙ ap₂ _++_
+    (ext-getD z (take n now) (table n g) (length-take-le n now h ∙ sym (length-table n g))
+    (λ k l.
+    let u : k < n = omega (arith, length-take-le n now h) in
+    getD-take n now k z u ∙ f k u ∙ sym (getD-table n g k z u)))
+    e
+
+module _ {X : ℕ} {d : List ℤ} {h : List ℕ} (c : Cleared X d h) (ts : List Term) (a : All (Sound X) ts) where
+  places : All (λ (t : Term). t .place ≤ X) ts
+  places = all-map (λ (t : Term) (s : Sound X t). s .within) ts a
+
+  pub filled-d : addD d ts ≡ table (suc X) (D ts) ++ drop (suc X) d
+  filled-d =
+      filled (pos 0) (addD d ts) d (D ts) (suc X) (omega (arith, length-addD d ts, c .d-long))
+      (λ k l.
+      addD-at d ts k (omega (arith, c .d-long))
+      ∙ ap (λ z. z +ℤ sumD k ts) (c .d-zero k (omega arith))
+      ∙ +ℤ-idl (sumD k ts)
+      ∙ D-is X ts a k)
+      (addD-beyond X d ts places)
+
+  pub filled-h : addH h ts ≡ table (suc X) (H ts) ++ drop (suc X) h
+  filled-h =
+      filled 0 (addH h ts) h (H ts) (suc X) (omega (arith, length-addH h ts, c .h-long))
+      (λ k l.
+      addH-at h ts k (omega (arith, c .h-long))
+      ∙ ap (λ z. z + sumH k ts) (c .h-zero k (omega arith))
+      ∙ N.zero-add (sumH k ts)
+      ∙ H-is X ts a k)
+      (addH-beyond X h ts places)
+
+-- ---- the loop over the lives
+pub cleared-room : {X : ℕ} {d : List ℤ} {h : List ℕ} → Cleared X d h → (ts : List Term) → sizeD ts ≤ 400000000000000000 → sizeH ts ≤ 1000000000 → Room X d h ts
+cleared-room c ts wide tall =
+    record {
+      inD = record { horizon = c .horizon; long = c .d-long; room = λ k l. omega (arith, ap natAbs (c .d-zero k l)) };
+      inH = record { long = c .h-long; room = λ k l. omega (arith, c .h-zero k l) };
+    }
+
+module _ (X r a : ℕ) (g : ℕ → Life) {L k : ℕ} {d₀ d : List ℤ} {h₀ h : List ℕ} {m : Life} (f : Filling X d₀ h₀ (λ k. terms X r a (table k g)) L k d h) (l : k < L) (e : m ≡ g k) where
+  pub life-room : Room X d h (lifeTerms X r a m)
+  life-room = rw e (turn-room (λ k. terms X r a (table k g)) (λ k. lifeTerms X r a (g k)) (terms-goes X r a g) f l)
+
+  pub life-turn : {d′ : List ℤ} {h′ : List ℕ} → d′ ≡ addD d (lifeTerms X r a m) → h′ ≡ addH h (lifeTerms X r a m) → Filling X d₀ h₀ (λ k. terms X r a (table k g)) L (k + 1) d′ h′
+  life-turn p q =
+      turn (λ k. terms X r a (table k g)) (λ k. lifeTerms X r a (g k)) (terms-goes X r a g) f l
+      (p ∙ ap (λ m. addD d (lifeTerms X r a m)) e)
+      (q ∙ ap (λ m. addH h (lifeTerms X r a m)) e)
