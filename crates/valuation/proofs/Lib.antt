@@ -8,3 +8,6 @@ mod Members
 mod Weighed
 mod Telling
 mod Clearing
+mod Valuing
+mod Answering
+mod Completing

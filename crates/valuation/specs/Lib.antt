@@ -4,3 +4,4 @@ pub mod Recursion
 pub mod Start
 pub mod Premium
 pub mod Inside
+pub mod Valued

@@ -1,0 +1,4 @@
+pub mod Telling
+pub mod Rating
+pub mod Filling
+pub mod Answering
