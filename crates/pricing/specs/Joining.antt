@@ -1,0 +1,125 @@
+-- What joins the steps of a pricing call: a fund that is read and matched has lives in their ranges (lives-in); refusals 3 to 6
+-- come before what follows them (matched-first); and the answer of a call from the answers of its steps (answer-stopped,
+-- answer-matched, answer-valued).
+use mathlib.Core.Path.{_≡_, refl, _∙_, ap, subst}
+use mathlib.Core.Bool.{Bool, true, false}
+use mathlib.Core.List.{List, [], _∷_, map}
+use mathlib.Core.Option.{Option, none, some}
+use Prim.Native.Nat.{ℕ, _+_, _≤_}
+use native.Mathlib.Omega.{arith}
+use borrow.Author.Tests.{leb-false}
+use lib.Dec.{eqb}
+use Rattle.fund.specs.declared.Rate.{Rate}
+use Rattle.fund.specs.declared.Member.{Member}
+use Rattle.fund.specs.declared.Life.{Life}
+use Rattle.fund.specs.declared.Refusal.{Refusal}
+use Rattle.fund.specs.declared.Refusal.the-variants.{Edition, Deductible, Unmatched, Half}
+use Rattle.fund.specs.declared.Verdict.{Verdict}
+use Rattle.fund.specs.declared.Verdict.the-variants.{Accepted, Refused}
+use Rattle.fund.specs.Base.{if_then_else_}
+use Rattle.fund.specs.Limits.{most-rate, half-rate}
+use Rattle.fund.specs.Reading.{FundFile, read, stopped, reading}
+use Rattle.fund.specs.Folding.{rateAt, folded, life, lives, claim}
+use Rattle.fund.specs.Refusals.{half, Lengths, refuse, valued, matched, verdict}
+use Rattle.fund.specs.Answer.{namesLine, part, refused, fundCells, answerOf, answerTo, answer}
+use Rattle.laws.specs.Accepted.{All, Calm, all-map, refuse-accepted, first-none}
+use Rattle.laws.specs.Ranges.{RateOk, MemberOk, FundOk}
+use Rattle.widths.specs.Lives.{InRange}
+
+-- ---- lives in their ranges
+rate-found : (rates : List Rate) (age : ℕ) (r : Rate) → All RateOk rates → rateAt rates age ≡ some r → RateOk r
+unfolding rateAt
+rate-found [] age r k e = let z : _≡_ {A = ℕ} 0 1 = cc in absurd (omega arith)
+rate-found (s ∷ rest) age r k e = go (eqb (s .age) age) e (rate-found rest age r (k .1))
+  where
+    go : (b : Bool) → (if b then some s else rateAt rest age) ≡ some r → (rateAt rest age ≡ some r → RateOk r) → RateOk r
+    go true h later = let z : s ≡ r = cc in subst RateOk z (k .0)
+    go false h later = later h
+
+folded-in : (o : Option Rate) (m : Member) → ((r : Rate) → o ≡ some r → RateOk r) → MemberOk m → Calm (folded o m) → InRange (folded o m)
+unfolding folded
+folded-in none m k ok c =
+    record {
+      group-least = ok .group-least;
+      group-most = ok .group-most;
+      rates = omega arith;
+      calm = c;
+      death = ok .d;
+      disability = ok .e;
+      no-death = λ h. refl;
+      no-disability = λ h. refl;
+    }
+folded-in (some r) m k ok c =
+    record {
+      group-least = ok .group-least;
+      group-most = ok .group-most;
+      rates = both (eqb (m .d) 0) (eqb (m .e) 0);
+      calm = c;
+      death = ok .d;
+      disability = ok .e;
+      no-death = λ h. rw h;
+      no-disability = λ h. rw h;
+    }
+  where
+    both : (a b : Bool) → (if a then 0 else r .q) + (if b then 0 else r .i) ≤ most-rate
+    both true true = omega arith
+    both true false = let s = k r refl in omega (arith, s .i)
+    both false true = let s = k r refl in omega (arith, s .q)
+    both false false = let s = k r refl in omega (arith, s .both)
+
+members-in : (rates : List Rate) (ms : List Member) → All RateOk rates → All MemberOk ms → All Calm (map (life rates) ms) → All InRange (map (life rates) ms)
+unfolding life
+members-in rates [] k ok c = tt
+members-in rates (m ∷ ms) k ok c =
+    (folded-in (rateAt rates (m .age)) m (λ r e. rate-found rates (m .age) r k e) (ok .0) (c .0), members-in rates ms k (ok .1) (c .1))
+
+not-half : (m : Life) → half m ≡ false → Calm m
+unfolding half
+not-half m e s = leb-false half-rate (claim m) (rw s at e)
+
+pub lives-in : (file : FundFile) → FundOk file → matched file Accepted ≡ Accepted → All InRange (lives file)
+unfolding matched lives
+lives-in file ok e =
+    let e3 = refuse-accepted _ _ _ e in
+    let e4 = refuse-accepted _ _ _ (e3 .1) in
+    let e5 = refuse-accepted _ _ _ (e4 .1) in
+    let e6 = refuse-accepted _ _ _ (e5 .1) in
+    members-in (file .rates) (file .members) (ok .rows .rates) (ok .rows .members) (all-map not-half (lives file) (first-none _ _ _ (e6 .0)))
+
+-- ---- refusals 3 to 6, then the rest
+abbrev pub after : Verdict → Verdict → Verdict
+after Accepted v = v
+after (Refused why place) v = Refused why place
+
+refuse-after : (why : Refusal) (o : Option ℕ) (u v : Verdict) → refuse why o (after u v) ≡ after (refuse why o u) v
+unfolding refuse
+refuse-after why none u v = refl
+refuse-after why (some place) u v = refl
+
+pub matched-first : (file : FundFile) (v : Verdict) → matched file v ≡ after (matched file Accepted) v
+unfolding matched
+matched-first file v =
+    ap (refuse Edition _) (ap (refuse Deductible _) (ap (refuse Unmatched _) (refuse-after Half _ Accepted v) ∙ refuse-after Unmatched _ _ v) ∙ refuse-after Deductible _ _ v)
+    ∙ refuse-after Edition _ _ v
+
+-- ---- the answer of a call
+pub answer-stopped : (file : List ℕ) (n : Lengths) (why : Refusal) (place : ℕ) → reading file ≡ stopped why place → answer file n ≡ refused file n (Refused why place)
+unfolding answer answerTo
+answer-stopped file n why place e = ap (answerTo file n) e
+
+module _ (file : List ℕ) (n : Lengths) (fund : FundFile) (e : reading file ≡ read fund) where
+  abbrev rest : Verdict
+  rest = valued (fund .header) (lives fund) n (fundCells (fund .header) (lives fund))
+
+  pub answer-matched : (why : Refusal) (place : ℕ) → matched fund Accepted ≡ Refused why place → answer file n ≡ refused file n (Refused why place)
+  unfolding answer answerTo answerOf verdict
+  answer-matched why place m = ap (answerTo file n) e ∙ ap (answerOf file n fund) (matched-first fund rest ∙ ap (λ u. after u rest) m)
+
+  pub answer-valued : matched fund Accepted ≡ Accepted → answer file n ≡ answerOf file n fund (valued (fund .header) (lives fund) n (fundCells (fund .header) (lives fund)))
+  unfolding answer answerTo verdict
+  answer-valued m = ap (answerTo file n) e ∙ ap (answerOf file n fund) (matched-first fund rest ∙ ap (λ u. after u rest) m)
+
+-- a refusal without a line is the same for every file
+pub no-line : (file : List ℕ) (n : Lengths) (why : Refusal) (place : ℕ) → namesLine why ≡ false → refused [] n (Refused why place) ≡ refused file n (Refused why place)
+unfolding refused part
+no-line file n why place e = rw e
