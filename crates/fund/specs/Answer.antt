@@ -48,7 +48,7 @@ empty = record { start = 0; size = 0 }
 
 -- "For a line's refusal the host is handed that line itself, a part of its own bytes without the line feed; for place 0,
 -- for number 10 and for a missing line, an empty part."
-unfoldable pub namesLine : Refusal → Bool
+abbrev pub namesLine : Refusal → Bool
 namesLine Form = true
 namesLine Range = true
 namesLine Edition = false

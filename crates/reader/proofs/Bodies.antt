@@ -81,7 +81,7 @@ no-member (suc n) u = rw (eqb·suc-zero n) (behind-others (memberRows n u) (memb
     behind-others (x ∷ ms) m = refl
 
 rate-names : (t : Bool) (rs : List Rate) (r : Rate) (why : Refusal) → Broken why ≡ rateTaking t rs r → namesLine why ≡ true
-unfolding rateTaking namesLine
+unfolding rateTaking
 rate-names t rs r why e = go t (rateInRange rs r) e
   where
     go : (t u : Bool) → Broken why ≡ (if t then (if u then Taken else Broken Range) else Broken Form) → namesLine why ≡ true
@@ -90,7 +90,7 @@ rate-names t rs r why e = go t (rateInRange rs r) e
     go false u w = let z : why ≡ Form = cc in rw z
 
 member-names : (ms : List Member) (m : Member) (why : Refusal) → Broken why ≡ memberTaking ms m → namesLine why ≡ true
-unfolding memberTaking namesLine
+unfolding memberTaking
 member-names ms m why e = go (memberInRange ms m) e
   where
     go : (u : Bool) → Broken why ≡ (if u then Taken else Broken Range) → namesLine why ≡ true
@@ -100,7 +100,6 @@ member-names ms m why e = go (memberInRange ms m) e
 -- What the line `end=` answers.
 module _ (file : List ℕ) (s : State) (p : Passed file (s .passed) (s .at)) (l : Line) (n : NextLine file (s .at) l) (k : ℕ) where
   pub finish-count : (x : Stop) → (k ≡ s .members → ⊥) → x ≡ stopAt Range (s .passed) l → Finished file s l k (Stopped x)
-  unfolding namesLine
   finish-count x f e =
       rw e
       (record {
@@ -119,7 +118,7 @@ module _ (file : List ℕ) (s : State) (p : Passed file (s .passed) (s .at)) (l 
         (c ∙ sym (length-members (s .members) u)))
 
     pub finish-more : (x : Stop) (l′ : Line) → NextLine file (l .next) l′ → x ≡ stopAt Form (s .passed + 1) l′ → Finished file s l k (Stopped x)
-    unfolding namesLine atEnd
+    unfolding atEnd
     finish-more x l′ n′ e =
         rw e
         (record {
@@ -138,7 +137,7 @@ module _ (file : List ℕ) (s : State) (p : Passed file (s .passed) (s .at)) (l 
 -- What a line answers, with the tables before and after it.
 module _ (file : List ℕ) (s : State) (t : RateTable) (u : MemberTable) (a : At file s t u) where
   pub step-missing : (t′ : RateTable) (u′ : MemberTable) (l : Line) (x : Stop) → length file ≤ s .at → l ≡ record { start = 0; end = 0; next = 0 } → x ≡ stopAt Form (s .passed) l → RowEnd file s t u t′ u′ (Stopped x)
-  unfolding namesLine readRows linesFrom
+  unfolding readRows linesFrom
   step-missing t′ u′ l x h e f =
       rw (f, e)
       (record {
@@ -148,7 +147,6 @@ module _ (file : List ℕ) (s : State) (t : RateTable) (u : MemberTable) (a : At
 
   module _ (l : Line) (n : NextLine file (s .at) l) where
     pub step-other : (t′ : RateTable) (u′ : MemberTable) (x : Stop) → rowOf (lineOf file l) ≡ otherRow → x ≡ stopAt Form (s .passed) l → RowEnd file s t u t′ u′ (Stopped x)
-    unfolding namesLine
     step-other t′ u′ x o f =
         rw f
         (record {

@@ -14,7 +14,6 @@ use Rattle.fund.specs.declared.Refusal.the-variants.{Form, Range}
 use Rattle.fund.specs.Base.{if_then_else_}
 use Rattle.fund.specs.Lines.{Line as FundLine, linesFrom, lines}
 use Rattle.fund.specs.Spelling.{value, fields, allNumbers, numbers, behind, spelled}
-use Rattle.fund.specs.Answer.{namesLine}
 use Rattle.fund.specs.Reading.{Reading, stopped, between, HeaderLine, headerLines, headerOf, readHeader, readRows, reading}
 use Rattle.reader.specs.declared.line.Line.{Line}
 use Rattle.reader.specs.declared.line.Stop.{Stop}
@@ -82,13 +81,11 @@ module _ (file : List ℕ) (k at : ℕ) (h : k < 6) (ns : List ℕ) where
 -- What a step answers.
 module _ (file : List ℕ) (k at : ℕ) (p : Passed file k at) (h : k < 6) where
   pub step-missing : (l : Line) (s : Stop) → length file ≤ at → l ≡ record { start = 0; end = 0; next = 0 } → s ≡ stopAt Form k l → HeaderStop file k at s
-  unfolding namesLine
   step-missing l s g e f =
       rw (f, e) (record { hands = hands-none file k at p Form refl g; same = λ ns. header-missing file k at h ns g })
 
   module _ (l : Line) (n : NextLine file at l) (r : Numbers) (e : numbersIn 1 r ≡ spelled (headerLine k .key) 1 (lineOf file l)) where
     pub step-form : (s : Stop) → r .spelled ≡ false → s ≡ stopAt Form k l → HeaderStop file k at s
-    unfolding namesLine
     step-form s g f =
         rw f
         (record {
@@ -101,7 +98,6 @@ module _ (file : List ℕ) (k at : ℕ) (p : Passed file k at) (h : k < 6) where
       is = sym e ∙ numbers-some 1 r g
 
       pub step-range : (s : Stop) → between (headerLine k .least) (headerLine k .most) (getD (r .values) 0 0) ≡ false → s ≡ stopAt Range k l → HeaderStop file k at s
-      unfolding namesLine
       step-range s b f =
           rw f
           (record {

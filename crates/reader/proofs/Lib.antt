@@ -6,3 +6,4 @@ pub mod Headers
 pub mod Rows
 pub mod Bodies
 pub mod Whole
+pub mod Parts

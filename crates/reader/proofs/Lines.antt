@@ -106,30 +106,30 @@ getD-none f (x ∷ xs) zero d e = let z : _≡_ {A = ℕ} 0 1 = cc in absurd (om
 getD-none f (x ∷ xs) (suc n) d e = getD-none f xs n d e
 
 module _ (file : List ℕ) (passed at : ℕ) (p : Passed file passed at) where
+  pub line-there : (place : ℕ) (l : Line) → place - 1 ≡ passed → NextLine file at l → record { start = l .start; size = l .end - l .start } ≡ lineAt file place
+  unfolding lineAt
+  line-there place l e n =
+      rw e
+      (sym
+      (getD-first (λ (x : FundLine). record { start = x .start; size = length (x .text) }) (lines file) passed (lineOf file l) (linesAt file (l .next)) empty (p .left ∙ n .first)
+      ∙ ap (λ (m : ℕ). record { start = l .start; size = m }) (length-take-le (l .end - l .start) (drop (l .start) file) (omega (arith, length-drop (l .start) file, n .within .inside)))))
+
+  pub line-missing : (place : ℕ) → passed ≤ place - 1 → length file ≤ at → empty ≡ lineAt file place
+  unfolding lineAt linesFrom
+  line-missing place more h =
+      let e : passed + (place - 1 - passed) ≡ place - 1 = omega arith in
+      let none-left : drop passed (lines file) ≡ [] = p .left ∙ rw (drop-of-length-le file h) in
+      sym (getD-none (λ (x : FundLine). record { start = x .start; size = length (x .text) }) (lines file) (place - 1) empty (sym (drop-drop (place - 1 - passed) passed (lines file) ∙ ap (λ n. drop n (lines file)) e) ∙ ap (drop (place - 1 - passed)) none-left ∙ drop-of-length-le [] {i = place - 1 - passed} (omega arith)))
+
   pub hands-line : (why : Refusal) (l : Line) → namesLine why ≡ true → NextLine file at l → HandsBack file (stopAt why passed l)
-  unfolding part lineAt
+  unfolding part
   hands-line why l y n =
-      record {
-        ordered = n .within .ordered;
-        inside = n .within .inside;
-        is =
-            rw (y, add-sub-cancel passed 1)
-            (sym
-            (getD-first (λ (x : FundLine). record { start = x .start; size = length (x .text) }) (lines file) passed (lineOf file l) (linesAt file (l .next)) empty (p .left ∙ n .first)
-            ∙ ap (λ (m : ℕ). record { start = l .start; size = m }) (length-take-le (l .end - l .start) (drop (l .start) file) (omega (arith, length-drop (l .start) file, n .within .inside)))));
-      }
+      record { ordered = n .within .ordered; inside = n .within .inside; is = rw y (line-there (passed + 1) l (add-sub-cancel passed 1) n) }
 
   pub hands-none : (why : Refusal) → namesLine why ≡ true → length file ≤ at → HandsBack file (stopAt why passed (record { start = 0; end = 0; next = 0 }))
-  unfolding part lineAt linesFrom
+  unfolding part
   hands-none why y h =
-      record {
-        ordered = omega arith;
-        inside = omega arith;
-        is =
-            rw (y, add-sub-cancel passed 1)
-            (sym
-            (getD-none (λ (x : FundLine). record { start = x .start; size = length (x .text) }) (lines file) passed empty (p .left ∙ rw (drop-of-length-le file h))));
-      }
+      record { ordered = omega arith; inside = omega arith; is = rw y (line-missing (passed + 1) (omega arith) h) }
 
   pub passed-next : (l : Line) → NextLine file at l → Passed file (passed + 1) (l .next)
   passed-next l n =

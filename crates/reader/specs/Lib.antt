@@ -4,3 +4,4 @@ pub mod Header
 pub mod Rows
 pub mod Body
 pub mod Read
+pub mod Part

@@ -2,6 +2,7 @@
 mod body;
 mod header;
 mod line;
+mod part;
 mod row;
 mod text;
 
@@ -10,6 +11,8 @@ use fund::Fund;
 use fund::Verdict;
 use header::Header;
 use line::Stop;
+pub use part::Part;
+pub use part::part_of;
 ghost use mathlib.Core.Path.{_≡_};
 ghost use mathlib.Core.List.{[]};
 ghost use lib.ListN.{length, replicate};

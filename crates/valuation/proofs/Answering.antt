@@ -63,17 +63,14 @@ module _ (fund : Fund) (ms : List Life) (n : Lengths) (v : Valued) (d : List ℤ
       (ap (λ (w : Valued). w .inside) e, zero-answer true (Refused why place) v n d h f r (no-line why place l) e z ∙ ap (outcome fund ms n) (sym k))
 
   pub answers-load : (a : ℕ) → a ≡ load (fund .frequency) ms → most-load < a → v ≡ none-valued true (Refused Load 0) → Answers fund ms n v (left v d h f r)
-  unfolding namesLine
   answers-load a i l e = answers-refused Load 0 refl e (valued-load fund ms n (fundCells fund ms) (omega arith))
 
   pub answers-order : (a t : ℕ) → a ≡ load (fund .frequency) ms → a ≤ most-load → t ≡ min (truncation (fund .order) ms) (most-truncation + 1) → most-truncation < t →
       v ≡ none-valued true (Refused Order 0) → Answers fund ms n v (left v d h f r)
-  unfolding namesLine
   answers-order a t i l j m e = answers-refused Order 0 refl e (valued-order fund ms n (fundCells fund ms) (omega arith) (omega arith))
 
   pub answers-short : (a t : ℕ) → a ≡ load (fund .frequency) ms → a ≤ most-load → t ≡ min (truncation (fund .order) ms) (most-truncation + 1) → t ≤ most-truncation →
       short n (fund .horizon) ≡ true → v ≡ none-valued true (Refused Short 0) → Answers fund ms n v (left v d h f r)
-  unfolding namesLine
   answers-short a t i l j m s e = answers-refused Short 0 refl e (valued-short fund ms n (fundCells fund ms) (omega arith) (omega arith) s)
 
 -- ---- a slice that is too short

@@ -21,7 +21,7 @@ use Rattle.fund.specs.Transform.{D, H, mean}
 use Rattle.fund.specs.Recursion.{Cell}
 use Rattle.fund.specs.Premium.{premium, within}
 use Rattle.fund.specs.Refusals.{Lengths, first, wide, refuse, valued}
-use Rattle.fund.specs.Answer.{namesLine, fundTerms, fundStart, fundCells, fundTruncation, fundMean, lent, accepted}
+use Rattle.fund.specs.Answer.{fundTerms, fundStart, fundCells, fundTruncation, fundMean, lent, accepted}
 use Rattle.laws.specs.Tables.{length-table, getD-table, map-table}
 use Rattle.laws.specs.Slices.{table-ext, lent-is}
 use Rattle.laws.specs.Valued.{first-none-of, first-some-of, valued-rest, narrow-cell, wide-cell, long-enough}
@@ -96,7 +96,6 @@ module _ (count : ℕ) (groups q i d e : List ℕ) (l : Lives count groups q i d
 
   pub answers-wide : (v : Valued) (ds : List ℤ) (hs : List ℕ) (fs : List ℤ) (rs : List ℕ) → Zeros n ds hs fs rs → (x : ℕ) → v ≡ none-valued true (Refused refusal.Wide x) →
       WideAt X (fundCell fund ms) x → Answers fund ms n v (left v ds hs fs rs)
-  unfolding namesLine
   answers-wide v ds hs fs rs z x k w = answers-refused fund ms n v ds hs fs rs z refusal.Wide x refl k (valued-wide x w)
 
   module _ (f f′ : List ℤ) (r r′ : List ℕ) (filled : Filled X (fundCell fund ms) f f′ r r′) where
