@@ -1,2 +1,4 @@
 pub mod Joining
 pub mod Rows
+pub mod Priced
+pub mod Parts

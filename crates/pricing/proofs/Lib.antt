@@ -1,0 +1,3 @@
+pub mod Stopping
+pub mod Valuing
+pub mod Reading

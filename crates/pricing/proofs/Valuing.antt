@@ -1,0 +1,105 @@
+-- The answer of a fund that is read, from the refusals 3 to 6 (matched-answers) and from the valuation (valued-answers).
+use mathlib.Core.Path.{_≡_, refl, sym, _∙_, ap, subst}
+use mathlib.Core.Bool.{Bool, true, false}
+use mathlib.Core.List.{List, []}
+use mathlib.Core.Option.{Option, none, some}
+use Prim.Native.Nat.{ℕ, suc, _≤_}
+use native.Mathlib.Omega.{arith}
+use borrow.Author.Tests.{ltb-false}
+use lib.IntN.{ℤ}
+use lib.ListN.{length, replicate, length-replicate}
+use Rattle.fund.specs.declared.Fund.{Fund}
+use Rattle.fund.specs.declared.Life.{Life}
+use Rattle.fund.specs.declared.Refusal.{Refusal}
+use Rattle.fund.specs.declared.Refusal.the-variants.{Load, Order, Short, Wide}
+use Rattle.fund.specs.declared.Verdict.{Verdict}
+use Rattle.fund.specs.declared.Verdict.the-variants.{Accepted, Refused}
+use Rattle.fund.specs.Limits.{most-members}
+use Rattle.fund.specs.Reading.{FundFile, read, reading}
+use Rattle.fund.specs.Folding.{lives}
+use Rattle.fund.specs.Recursion.{Cell}
+use Rattle.fund.specs.Refusals.{Lengths, refuse, matched, valued}
+use Rattle.fund.specs.Answer.{Answer, namesLine, refused, fundCells, answerOf, answer}
+use Rattle.laws.specs.Accepted.{All, refuse-accepted, at0-none}
+use Rattle.laws.specs.Ranges.{FundOk, read-ranges}
+use Rattle.widths.specs.Lives.{Lives, InRange, livesOf}
+use Rattle.matching.specs.declared.verdict.Matched.{Matched}
+use Rattle.matching.specs.Matching.{Room, Matching}
+use Rattle.valuation.specs.declared.Valued.{Valued}
+use Rattle.valuation.specs.Inside.{HeaderIn}
+use Rattle.valuation.specs.Valued.{left as valuedLeft, outcome, Answered, ValuedAs}
+use Rattle.pricing.specs.declared.Priced.{Priced}
+use Rattle.pricing.specs.Joining.{lives-in, answer-matched, answer-valued, no-line}
+use Rattle.pricing.specs.Priced.{left, Answers}
+
+-- The refusals 7 to 10 name no line.
+abbrev Unlined : Verdict → Type 0
+Unlined Accepted = Unit {0}
+Unlined (Refused why place) = namesLine why ≡ false
+
+refuse-unlined : (why : Refusal) (o : Option ℕ) (after : Verdict) → namesLine why ≡ false → Unlined after → Unlined (refuse why o after)
+unfolding refuse
+refuse-unlined why none after e k = k
+refuse-unlined why (some place) after e k = e
+
+valued-unlined : (fund : Fund) (ms : List Life) (n : Lengths) (cells : List Cell) → Unlined (valued fund ms n cells)
+unfolding valued
+valued-unlined fund ms n cells =
+    refuse-unlined Load _ _ refl (refuse-unlined Order _ _ refl (refuse-unlined Short _ _ refl (refuse-unlined Wide _ Accepted refl tt)))
+
+outcome-answer : (file : List ℕ) (n : Lengths) (fund : FundFile) (v : Verdict) → Unlined v → outcome (fund .header) (lives fund) n v ≡ answerOf file n fund v
+unfolding answerOf
+outcome-answer file n fund Accepted k = refl
+outcome-answer file n fund (Refused why place) k = no-line file n why place k
+
+-- the slices for the folded rates, before they are filled
+abbrev pub blank : List ℕ
+blank = replicate 1000 0
+
+pub blank-long : (count : ℕ) → count ≤ most-members → count ≤ length blank
+blank-long count few = let e : length blank ≡ 1000 = length-replicate {A = ℕ} 1000 0 in omega arith
+
+-- what the valuation answers, as the answer of the call
+abbrev pub handed : Valued → ℤ → Priced
+handed v premium = record { verdict = v .verdict; start = 0; end = 0; truncation = v .truncation; mean = v .mean; premium = premium; within = v .within }
+
+pub handed-answers : (file : List ℕ) (is : Answer) (v : Valued) (premium : ℤ) (d : List ℤ) (h : List ℕ) (f : List ℤ) (r : List ℕ) → premium ≡ v .premium → valuedLeft v d h f r ≡ is → Answers file (handed v premium) (left (handed v premium) d h f r) is
+handed-answers file is v premium d h f r e k =
+    record { answer = ap (λ (z : ℤ). left (handed v z) d h f r) e ∙ k; ordered = omega arith; inside = omega arith }
+
+module _ (file : List ℕ) (n : Lengths) (fund : FundFile) (is : reading file ≡ read fund) where
+  pub room-there : (Rates Members : Type 0) (count : ℕ) (q i : List ℕ) → Rates → Members → count ≤ length q → count ≤ length i → Room (fund .header) Rates Members count q i
+  room-there Rates Members count q i rs ms lq li = record { horizon = read-ranges file fund is .header .horizon; rates = rs; members = ms; q-long = lq; i-long = li }
+
+  pub verdict-matched : (Fits : Type 0) (after : List Life) (r : Matched) → Fits → Matching Fits fund after r → r .verdict ≡ matched fund Accepted
+  verdict-matched Fits after r fits k = k .verdict ∙ rw (k .room .no fits)
+
+  pub matched-answers : (v : Verdict) (why : Refusal) (place : ℕ) (p : Priced) (a : Answer) → v ≡ matched fund Accepted → v ≡ Refused why place → Answers file p a (refused file n v) → Answers file p a (answer file n)
+  matched-answers v why place p a e w k =
+      subst (λ (x : Answer). Answers file p a x) (ap (refused file n) w ∙ sym (answer-matched file n fund is why place (sym e ∙ w))) k
+
+  module _ (groups q i d e : List ℕ) (count : ℕ) (m : matched fund Accepted ≡ Accepted) (same : livesOf count groups q i d e ≡ lives fund) where
+    in-range : All InRange (livesOf count groups q i d e)
+    in-range = subst (λ (ms : List Life). All InRange ms) (sym same) (lives-in fund (read-ranges file fund is) m)
+
+    header-in : HeaderIn (fund .header)
+    unfolding matched
+    header-in =
+        let ok = read-ranges file fund is .header in
+        let e3 = refuse-accepted _ _ _ m in
+        let e4 = refuse-accepted _ _ _ (e3 .1) in
+        record { horizon = ok .horizon; order = ok .order-most; frequency = ok .frequency; deductible = ltb-false _ _ (at0-none _ (e4 .0)) }
+
+    answered : (v : Valued) (a : Answer) (inside : Bool) → inside ≡ true → Answered (fund .header) (livesOf count groups q i d e) n inside a → a ≡ answer file n
+    answered v a false z k = absurd (let w : _≡_ {A = ℕ} 0 1 = cc in omega arith)
+    answered v a true z k =
+        k
+        ∙ ap (λ (ms : List Life). outcome (fund .header) ms n (valued (fund .header) ms n (fundCells (fund .header) ms))) same
+        ∙ outcome-answer file n fund _ (valued-unlined (fund .header) (lives fund) n _)
+        ∙ sym (answer-valued file n fund is m)
+
+    pub valued-answers : (v : Valued) (a : Answer) → count ≤ most-members → count ≤ length groups → count ≤ length q → count ≤ length i → count ≤ length d → count ≤ length e →
+        ValuedAs (fund .header) count groups q i d e n v a → a ≡ answer file n
+    valued-answers v a few lg lq li ld le k =
+        let l : Lives count groups q i d e = record { few = few; groups-long = lg; q-long = lq; i-long = li; d-long = ld; e-long = le; in-range = in-range } in
+        answered v a (v .inside) (k .inside .no (l, header-in)) (k .answered)

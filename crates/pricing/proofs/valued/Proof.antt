@@ -1,0 +1,118 @@
+-- Where refusals 3 to 6 stop, the call stops with their line; else the answer is that of the valuation.
+use mathlib.Core.Path.{sym, _∙_}
+use native.Mathlib.Omega.{arith}
+use borrow.Author.Needs.{needs, sfits-of}
+use mir.Syntax.{w64}
+use mir.Facts.{toZ-ofZ}
+use Rattle.fund.specs.Answer.{answer}
+use Rattle.valuation.specs.Valued.{lengths}
+use Rattle.pricing.proofs.Valuing.{blank, blank-long, handed-answers, room-there, verdict-matched, matched-answers, valued-answers}
+use Rattle.pricing.proofs.valued.Statement.{statement}
+use Rattle.pricing.proofs.valued.Tie as tie
+
+slice-aggregate-matched : tie.Need-slice-aggregate-matched
+slice-aggregate-matched c = search needs
+
+slice-aggregate-matched-2 : tie.Need-slice-aggregate-matched-2
+slice-aggregate-matched-2 c = search needs
+
+matched-requires : tie.Need-matched-requires
+matched-requires c κs = search needs
+
+enum-told : tie.Need-enum-told
+enum-told c = search needs
+
+part-of-requires : tie.Need-part-of-requires
+part-of-requires c κs = search needs
+
+stopped-requires : tie.Need-stopped-requires
+stopped-requires c κs = search needs
+
+enum-told-2 : tie.Need-enum-told-2
+enum-told-2 c = search needs
+
+slice-aggregate-value : tie.Need-slice-aggregate-value
+slice-aggregate-value c = search needs
+
+slice-aggregate-value-2 : tie.Need-slice-aggregate-value-2
+slice-aggregate-value-2 c = search needs
+
+value-requires : tie.Need-value-requires
+value-requires c κs = search needs
+
+same-length : tie.Need-same-length
+same-length c = search needs
+
+same-length-2 : tie.Need-same-length-2
+same-length-2 c = search needs
+
+same-length-3 : tie.Need-same-length-3
+same-length-3 c = search needs
+
+same-length-4 : tie.Need-same-length-4
+same-length-4 c = search needs
+
+returns : tie.Need-returns
+returns c =
+    let o = c .before .before .before .before .before .before .before .before .before .before .before .before .before .before .before .before .before .before .before .before .before .before .before .before .before .before .before .before .before in
+    let a = o .args in
+    let k = o .pre in
+    let m = c .before .before .before .before .before .before .before .before .before .before .before .before .before .before .before .before .matched in
+    let s = c .before .before .before .before .before .before .stopped in
+    let t = c .before .before .before .before .before .before .before .before .before .before .before .before .enum-told in
+    let n = lengths (a .transform .now) (a .h .now) (a .f .now) (a .r .now) in
+    let l = blank-long (a .members) (k .members .few) in
+    let room = room-there _ n _ (k .is) _ _ (a .members) blank blank (k .rates) (k .members) l l in
+    matched-answers _ n _ (k .is) _ _ _ _ _ (verdict-matched _ n _ (k .is) _ _ _ room (m .ensures)) (t .given .1) (s .ensures)
+
+same-length-5 : tie.Need-same-length-5
+same-length-5 c = search needs
+
+same-length-6 : tie.Need-same-length-6
+same-length-6 c = search needs
+
+same-length-7 : tie.Need-same-length-7
+same-length-7 c = search needs
+
+same-length-8 : tie.Need-same-length-8
+same-length-8 c = search needs
+
+returns-2 : tie.Need-returns-2
+returns-2 c =
+    let o = c .before .before .before .before .before .before .before .before .before .before .before .before .before .before .before .before .before .before .before .before .before .before .before .before .before .before .before .before .before .before .before in
+    let a = o .args in
+    let k = o .pre in
+    let m = c .before .before .before .before .before .before .before .before .before .before .before .before .before .before .before .before .before .before .matched in
+    let v = c .before .before .before .before .before .before .before .value in
+    let t = c .before .before .before .before .before .before .before .before .before .before .before .before .before .before .enum-told2 in
+    let n = lengths (a .transform .now) (a .h .now) (a .f .now) (a .r .now) in
+    let l = blank-long (a .members) (k .members .few) in
+    let room = room-there _ n _ (k .is) _ _ (a .members) blank blank (k .rates) (k .members) l l in
+    let e = verdict-matched _ n _ (k .is) _ _ _ room (m .ensures) in
+    handed-answers (a .file .now) (answer (a .file .now) n) (v .result) _ _ _ _ _ (toZ-ofZ (sfits-of {w = w64} (v .ok .1 .1 .1 .1 .1 .1 .0 .1)))
+    (valued-answers _ n _ (k .is) _ _ _ _ _ (a .members) (sym e ∙ t .given .1) (m .ensures .lives (m .ensures .room .no room)) _ _ (k .members .few) (k .members .groups-long) (omega (arith, l, m .kept .1 .1 .1 .1 .1 .1 .1 .1 .1 .1 .0)) (omega (arith, l, m .kept .1 .1 .1 .1 .1 .1 .1 .1 .1 .1 .1 .0)) (k .members .d-long) (k .members .e-long) (v .ensures))
+
+pub valued-spec : {M : Type 1} → statement M
+valued-spec =
+    tie.close
+    (tie.spec
+    slice-aggregate-matched
+    slice-aggregate-matched-2
+    matched-requires
+    enum-told
+    part-of-requires
+    stopped-requires
+    enum-told-2
+    slice-aggregate-value
+    slice-aggregate-value-2
+    value-requires
+    same-length
+    same-length-2
+    same-length-3
+    same-length-4
+    returns
+    same-length-5
+    same-length-6
+    same-length-7
+    same-length-8
+    returns-2)

@@ -1,0 +1,55 @@
+-- What a pricing call leaves: the answer of document 01, and demand 3 of every fund that it accepts.
+use mathlib.Core.Path.{_≡_}
+use mathlib.Core.Bool.{Bool, true, false, _&&_}
+use mathlib.Core.List.{List, []}
+use Prim.Native.Nat.{ℕ, _-_, _≤_}
+use lib.Dec.{leb}
+use lib.IntN.{ℤ}
+use lib.ListN.{length, take, drop}
+use Rattle.fund.specs.declared.Fund.{Fund}
+use Rattle.fund.specs.declared.Verdict.the-variants.{Accepted}
+use Rattle.fund.specs.Base.{if_then_else_}
+use Rattle.fund.specs.Reading.{FundFile, read, reading}
+use Rattle.fund.specs.Refusals.{Lengths}
+use Rattle.fund.specs.Answer.{Answer, answer}
+use Rattle.fund.specs.Distance.{WithinBounds}
+use Rattle.pricing.specs.declared.Priced.{Priced}
+
+-- The answer that a call leaves: what it returns, and the slices.
+abbrev pub left : Priced → List ℤ → List ℕ → List ℤ → List ℕ → Answer
+left p d h f r =
+    record {
+      verdict = p .verdict;
+      part = record { start = p .start; size = p .end - p .start };
+      truncation = p .truncation;
+      mean = p .mean;
+      premium = p .premium;
+      within = p .within;
+      D = d;
+      H = h;
+      f = f;
+      R = r;
+    }
+
+-- What is left is the answer, and its part lies in the file.
+pub record Answers (file : List ℕ) (p : Priced) (a is : Answer) : Type 0 where
+  pub answer : a ≡ is
+  pub ordered : p .start ≤ p .end
+  pub inside : p .end ≤ length file
+
+-- The contract of the call. For each sequence of bytes and any lengths of the slices, the answer is the definition's: number,
+-- place, part, figures and every lent cell. And demand 3: whenever it accepts, each f(x) and the premium are within their
+-- bounds of the exact values.
+pub record Prices (file : List ℕ) (n : Lengths) (p : Priced) (a : Answer) : Type 0 where
+  pub answers : Answers file p a (answer file n)
+  pub distance : (fund : FundFile) → reading file ≡ read fund → a .verdict ≡ Accepted → WithinBounds fund a
+
+-- The tables hold the fund file that was read.
+pub record ReadInto (file : List ℕ) (fund : FundFile) (Rates Members : Type 0) : Type 0 where
+  pub is : reading file ≡ read fund
+  pub rates : Rates
+  pub members : Members
+
+-- The bytes from start to end, and none where these lie outside the file.
+unfoldable pub lineOf : List ℕ → Priced → List ℕ
+lineOf file p = if leb (p .start) (p .end) && leb (p .end) (length file) then take (p .end - p .start) (drop (p .start) file) else []
