@@ -91,7 +91,7 @@ module _ (file : List ℕ) (t : RateTable) (u : MemberTable) (t′ : RateTable) 
     is-stopped : reading file ≡ stopped why place
     is-stopped = stops (reading file) answer-is refl
 
-    pub stop-spans : Spans file (part file (r .verdict)) (record { start = r .start; end = r .end })
+    pub stop-spans : Spans file (part file (Refused why place)) (record { start = r .start; end = r .end })
     unfolding found
     stop-spans =
         let e : r ≡ found file (stopped why place) = answer-is ∙ ap (found file) is-stopped in
@@ -101,12 +101,11 @@ module _ (file : List ℕ) (t : RateTable) (u : MemberTable) (t′ : RateTable) 
         record {
           ordered = omega arith;
           inside = omega arith;
-          same = rw (v, s, f, add-sub-cancel-left (part file (Refused why place) .start) (part file (Refused why place) .size));
+          same = rw (s, f, add-sub-cancel-left (part file (Refused why place) .start) (part file (Refused why place) .size));
         }
 
-    pub stop-answers : (n : Lengths) (p : Priced) (a : Answer) → Answers file p a (refused file n (r .verdict)) → Answers file p a (answer file n)
-    stop-answers n p a w =
-        subst (λ (x : Answer). Answers file p a x) (ap (refused file n) v ∙ sym (answer-stopped file n why place is-stopped)) w
+    pub stop-answers : (n : Lengths) (p : Priced) (a : Answer) → Answers file p a (refused file n (Refused why place)) → Answers file p a (answer file n)
+    stop-answers n p a w = subst (λ (x : Answer). Answers file p a x) (sym (answer-stopped file n why place is-stopped)) w
 
   -- a fund file: it stands in the tables
   abbrev held : FundFile

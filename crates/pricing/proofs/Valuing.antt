@@ -19,6 +19,7 @@ use Rattle.fund.specs.Reading.{FundFile, read, reading}
 use Rattle.fund.specs.Folding.{lives}
 use Rattle.fund.specs.Recursion.{Cell}
 use Rattle.fund.specs.Refusals.{Lengths, refuse, matched, valued}
+use Rattle.fund.specs.Listing.{horizonIn}
 use Rattle.fund.specs.Answer.{Answer, namesLine, refused, fundCells, answerOf, answer}
 use Rattle.laws.specs.Accepted.{All, refuse-accepted, at0-none}
 use Rattle.laws.specs.Ranges.{FundOk, read-ranges}
@@ -30,7 +31,7 @@ use Rattle.valuation.specs.Inside.{HeaderIn}
 use Rattle.valuation.specs.Valued.{left as valuedLeft, outcome, Answered, ValuedAs}
 use Rattle.pricing.specs.declared.Priced.{Priced}
 use Rattle.pricing.specs.Joining.{lives-in, answer-matched, answer-valued, no-line}
-use Rattle.pricing.specs.Priced.{left, Answers}
+use Rattle.pricing.specs.Priced.{left, horizonWith, Answers}
 
 -- The refusals 7 to 10 name no line.
 abbrev Unlined : Verdict → Type 0
@@ -60,12 +61,8 @@ pub blank-long : (count : ℕ) → count ≤ most-members → count ≤ length b
 blank-long count few = let e : length blank ≡ 1000 = length-replicate {A = ℕ} 1000 0 in omega arith
 
 -- what the valuation answers, as the answer of the call
-abbrev pub handed : Valued → ℤ → Priced
-handed v premium = record { verdict = v .verdict; start = 0; end = 0; truncation = v .truncation; mean = v .mean; premium = premium; within = v .within }
-
-pub handed-answers : (file : List ℕ) (is : Answer) (v : Valued) (premium : ℤ) (d : List ℤ) (h : List ℕ) (f : List ℤ) (r : List ℕ) → premium ≡ v .premium → valuedLeft v d h f r ≡ is → Answers file (handed v premium) (left (handed v premium) d h f r) is
-handed-answers file is v premium d h f r e k =
-    record { answer = ap (λ (z : ℤ). left (handed v z) d h f r) e ∙ k; ordered = omega arith; inside = omega arith }
+abbrev pub handed : Valued → ℕ → ℤ → Priced
+handed v X premium = record { verdict = v .verdict; start = 0; end = 0; horizon = X; truncation = v .truncation; mean = v .mean; premium = premium; within = v .within }
 
 module _ (file : List ℕ) (n : Lengths) (fund : FundFile) (is : reading file ≡ read fund) where
   pub room-there : (Rates Members : Type 0) (count : ℕ) (q i : List ℕ) → Rates → Members → count ≤ length q → count ≤ length i → Room (fund .header) Rates Members count q i
@@ -74,9 +71,20 @@ module _ (file : List ℕ) (n : Lengths) (fund : FundFile) (is : reading file �
   pub verdict-matched : (Fits : Type 0) (after : List Life) (r : Matched) → Fits → Matching Fits fund after r → r .verdict ≡ matched fund Accepted
   verdict-matched Fits after r fits k = k .verdict ∙ rw (k .room .no fits)
 
-  pub matched-answers : (v : Verdict) (why : Refusal) (place : ℕ) (p : Priced) (a : Answer) → v ≡ matched fund Accepted → v ≡ Refused why place → Answers file p a (refused file n v) → Answers file p a (answer file n)
+  pub handed-answers : (answer : Answer) (v : Valued) (X : ℕ) (premium : ℤ) (d : List ℤ) (h : List ℕ) (f : List ℤ) (r : List ℕ) → X ≡ horizonWith (v .verdict) (fund .header .horizon) → premium ≡ v .premium → valuedLeft v d h f r ≡ answer
+      → Answers file (handed v X premium) (left (handed v X premium) d h f r) answer
+  unfolding horizonIn
+  handed-answers answer v X premium d h f r x e k =
+      record {
+        answer = ap (λ (z : ℤ). left (handed v X z) d h f r) e ∙ k;
+        horizon = x ∙ ap (λ z. horizonWith (v .verdict) (horizonIn z)) (sym is);
+        ordered = omega arith;
+        inside = omega arith;
+      }
+
+  pub matched-answers : (v : Verdict) (why : Refusal) (place : ℕ) (p : Priced) (a : Answer) → v ≡ matched fund Accepted → v ≡ Refused why place → Answers file p a (refused file n (Refused why place)) → Answers file p a (answer file n)
   matched-answers v why place p a e w k =
-      subst (λ (x : Answer). Answers file p a x) (ap (refused file n) w ∙ sym (answer-matched file n fund is why place (sym e ∙ w))) k
+      subst (λ (x : Answer). Answers file p a x) (sym (answer-matched file n fund is why place (sym e ∙ w))) k
 
   module _ (groups q i d e : List ℕ) (count : ℕ) (m : matched fund Accepted ≡ Accepted) (same : livesOf count groups q i d e ≡ lives fund) where
     in-range : All InRange (livesOf count groups q i d e)

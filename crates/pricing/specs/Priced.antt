@@ -7,11 +7,13 @@ use lib.Dec.{leb}
 use lib.IntN.{ℤ}
 use lib.ListN.{length, take, drop}
 use Rattle.fund.specs.declared.Fund.{Fund}
-use Rattle.fund.specs.declared.Verdict.the-variants.{Accepted}
+use Rattle.fund.specs.declared.Verdict.{Verdict}
+use Rattle.fund.specs.declared.Verdict.the-variants.{Accepted, Refused}
 use Rattle.fund.specs.Base.{if_then_else_}
 use Rattle.fund.specs.Reading.{FundFile, read, reading}
 use Rattle.fund.specs.Refusals.{Lengths}
 use Rattle.fund.specs.Answer.{Answer, answer}
+use Rattle.fund.specs.Listing.{horizonIn}
 use Rattle.fund.specs.Distance.{WithinBounds}
 use Rattle.pricing.specs.declared.Priced.{Priced}
 
@@ -31,9 +33,15 @@ left p d h f r =
       R = r;
     }
 
--- What is left is the answer, and its part lies in the file.
+-- The horizon is told of a fund that is accepted.
+abbrev pub horizonWith : Verdict → ℕ → ℕ
+horizonWith Accepted X = X
+horizonWith (Refused why place) X = 0
+
+-- What is left is the answer, its part lies in the file, and the horizon is the file's.
 pub record Answers (file : List ℕ) (p : Priced) (a is : Answer) : Type 0 where
   pub answer : a ≡ is
+  pub horizon : p .horizon ≡ horizonWith (p .verdict) (horizonIn (reading file))
   pub ordered : p .start ≤ p .end
   pub inside : p .end ≤ length file
 

@@ -1,51 +1,66 @@
 // One call prices a fund: from the bytes of its file to its figures and cells, or to the refusal and its line.
 use fund::Fund;
+use fund::Refusal;
 use fund::Verdict;
 use reader::Part;
 ghost use mathlib.Core.Path.{_≡_};
 ghost use lib.ListN.{length};
+ghost use Rattle.fund.specs.declared.Verdict;
 ghost use Rattle.fund.specs.Answer.{part, refused, answer};
 ghost use Rattle.reader.specs.Part.{Spans};
 ghost use Rattle.matching.specs.Rows.{rateRows, memberRows, fileOf};
 ghost use Rattle.matching.specs.Matching.{RateRoom, MemberRoom};
 ghost use Rattle.valuation.specs.Valued.{lengths};
-ghost use Rattle.pricing.specs.Priced.{left, Answers, ReadInto, Prices, lineOf};
+ghost use Rattle.pricing.specs.Priced.{left, horizonWith, Answers, ReadInto, Prices, lineOf};
 
 // What a call answers beside the result slices: the verdict, where the part of the host's bytes that goes with it starts and
-// ends, and the figures.
+// ends, the horizon of a fund that is accepted, and the figures.
 pub struct Priced {
     pub verdict: Verdict,
     pub start: usize,
     pub end: usize,
+    pub horizon: u64,
     pub truncation: u64,
     pub mean: u64,
     pub premium: i64,
     pub within: u64,
 }
 
+// The horizon is told of a fund that is accepted.
+fn horizon_of(verdict: Verdict, horizon: u64) -> u64
+    ensures { λ r. ⌜ r ≡ horizonWith verdict horizon ⌝ }
+{
+    match verdict {
+        Verdict::Accepted => horizon,
+        Verdict::Refused(_, _) => 0,
+    }
+}
+
 // "A refusal gives number and place, zero for every figure, and zero in every lent result cell."
 fn stopped(
     file: &[u8],
-    verdict: Verdict,
+    why: Refusal,
+    place: u64,
     line: Part,
     transform: &mut [i64],
     h: &mut [u64],
     f: &mut [i64],
     r: &mut [u64],
 ) -> Priced
-    requires { ⌜ Spans (now file) (part (now file) verdict) line ⌝ }
+    requires { ⌜ Spans (now file) (part (now file) (Verdict.Refused why place)) line ⌝ }
     ensures { λ p. ⌜ Answers (now (file .entry)) p
         (left p (now (transform .exit)) (now (h .exit)) (now (f .exit)) (now (r .exit)))
-        (refused (now (file .entry)) (lengths (now (transform .entry)) (now (h .entry)) (now (f .entry)) (now (r .entry))) verdict) ⌝ }
+        (refused (now (file .entry)) (lengths (now (transform .entry)) (now (h .entry)) (now (f .entry)) (now (r .entry))) (Verdict.Refused why place)) ⌝ }
 {
     valuation::clear_signed(transform);
     valuation::clear(h);
     valuation::clear_signed(f);
     valuation::clear(r);
     Priced {
-        verdict,
+        verdict: Verdict::Refused(why, place),
         start: line.start,
         end: line.end,
+        horizon: 0,
         truncation: 0,
         mean: 0,
         premium: 0,
@@ -97,9 +112,9 @@ fn valued(
     );
     let verdict = found.verdict;
     match verdict {
-        Verdict::Refused(_, _) => {
+        Verdict::Refused(why, place) => {
             let line = reader::part_of(file, verdict);
-            stopped(file, verdict, line, transform, h, f, r)
+            stopped(file, why, place, line, transform, h, f, r)
         }
         Verdict::Accepted => {
             let value = valuation::value(fund, groups, &q, &i, d, e, members, transform, h, f, r);
@@ -108,6 +123,7 @@ fn valued(
                 verdict: outcome,
                 start: 0,
                 end: 0,
+                horizon: horizon_of(outcome, fund.horizon),
                 truncation: value.truncation,
                 mean: value.mean,
                 premium: value.premium,
@@ -147,12 +163,12 @@ pub fn price(
     );
     let verdict = found.verdict;
     match verdict {
-        Verdict::Refused(_, _) => {
+        Verdict::Refused(why, place) => {
             let line = Part {
                 start: found.start,
                 end: found.end,
             };
-            stopped(file, verdict, line, transform, h, f, r)
+            stopped(file, why, place, line, transform, h, f, r)
         }
         Verdict::Accepted => {
             let fund = found.fund;

@@ -1,4 +1,4 @@
--- The file is read into tables of the call's own; where reading stops, so does the call, and else the rows that stand in the tables are valued.
+-- The file is read into tables of the call's own; where reading stops, so does the call, and else the rows in the tables are valued.
 use borrow.Author.Needs.{needs}
 use Rattle.valuation.specs.Valued.{lengths}
 use Rattle.pricing.proofs.Stopping.{prices}
@@ -30,15 +30,15 @@ slice-aggregate-read-7 c = search needs
 read-requires : tie.Need-read-requires
 read-requires c κs = search needs
 
-enum-told : tie.Need-enum-told
-enum-told c = search needs
+enum-known-verdict : tie.Need-enum-known-verdict
+enum-known-verdict c = search needs
 
 stopped-requires : tie.Need-stopped-requires
 stopped-requires c κs =
-    stop-spans (c .before .before .before .before .before .before .before .before .before .before .before .before .before .before .before .before .before .before .before .before .before .before .before .before .args .file .now) noRates noMembers _ _ _ (c .before .before .before .before .before .before .before .before .before .before .before .before .before .read .ensures) no-rates no-members _ _ (c .before .before .before .before .enum-told .given .1)
+    stop-spans (c .before .before .before .before .before .before .before .before .before .before .before .before .before .before .before .before .before .before .before .before .before .before .before .before .before .args .file .now) noRates noMembers _ _ _ (c .before .before .before .before .before .before .before .before .before .before .before .before .before .before .read .ensures) no-rates no-members _ _ (c .before .before .before .before .before .verdict .given .1)
 
-enum-told-2 : tie.Need-enum-told-2
-enum-told-2 c = search needs
+enum-told : tie.Need-enum-told
+enum-told c = search needs
 
 slice-aggregate-valued : tie.Need-slice-aggregate-valued
 slice-aggregate-valued c = search needs
@@ -64,7 +64,7 @@ slice-aggregate-valued-7 c = search needs
 valued-requires : tie.Need-valued-requires
 valued-requires c κs =
     let k = c .before .before .before .before .before .before .before .before .before .before .before .before .before .before .before .before .before .before .before .before .before .read in
-    read-into (c .before .before .before .before .before .before .before .before .before .before .before .before .before .before .before .before .before .before .before .before .before .before .before .before .before .before .before .before .before .before .before .before .args .file .now) noRates noMembers _ _ (k .result) (k .ensures) no-rates no-members (c .before .before .before .before .before .before .before .before .before .before .before .before .enum-told2 .given .1)
+    read-into (c .before .before .before .before .before .before .before .before .before .before .before .before .before .before .before .before .before .before .before .before .before .before .before .before .before .before .before .before .before .before .before .before .args .file .now) noRates noMembers _ _ (k .result) (k .ensures) no-rates no-members (c .before .before .before .before .before .before .before .before .before .before .before .before .enum-told .given .1)
     (rates-kept _ (k .kept .1 .0) (k .kept .1 .1 .0) (k .kept .1 .1 .1 .0)) (members-kept _ (k .kept .1 .1 .1 .1 .0) (k .kept .1 .1 .1 .1 .1 .0) (k .kept .1 .1 .1 .1 .1 .1 .0) (k .kept .1 .1 .1 .1 .1 .1 .1 .0))
 
 same-length : tie.Need-same-length
@@ -81,10 +81,10 @@ same-length-4 c = search needs
 
 returns : tie.Need-returns
 returns c =
-    let a = c .before .before .before .before .before .before .before .before .before .before .before .before .before .before .before .before .before .before .before .before .before .before .before .before .before .before .before .before .before .before .before .args in
+    let a = c .before .before .before .before .before .before .before .before .before .before .before .before .before .before .before .before .before .before .before .before .before .before .before .before .before .before .before .before .before .before .before .before .args in
     let n = lengths (a .transform .now) (a .h .now) (a .f .now) (a .r .now) in
     prices (a .file .now) n _ _
-    (stop-answers (a .file .now) noRates noMembers _ _ _ (c .before .before .before .before .before .before .before .before .before .before .before .before .before .before .before .before .before .before .before .before .read .ensures) no-rates no-members _ _ (c .before .before .before .before .before .before .before .before .before .before .before .enum-told .given .1) n _ _ (c .before .before .before .before .before .before .stopped .ensures))
+    (stop-answers (a .file .now) noRates noMembers _ _ _ (c .before .before .before .before .before .before .before .before .before .before .before .before .before .before .before .before .before .before .before .before .before .read .ensures) no-rates no-members _ _ (c .before .before .before .before .before .before .before .before .before .before .before .before .verdict .given .1) n _ _ (c .before .before .before .before .before .before .stopped .ensures))
 
 same-length-5 : tie.Need-same-length-5
 same-length-5 c = search needs
@@ -113,9 +113,9 @@ price-spec =
     slice-aggregate-read-6
     slice-aggregate-read-7
     read-requires
-    enum-told
+    enum-known-verdict
     stopped-requires
-    enum-told-2
+    enum-told
     slice-aggregate-valued
     slice-aggregate-valued-2
     slice-aggregate-valued-3

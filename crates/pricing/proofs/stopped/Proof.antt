@@ -34,7 +34,7 @@ returns c =
     let o = c .before .before .before .before .before .before .before .before .before .before .before .before .before .before .before .before .before in
     let a = o .args in
     let n = lengths (a .transform .now) (a .h .now) (a .f .now) (a .r .now) in
-    stopped-answers (a .file .now) (a .verdict) (a .line) n _ _ _ _ (o .pre)
+    stopped-answers (a .file .now) (a .why) (a .place) (a .line) n _ _ _ _ (o .pre)
     (c .before .before .before .before .before .before .before .before .before .before .before .before .clear-signed .ensures)
     (c .before .before .before .before .before .before .before .before .before .clear .ensures)
     (c .before .before .before .before .before .clear-signed2 .ensures)

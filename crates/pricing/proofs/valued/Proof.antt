@@ -6,7 +6,7 @@ use mir.Syntax.{w64}
 use mir.Facts.{toZ-ofZ}
 use Rattle.fund.specs.Answer.{answer}
 use Rattle.valuation.specs.Valued.{lengths}
-use Rattle.pricing.proofs.Valuing.{blank, blank-long, handed-answers, room-there, verdict-matched, matched-answers, valued-answers}
+use Rattle.pricing.proofs.Valuing.{blank, blank-long, room-there, verdict-matched, handed-answers, matched-answers, valued-answers}
 use Rattle.pricing.proofs.valued.Statement.{statement}
 use Rattle.pricing.proofs.valued.Tie as tie
 
@@ -19,8 +19,8 @@ slice-aggregate-matched-2 c = search needs
 matched-requires : tie.Need-matched-requires
 matched-requires c κs = search needs
 
-enum-told : tie.Need-enum-told
-enum-told c = search needs
+enum-known-verdict : tie.Need-enum-known-verdict
+enum-known-verdict c = search needs
 
 part-of-requires : tie.Need-part-of-requires
 part-of-requires c κs = search needs
@@ -28,8 +28,8 @@ part-of-requires c κs = search needs
 stopped-requires : tie.Need-stopped-requires
 stopped-requires c κs = search needs
 
-enum-told-2 : tie.Need-enum-told-2
-enum-told-2 c = search needs
+enum-told : tie.Need-enum-told
+enum-told c = search needs
 
 slice-aggregate-value : tie.Need-slice-aggregate-value
 slice-aggregate-value c = search needs
@@ -39,6 +39,9 @@ slice-aggregate-value-2 c = search needs
 
 value-requires : tie.Need-value-requires
 value-requires c κs = search needs
+
+horizon-of-requires : tie.Need-horizon-of-requires
+horizon-of-requires c κs = search needs
 
 same-length : tie.Need-same-length
 same-length c = search needs
@@ -54,16 +57,14 @@ same-length-4 c = search needs
 
 returns : tie.Need-returns
 returns c =
-    let o = c .before .before .before .before .before .before .before .before .before .before .before .before .before .before .before .before .before .before .before .before .before .before .before .before .before .before .before .before .before in
+    let o = c .before .before .before .before .before .before .before .before .before .before .before .before .before .before .before .before .before .before .before .before .before .before .before .before .before .before .before .before .before .before in
     let a = o .args in
     let k = o .pre in
-    let m = c .before .before .before .before .before .before .before .before .before .before .before .before .before .before .before .before .matched in
-    let s = c .before .before .before .before .before .before .stopped in
-    let t = c .before .before .before .before .before .before .before .before .before .before .before .before .enum-told in
+    let m = c .before .before .before .before .before .before .before .before .before .before .before .before .before .before .before .before .before .matched in
     let n = lengths (a .transform .now) (a .h .now) (a .f .now) (a .r .now) in
     let l = blank-long (a .members) (k .members .few) in
     let room = room-there _ n _ (k .is) _ _ (a .members) blank blank (k .rates) (k .members) l l in
-    matched-answers _ n _ (k .is) _ _ _ _ _ (verdict-matched _ n _ (k .is) _ _ _ room (m .ensures)) (t .given .1) (s .ensures)
+    matched-answers _ n _ (k .is) _ _ _ _ _ (verdict-matched _ n _ (k .is) _ _ _ room (m .ensures)) (c .before .before .before .before .before .before .before .before .before .before .before .before .before .verdict .given .1) (c .before .before .before .before .before .before .stopped .ensures)
 
 same-length-5 : tie.Need-same-length-5
 same-length-5 c = search needs
@@ -79,18 +80,18 @@ same-length-8 c = search needs
 
 returns-2 : tie.Need-returns-2
 returns-2 c =
-    let o = c .before .before .before .before .before .before .before .before .before .before .before .before .before .before .before .before .before .before .before .before .before .before .before .before .before .before .before .before .before .before .before in
+    let o = c .before .before .before .before .before .before .before .before .before .before .before .before .before .before .before .before .before .before .before .before .before .before .before .before .before .before .before .before .before .before .before .before in
     let a = o .args in
     let k = o .pre in
-    let m = c .before .before .before .before .before .before .before .before .before .before .before .before .before .before .before .before .before .before .matched in
-    let v = c .before .before .before .before .before .before .before .value in
-    let t = c .before .before .before .before .before .before .before .before .before .before .before .before .before .before .enum-told2 in
+    let m = c .before .before .before .before .before .before .before .before .before .before .before .before .before .before .before .before .before .before .before .matched in
+    let v = c .before .before .before .before .before .before .before .before .value in
     let n = lengths (a .transform .now) (a .h .now) (a .f .now) (a .r .now) in
     let l = blank-long (a .members) (k .members .few) in
     let room = room-there _ n _ (k .is) _ _ (a .members) blank blank (k .rates) (k .members) l l in
     let e = verdict-matched _ n _ (k .is) _ _ _ room (m .ensures) in
-    handed-answers (a .file .now) (answer (a .file .now) n) (v .result) _ _ _ _ _ (toZ-ofZ (sfits-of {w = w64} (v .ok .1 .1 .1 .1 .1 .1 .0 .1)))
-    (valued-answers _ n _ (k .is) _ _ _ _ _ (a .members) (sym e ∙ t .given .1) (m .ensures .lives (m .ensures .room .no room)) _ _ (k .members .few) (k .members .groups-long) (omega (arith, l, m .kept .1 .1 .1 .1 .1 .1 .1 .1 .1 .1 .0)) (omega (arith, l, m .kept .1 .1 .1 .1 .1 .1 .1 .1 .1 .1 .1 .0)) (k .members .d-long) (k .members .e-long) (v .ensures))
+    handed-answers _ n _ (k .is) (answer (a .file .now) n) (v .result) _ _ _ _ _ _ (c .before .horizon-of .ensures) (toZ-ofZ (sfits-of {w = w64} (v .ok .1 .1 .1 .1 .1 .1 .0 .1)))
+    (valued-answers _ n _ (k .is) _ _ _ _ _ (a .members) (sym e ∙ c .before .before .before .before .before .before .before .before .before .before .before .before .before .before .before .enum-told .given .1) (m .ensures .lives (m .ensures .room .no room)) _ _ (k .members .few) (k .members .groups-long)
+    (omega (arith, l, m .kept .1 .1 .1 .1 .1 .1 .1 .1 .1 .1 .0)) (omega (arith, l, m .kept .1 .1 .1 .1 .1 .1 .1 .1 .1 .1 .1 .0)) (k .members .d-long) (k .members .e-long) (v .ensures))
 
 pub valued-spec : {M : Type 1} → statement M
 valued-spec =
@@ -99,13 +100,14 @@ valued-spec =
     slice-aggregate-matched
     slice-aggregate-matched-2
     matched-requires
-    enum-told
+    enum-known-verdict
     part-of-requires
     stopped-requires
-    enum-told-2
+    enum-told
     slice-aggregate-value
     slice-aggregate-value-2
     value-requires
+    horizon-of-requires
     same-length
     same-length-2
     same-length-3

@@ -1,0 +1,50 @@
+-- What is read from a file, and its listing, are those of its first 65,536 bytes (reading-prefix, listing-prefix).
+use mathlib.Core.Path.{_≡_, refl, _∙_, ap}
+use mathlib.Core.List.{List, []}
+use Prim.Native.Nat.{ℕ, _+_, _≤_}
+use native.Mathlib.Omega.{arith}
+use lib.ListN.{take}
+use Rattle.fund.specs.declared.Verdict.{Verdict}
+use Rattle.fund.specs.declared.Verdict.the-variants.{Accepted, Refused}
+use Rattle.fund.specs.Limits.{most-rates, most-members}
+use Rattle.fund.specs.Base.{bytes}
+use Rattle.fund.specs.Reading.{FundFile, Reading, read, stopped, headerLines, reading}
+use Rattle.fund.specs.Folding.{lives}
+use Rattle.fund.specs.Refusals.{Lengths, verdict}
+use Rattle.fund.specs.Answer.{fundCells, refused, answerOf, answerTo, answer}
+use Rattle.fund.specs.Listing.{printed, horizonIn, enough, listing}
+use Rattle.prefix.specs.Lines.{lines-cut}
+use Rattle.prefix.specs.Reading.{bytes-for, KeysShort, header-same}
+
+keys-short : KeysShort headerLines
+unfolding headerLines bytes
+keys-short = omega arith
+
+-- Reading passes at most six header lines, the rows and the `end=` line: 43,993 bytes are enough.
+pub reading-first : (n : ℕ) (file : List ℕ) → bytes-for (6 + most-rates + most-members) ≤ n → reading (take n file) ≡ reading file
+unfolding reading headerLines
+reading-first n file h = header-same headerLines 1 [] keys-short (lines-cut n file) (omega arith)
+
+-- The listing does not show the part of the bytes that is handed back with a refusal.
+printed-of : (f g : List ℕ) (n : Lengths) (fund : FundFile) (X : ℕ) (v : Verdict) →
+    printed (answerOf f n fund v) X (answerOf f n fund v .verdict) ≡ printed (answerOf g n fund v) X (answerOf g n fund v .verdict)
+unfolding answerOf refused printed
+printed-of f g n fund X Accepted = refl
+printed-of f g n fund X (Refused why place) = refl
+
+printed-to : (f g : List ℕ) (n : Lengths) (r : Reading) →
+    printed (answerTo f n r) (horizonIn r) (answerTo f n r .verdict) ≡ printed (answerTo g n r) (horizonIn r) (answerTo g n r .verdict)
+unfolding answerTo refused printed
+printed-to f g n (read fund) = printed-of f g n fund _ (verdict fund n (fundCells (fund .header) (lives fund)))
+printed-to f g n (stopped why place) = refl
+
+listing-of-reading : (f g : List ℕ) → reading f ≡ reading g → listing f ≡ listing g
+unfolding listing answer
+listing-of-reading f g e =
+    ap (λ r. printed (answerTo f enough r) (horizonIn r) (answerTo f enough r .verdict)) e ∙ printed-to f g enough (reading g)
+
+pub reading-prefix : (file : List ℕ) → reading (take 65536 file) ≡ reading file
+reading-prefix file = reading-first 65536 file (omega arith)
+
+pub listing-prefix : (file : List ℕ) → listing (take 65536 file) ≡ listing file
+listing-prefix file = listing-of-reading (take 65536 file) file (reading-prefix file)
