@@ -1,0 +1,97 @@
+-- What `text::listing` shows of the call's answer is the file's listing (printed-is).
+use mathlib.Core.Path.{_≡_, refl, sym, _∙_, ap}
+use mathlib.Core.Bool.{Bool, true, false, _&&_}
+use mathlib.Core.List.{List, []}
+use Prim.Native.Nat.{ℕ, suc, _≤_, _<_}
+use native.Mathlib.Omega.{arith}
+use borrow.Author.Tests.{le-leb, lt-ltb}
+use lib.Dec.{leb, ltb}
+use lib.IntN.{ℤ, pos}
+use lib.ListN.{length, take, replicate, length-replicate}
+use Rattle.fund.specs.declared.Refusal.{Refusal}
+use Rattle.fund.specs.declared.Verdict.{Verdict}
+use Rattle.fund.specs.declared.Verdict.the-variants.{Accepted, Refused}
+use Rattle.fund.specs.Base.{if_then_else_}
+use Rattle.fund.specs.Limits.{most-horizon, most-truncation}
+use Rattle.fund.specs.Reading.{Reading, read, stopped, reading}
+use Rattle.fund.specs.Refusals.{Lengths}
+use Rattle.fund.specs.Answer.{Answer, answer}
+use Rattle.fund.specs.Listing.{listed, refusedLine, printed, horizonIn, enough, listing}
+use Rattle.laws.specs.Ranges.{read-ranges}
+use Rattle.text.specs.Shown.{room, figures, bounded, inRange, shown}
+use Rattle.valuation.specs.Valued.{lengths}
+use Rattle.pricing.specs.declared.Priced.{Priced}
+use Rattle.pricing.specs.Priced.{left, horizonWith, Answers}
+use Rattle.printing.specs.Printed.{shown as shownOf}
+use Rattle.printing.proofs.Bounded.{InRange, bounded-first, answer-in}
+
+-- the result slices before the call
+abbrev pub cells : List ℕ
+cells = replicate 4096 0
+
+abbrev pub signedCells : List ℤ
+signedCells = replicate 4096 (pos 0)
+
+pub cells-length : length cells ≡ suc most-horizon
+cells-length = length-replicate {A = ℕ} 4096 0
+
+pub signed-length : length signedCells ≡ suc most-horizon
+signed-length = length-replicate {A = ℤ} 4096 (pos 0)
+
+pub enough-lent : lengths signedCells cells signedCells cells ≡ enough
+enough-lent = rw (signed-length, cells-length)
+
+horizon-most : (file : List ℕ) (v : Verdict) → horizonWith v (horizonIn (reading file)) ≤ most-horizon
+unfolding horizonIn
+horizon-most file (Refused why place) = omega arith
+horizon-most file Accepted = go (reading file) refl
+  where
+    go : (r : Reading) → reading file ≡ r → horizonIn r ≤ most-horizon
+    go (read fund) e = read-ranges file fund e .header .horizon
+    go (stopped why place) e = omega arith
+
+-- a listing shows the same of a refusal for every horizon
+printed-left : (p : Priced) (d : List ℤ) (h : List ℕ) (f : List ℤ) (r : List ℕ) (X : ℕ) (v : Verdict) →
+    printed (figures (p .verdict) (p .truncation) (p .mean) (p .premium) (p .within) f r) (horizonWith v X) v ≡ printed (left p d h f r) X v
+unfolding printed listed
+printed-left p d h f r X Accepted = refl
+printed-left p d h f r X (Refused why place) = refl
+
+module _ (file : List ℕ) (p : Priced) (d : List ℤ) (h : List ℕ) (f : List ℤ) (r : List ℕ) (k : Answers file p (left p d h f r) (answer file enough)) where
+  abbrev shownFigures : Answer
+  shownFigures = figures (p .verdict) (p .truncation) (p .mean) (p .premium) (p .within) f r
+
+  within : InRange (left p d h f r)
+  within = rw (k .answer) (answer-in file enough)
+
+  X-most : p .horizon ≤ most-horizon
+  X-most = rw (k .horizon) (horizon-most file (p .verdict))
+
+  module _ (lf : length f ≡ suc most-horizon) (lr : length r ≡ suc most-horizon) (size : ℕ) where
+    range-is : inRange (p .truncation) (p .horizon) (length f) r size ≡ leb room size
+    unfolding inRange
+    range-is =
+        rw (
+          le-leb (p .horizon) most-horizon X-most,
+          lt-ltb (p .horizon) (length f) (omega (arith, X-most, lf)),
+          lt-ltb (p .horizon) (length r) (omega (arith, X-most, lr)),
+          le-leb (p .truncation) most-truncation (within .truncation),
+          bounded-first (suc (p .horizon)) r (within .bounds),
+        )
+        (both (leb room size))
+      where
+        both : (b : Bool) → b && true ≡ b
+        both true = refl
+        both false = refl
+
+    shown-is : shown shownFigures (p .horizon) size ≡ shownOf file size
+    unfolding shown listing
+    shown-is =
+        rw range-is
+        (ap (λ (l : List ℕ). if leb room size then l else [])
+        (ap (λ (X : ℕ). printed shownFigures X (p .verdict)) (k .horizon)
+        ∙ printed-left p d h f r (horizonIn (reading file)) (p .verdict)
+        ∙ ap (λ (a : Answer). printed a (horizonIn (reading file)) (a .verdict)) (k .answer)))
+
+    pub printed-is : (premium : ℤ) → premium ≡ p .premium → shown (figures (p .verdict) (p .truncation) (p .mean) premium (p .within) f r) (p .horizon) size ≡ shownOf file size
+    printed-is premium e = ap (λ (z : ℤ). shown (figures (p .verdict) (p .truncation) (p .mean) z (p .within) f r) (p .horizon) size) e ∙ shown-is

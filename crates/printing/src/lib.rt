@@ -1,0 +1,29 @@
+// From a fund file's bytes to the bytes of its listing.
+ghost use lib.ListN.{length};
+ghost use Rattle.text.specs.Writing.{Written};
+ghost use Rattle.printing.specs.Printed.{shown};
+
+// Prices the fund of a file and writes its listing from the start of the text; returns the listing's size. A text that has no
+// room for every listing is left as it is.
+pub fn print(file: &[u8], text: &mut [u8]) -> usize
+    ensures { λ size. ⌜ Written (shown (now (file .entry)) (length (now (text .entry)))) (now (text .entry)) (now (text .exit)) size ⌝ }
+{
+    let mut transform = [0i64; 4096];
+    let mut h = [0u64; 4096];
+    let mut f = [0i64; 4096];
+    let mut r = [0u64; 4096];
+    let priced = pricing::price(file, &mut transform, &mut h, &mut f, &mut r);
+    let verdict = priced.verdict;
+    let horizon = priced.horizon as usize;
+    text::listing(
+        verdict,
+        priced.truncation,
+        priced.mean,
+        priced.premium,
+        priced.within,
+        horizon,
+        &f,
+        &r,
+        text,
+    )
+}
