@@ -7,7 +7,7 @@ use native.Mathlib.Omega.{arith}
 use borrow.Author.Tests.{le-leb, lt-ltb}
 use lib.Dec.{leb, ltb}
 use lib.IntN.{ℤ, pos}
-use lib.ListN.{length, take, replicate, length-replicate}
+use lib.ListN.{length, take, replicate, length-take, length-replicate}
 use Rattle.fund.specs.declared.Refusal.{Refusal}
 use Rattle.fund.specs.declared.Verdict.{Verdict}
 use Rattle.fund.specs.declared.Verdict.the-variants.{Accepted, Refused}
@@ -18,12 +18,19 @@ use Rattle.fund.specs.Refusals.{Lengths}
 use Rattle.fund.specs.Answer.{Answer, answer}
 use Rattle.fund.specs.Listing.{listed, refusedLine, printed, horizonIn, enough, listing}
 use Rattle.laws.specs.Ranges.{read-ranges}
+use Rattle.text.specs.Writing.{Written}
 use Rattle.text.specs.Shown.{room, figures, bounded, inRange, shown}
 use Rattle.valuation.specs.Valued.{lengths}
 use Rattle.pricing.specs.declared.Priced.{Priced}
 use Rattle.pricing.specs.Priced.{left, horizonWith, Answers}
 use Rattle.printing.specs.Printed.{shown as shownOf}
 use Rattle.printing.proofs.Bounded.{InRange, bounded-first, answer-in}
+
+-- what is written lies in the text
+pub written-within : {piece before after : List ℕ} {size : ℕ} → Written piece before after size → (size ≤ length after) × (size ≡ length (take size after))
+written-within {piece} {before} {after} {size} w =
+    let n : size ≡ length (take size after) = w .whole ∙ ap length (sym (w .start)) in
+    (omega (arith, n, length-take size after), n)
 
 -- the result slices before the call
 abbrev pub cells : List ℕ

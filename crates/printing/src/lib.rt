@@ -1,5 +1,7 @@
 // From a fund file's bytes to the bytes of its listing.
-ghost use lib.ListN.{length};
+ghost use mathlib.Core.Path.{_≡_};
+ghost use Prim.Native.Nat.{_≤_};
+ghost use lib.ListN.{length, take};
 ghost use Rattle.text.specs.Writing.{Written};
 ghost use Rattle.printing.specs.Printed.{shown};
 
@@ -7,6 +9,7 @@ ghost use Rattle.printing.specs.Printed.{shown};
 // room for every listing is left as it is.
 pub fn print(file: &[u8], text: &mut [u8]) -> usize
     ensures { λ size. ⌜ Written (shown (now (file .entry)) (length (now (text .entry)))) (now (text .entry)) (now (text .exit)) size ⌝ }
+    ensures { λ size. ⌜ (size ≤ length (now (text .exit))) × (size ≡ length (take size (now (text .exit)))) ⌝ }
 {
     let mut transform = [0i64; 4096];
     let mut h = [0u64; 4096];

@@ -10,7 +10,7 @@ use Rattle.fund.specs.Refusals.{Lengths}
 use Rattle.fund.specs.Answer.{answer}
 use Rattle.text.specs.Writing.{Written}
 use Rattle.pricing.specs.Priced.{left, Answers}
-use Rattle.printing.proofs.Printing.{cells-length, signed-length, enough-lent, printed-is}
+use Rattle.printing.proofs.Printing.{written-within, cells-length, signed-length, enough-lent, printed-is}
 use Rattle.printing.proofs.print.Statement.{statement}
 use Rattle.printing.proofs.print.Tie as tie
 
@@ -48,9 +48,10 @@ returns c =
     let l = c .before .before .listing in
     let o = p .last .1 in
     let answers = subst (λ (n : Lengths). Answers (a .file .now) (p .result) (left (p .result) (o .0) (o .1 .0) (o .1 .1 .0) (o .1 .1 .1 .0)) (answer (a .file .now) n)) enough-lent (p .ensures .answers) in
-    subst (λ (t : List ℕ). Written t (a .text .now) (l .last .1 .1 .1 .1 .1 .1 .1 .1 .0) (l .result))
+    let w = subst (λ (t : List ℕ). Written t (a .text .now) (l .last .1 .1 .1 .1 .1 .1 .1 .1 .0) (l .result))
     (printed-is (a .file .now) (p .result) (o .0) (o .1 .0) (o .1 .1 .0) (o .1 .1 .1 .0) answers (p .kept .1 .1 .1 .0 ∙ signed-length) (p .kept .1 .1 .1 .1 .0 ∙ cells-length) (length (a .text .now)) _ (toZ-ofZ (sfits-of {w = w64} (p .ok .1 .1 .1 .1 .1 .1 .1 .1 .0 .1))))
-    (l .ensures)
+    (l .ensures) in
+    (w, written-within w)
 
 pub print-spec : {M : Type 1} → statement M
 print-spec =
