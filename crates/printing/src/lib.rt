@@ -1,4 +1,5 @@
 // From a fund file's bytes to the bytes of its listing.
+use libc::STDOUT_FILENO;
 ghost use mathlib.Core.Path.{_≡_};
 ghost use Prim.Native.Nat.{_≤_};
 ghost use lib.ListN.{length, take};
@@ -29,4 +30,11 @@ pub fn print(file: &[u8], text: &mut [u8]) -> usize
         &r,
         text,
     )
+}
+
+// Writes the listing of a file to standard output; whether all of it was written.
+pub fn write(file: &[u8]) -> bool {
+    let mut text = [0u8; 217204];
+    let size = print(file, &mut text);
+    io::write_all(STDOUT_FILENO, &text[..size])
 }

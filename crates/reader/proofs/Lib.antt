@@ -7,3 +7,4 @@ pub mod Rows
 pub mod Bodies
 pub mod Whole
 pub mod Parts
+pub mod Walks

@@ -24,8 +24,15 @@ pub(crate) struct Stop {
     pub(crate) end: usize,
 }
 
+// Keeps the file's bytes and the position of the next line. The functions on it are proved by hand, so they are few: every
+// other function takes its lines by `next_line`, whose parameters are plain.
+pub(crate) struct LineReader<'a> {
+    file: &'a [u8],
+    at: usize,
+}
+
 // The line that starts at `at`.
-pub(crate) fn next_line(file: &[u8], at: usize) -> Line
+fn line_from(file: &[u8], at: usize) -> Line
     requires { ⌜ at < length (now file) ⌝ }
     ensures { λ r. ⌜ NextLine (now (file .entry)) at r ⌝ }
 {
@@ -42,6 +49,29 @@ pub(crate) fn next_line(file: &[u8], at: usize) -> Line
         end,
         next: end,
     }
+}
+
+// A reader whose next line starts at `at`.
+fn reader_at<'a>(file: &'a [u8], at: usize) -> LineReader<'a>
+    ensures { λ r. ⌜ r ≡ record { file = file .entry; at = at } ⌝ }
+{
+    LineReader { file, at }
+}
+
+// The reader's next line.
+fn take_line<'a>(r: LineReader<'a>) -> Line
+    requires { ⌜ r .at < length (now (r .file)) ⌝ }
+    ensures { λ l. ⌜ NextLine (now (r .entry .file)) (r .entry .at) l ⌝ }
+{
+    line_from(r.file, r.at)
+}
+
+// The line that starts at `at`, taken by a reader.
+pub(crate) fn next_line(file: &[u8], at: usize) -> Line
+    requires { ⌜ at < length (now file) ⌝ }
+    ensures { λ r. ⌜ NextLine (now (file .entry)) at r ⌝ }
+{
+    take_line(reader_at(file, at))
 }
 
 // The numbers of a line `key=..`, where there are just `count`. "A last line without its line feed is form."

@@ -1,7 +1,7 @@
 -- The listing lies in the text.
 use borrow.Author.Needs.{needs}
-use Rattle.listing.proofs.write.Statement.{statement}
-use Rattle.listing.proofs.write.Tie as tie
+use Rattle.printing.proofs.write.Statement.{statement}
+use Rattle.printing.proofs.write.Tie as tie
 
 slice-aggregate-print : tie.Need-slice-aggregate-print
 slice-aggregate-print c = search needs
@@ -18,17 +18,8 @@ slice-aggregate-write-all c = c .before .before .print .ensures .1 .1
 write-all-requires : tie.Need-write-all-requires
 write-all-requires c κs = search needs
 
-slice-aggregate-fail : tie.Need-slice-aggregate-fail
-slice-aggregate-fail c = search needs
-
-fail-requires : tie.Need-fail-requires
-fail-requires c κs = search needs
-
 returns : tie.Need-returns
 returns c = search needs
-
-returns-2 : tie.Need-returns-2
-returns-2 c = search needs
 
 pub write-spec : {M : Type 1} → statement M
 write-spec =
@@ -39,7 +30,4 @@ write-spec =
     array-share-prefix-text
     slice-aggregate-write-all
     write-all-requires
-    slice-aggregate-fail
-    fail-requires
-    returns
-    returns-2)
+    returns)
