@@ -12,7 +12,8 @@ The names begin with a running number and say how the file was made.
 
 A stream is all cases in two files of one folder, for a program that reads them
 one after the other.  stdin has for each case its length as six decimal digits
-and a line feed, then its bytes.  stdout has each listing and an empty line.
+and a line feed, then its bytes.  stdout has each listing, then `line=` and the
+part of the file that is handed back, and an empty line.
 """
 
 import random
@@ -89,9 +90,15 @@ def check(directory):
     return 0 if count and not bad else 1
 
 
+def answer_of(data):
+    answer = pricing.price(data)
+    part = data[answer.start:answer.start + answer.length]
+    return pricing.listing(answer).encode("ascii") + b"line=" + part + b"\n\n"
+
+
 def stream_of(files):
     return (b"".join(b"%06d\n" % len(data) + data for data in files),
-            b"".join(listing_of(data) + b"\n" for data in files))
+            b"".join(answer_of(data) for data in files))
 
 
 def files_of(stream):
