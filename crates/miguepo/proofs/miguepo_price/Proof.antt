@@ -1,0 +1,52 @@
+-- What `pricing::price` answers is handed over.
+use borrow.Author.Needs.{needs, sfits-of}
+use mir.Syntax.{w64}
+use mir.Facts.{toZ-ofZ}
+use Rattle.miguepo.proofs.Hosting.{hosts}
+use Rattle.miguepo.proofs.miguepo_price.Statement.{statement}
+use Rattle.miguepo.proofs.miguepo_price.Tie as tie
+
+price-requires : tie.Need-price-requires
+price-requires c κs = search needs
+
+place-of-requires : tie.Need-place-of-requires
+place-of-requires c κs = search needs
+
+sub-line-size : tie.Need-sub-line-size
+sub-line-size c = search needs
+
+number-of-requires : tie.Need-number-of-requires
+number-of-requires c κs = search needs
+
+same-length : tie.Need-same-length
+same-length c = search needs
+
+same-length-2 : tie.Need-same-length-2
+same-length-2 c = search needs
+
+same-length-3 : tie.Need-same-length-3
+same-length-3 c = search needs
+
+same-length-4 : tie.Need-same-length-4
+same-length-4 c = search needs
+
+returns : tie.Need-returns
+returns c =
+    let p = c .before .before .before .before .before .before .before .before .before .before .price in
+    let o = p .last .1 in
+    hosts _ _ (p .result) (o .0) (o .1 .0) (o .1 .1 .0) (o .1 .1 .1 .0) (p .ensures) _ _ _ (c .number-of .ensures) (c .before .before .before .place-of .ensures)
+    (toZ-ofZ (sfits-of {w = w64} (p .ok .1 .1 .1 .1 .1 .1 .1 .1 .0 .1)))
+
+pub miguepo-price-spec : {M : Type 1} → statement M
+miguepo-price-spec =
+    tie.close
+    (tie.spec
+    price-requires
+    place-of-requires
+    sub-line-size
+    number-of-requires
+    same-length
+    same-length-2
+    same-length-3
+    same-length-4
+    returns)
