@@ -1,0 +1,61 @@
+/* Prices a fund file: prints the premium with its bound, or the refusal and the line at fault.
+ *
+ *     price FILE
+ */
+#include "miguepo.h"
+
+#include <inttypes.h>
+#include <stdio.h>
+#include <stdlib.h>
+
+/* A file that is accepted is shorter; of a longer one only the first bytes are read, which give the same answer. */
+enum { MOST = 65536 };
+
+static uint8_t file[MOST];
+static int64_t d[MIGUEPO_CELLS], f[MIGUEPO_CELLS];
+static uint64_t h[MIGUEPO_CELLS], r[MIGUEPO_CELLS];
+
+/* A number of units of 10^-12, as a decimal number. */
+static void print_units(const char *word, int negative, uint64_t units)
+{
+    uint64_t one = 1000000000000;
+    printf("%s%s%" PRIu64 ".%012" PRIu64, word, negative ? "-" : "", units / one, units % one);
+}
+
+int main(int count, char **words)
+{
+    if (count != 2) {
+        fprintf(stderr, "usage: price FILE\n");
+        return 2;
+    }
+    FILE *in = fopen(words[1], "rb");
+    if (!in) {
+        perror(words[1]);
+        return 2;
+    }
+    size_t size = fread(file, 1, MOST, in);
+    if (ferror(in)) {
+        perror(words[1]);
+        return 2;
+    }
+    fclose(in);
+
+    uint64_t place, horizon, truncation, mean, within;
+    int64_t premium;
+    size_t line_start, line_length;
+    uint64_t number = miguepo_price(file, size, d, MIGUEPO_CELLS, h, MIGUEPO_CELLS, f, MIGUEPO_CELLS, r, MIGUEPO_CELLS,
+                                    &place, &line_start, &line_length, &horizon, &truncation, &mean, &premium, &within);
+    if (number != MIGUEPO_ACCEPTED) {
+        printf("refused=%" PRIu64 ",%" PRIu64 "\n", number, place);
+        if (line_length) {
+            printf("line: ");
+            fwrite(file + line_start, 1, line_length, stdout);
+            printf("\n");
+        }
+        return 1;
+    }
+    print_units("premium ", premium < 0, premium < 0 ? 0 - (uint64_t)premium : (uint64_t)premium);
+    print_units(", within ", 0, within);
+    printf("\n");
+    return 0;
+}

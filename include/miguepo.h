@@ -1,0 +1,85 @@
+/* Stop-loss premiums of a pension fund, with a proved bound on every figure.
+ *
+ * One call prices one fund file. All figures but places, sizes and the horizon
+ * are in units of 10^-12.
+ *
+ * The call takes every sequence of bytes and result slices of every length, and
+ * always returns. It keeps no state, allocates nothing, needs less than 128 KiB
+ * of stack, and may run in several threads at once on different results.
+ *
+ * What only the caller can get wrong:
+ *   - no pointer is null; of a slice without cells it may point anywhere;
+ *   - behind each pointer of a slice stand as many cells as its length says;
+ *   - each pointer is aligned for its type;
+ *   - nothing that is written (the four slices and the eight results) overlaps
+ *     with anything else that is passed, and nothing else writes to what is
+ *     passed while the call runs.
+ */
+#ifndef MIGUEPO_H
+#define MIGUEPO_H
+
+#include <stddef.h>
+#include <stdint.h>
+
+#ifdef __cplusplus
+extern "C" {
+#endif
+
+/* The numbers that the call returns: 0, or why pricing stops. */
+enum miguepo_number {
+    MIGUEPO_ACCEPTED = 0,
+    MIGUEPO_FORM = 1,       /* a line breaks the spelling or the order, is missing, or bytes follow; at a line */
+    MIGUEPO_RANGE = 2,      /* a number, a row count, the age order, q + i or the end count breaks its limit; at a line */
+    MIGUEPO_EDITION = 3,    /* the two editions differ */
+    MIGUEPO_DEDUCTIBLE = 4, /* the deductible is above the horizon and one */
+    MIGUEPO_UNMATCHED = 5,  /* a member's age has no rate row; at a line */
+    MIGUEPO_HALF = 6,       /* a group 1 member's q + i is at least a half; at a line */
+    MIGUEPO_LOAD = 7,       /* the load is above 8 x 10^12 units */
+    MIGUEPO_ORDER = 8,      /* the truncation figure is above 10^8 units */
+    MIGUEPO_SHORT = 9,      /* a result slice has fewer cells than the horizon and one */
+    MIGUEPO_WIDE = 10       /* some R(x) is above 250,000 units; at the first such x */
+};
+
+/* Cells enough for every horizon. */
+#define MIGUEPO_CELLS 4096
+
+/* Prices a fund file.
+ *
+ *   file, file_length        the bytes of the fund file
+ *   d, h, f, r               result slices, and how many cells each has
+ *
+ * Returns the number, and through the other pointers, which it always writes:
+ *
+ *   place                    of the refusal: a line, counted from 1, or the x of
+ *                            MIGUEPO_WIDE, or 0
+ *   line_start, line_length  the part of the file that is the line of the
+ *                            refusal, without its line feed; its length is 0
+ *                            where no line is at fault
+ *   horizon                  X of the fund that is accepted
+ *   truncation               the truncation figure E
+ *   mean                     the mean of the year's total claims
+ *   premium                  the stop-loss premium
+ *   within                   the premium's bound: the exact premium differs from
+ *                            the premium by at most this
+ *
+ * Accepted (0): d, h, f and r hold D, H, f and R for 0 to X, and 0 beyond; f[x]
+ * and the exact probability of the total x differ by at most r[x] + 2 E.
+ * Refused (1 to 10): the horizon, every figure and every cell of the four slices
+ * are 0.
+ */
+uint64_t miguepo_price(const uint8_t *file, size_t file_length,
+                       int64_t *d, size_t d_length,
+                       uint64_t *h, size_t h_length,
+                       int64_t *f, size_t f_length,
+                       uint64_t *r, size_t r_length,
+                       uint64_t *place,
+                       size_t *line_start, size_t *line_length,
+                       uint64_t *horizon,
+                       uint64_t *truncation, uint64_t *mean,
+                       int64_t *premium, uint64_t *within);
+
+#ifdef __cplusplus
+}
+#endif
+
+#endif

@@ -1,0 +1,101 @@
+"""The library for C against the independent calculation, on random files.
+
+    python3 tests/library.py N SEED
+
+Builds the library (rt, cc) and prices N files by both: whole funds, funds at
+each limit, cut and damaged ones.  The four result slices have lengths from 0 on
+and are filled with other numbers before the call; behind each stand cells that
+must stay as they are.  Every figure, the place, the line and every cell are
+compared.
+"""
+
+import ctypes
+import random
+import subprocess
+import sys
+from pathlib import Path
+
+import document_funds
+import generate
+import pricing
+
+ROOT = Path(__file__).resolve().parent.parent
+BEHIND = 3               # cells behind each slice
+U64, I64 = ctypes.c_uint64, ctypes.c_int64
+
+
+def build():
+    """Path of a shared library made of the archive that `rt staticlib` writes."""
+    archive = ROOT / "target" / "staticlib" / "libmiguepo.a"
+    subprocess.run(["rt", "staticlib", "miguepo"], cwd=ROOT, check=True,
+                   stdout=subprocess.DEVNULL, stderr=subprocess.STDOUT)
+    shared = archive.with_suffix(".so")
+    subprocess.run(["cc", "-shared", "-o", shared, "-Wl,--whole-archive", archive,
+                    "-Wl,--no-whole-archive"], check=True)
+    return shared
+
+
+class Library:
+    def __init__(self):
+        self.call = ctypes.CDLL(str(build())).miguepo_price
+        self.call.restype = U64
+
+    def price(self, rng, data, lengths):
+        """The answer, and whether all that stands behind the slices was kept."""
+        kinds = (I64, U64, I64, U64)
+        slices = [(kind * (length + BEHIND))() for kind, length in zip(kinds, lengths)]
+        for cells in slices:
+            for k in range(len(cells)):
+                cells[k] = rng.getrandbits(62)
+        behind = [list(cells[length:]) for cells, length in zip(slices, lengths)]
+        figures = [kind(rng.getrandbits(62)) for kind in (U64, ctypes.c_size_t, ctypes.c_size_t, U64, U64, U64, I64, U64)]
+        arguments = [ctypes.c_char_p(data), ctypes.c_size_t(len(data))]
+        for cells, length in zip(slices, lengths):
+            arguments += [cells, ctypes.c_size_t(length)]
+        number = self.call(*arguments, *map(ctypes.byref, figures))
+        place, start, length, horizon, truncation, mean, premium, within = (figure.value for figure in figures)
+        left = [tuple(cells[:length]) for cells, length in zip(slices, lengths)]
+        kept = behind == [list(cells[length:]) for cells, length in zip(slices, lengths)]
+        return pricing.Answer(number, place, start if length else 0, length, truncation, mean, premium, within,
+                              *left, horizon), kept
+
+
+def random_lengths(rng, data):
+    """As many cells as the fund's horizon needs or a few more; of one in three files any number from 0 on."""
+    needed = pricing.price(data).horizon + 1
+    least = 0 if rng.randrange(3) == 0 else needed
+    return tuple(rng.randint(least, needed + 4) for _ in range(4))
+
+
+def cases(count, seed):
+    rng = random.Random(seed)
+    known = [(text.data(), generate.ENOUGH) for text in document_funds.FUNDS.values()]
+    known += [(case.data, case.lengths) for case in generate.limit_funds() + generate.damaged_files()]
+    yield from known[:count]
+    rest = max(0, count - len(known))
+    small = generate.small_funds(seed, rest * 3 // 4)
+    damaged = generate.random_damage(seed, rest - rest * 3 // 4)
+    for case in small + damaged:
+        yield case.data, random_lengths(rng, case.data)
+
+
+def main(arguments):
+    count, seed = (int(word) for word in arguments)
+    library, rng = Library(), random.Random(seed)
+    numbers, bad = [0] * 11, 0
+    for data, lengths in cases(count, seed):
+        wanted = pricing.price(data, lengths)
+        got, kept = library.price(rng, data, lengths)
+        numbers[wanted.number] += 1
+        if got != wanted or not kept:
+            bad += 1
+            print(f"differs: {data[:200]!r} with slices of {lengths}")
+    print("accepted and refused by number:", *numbers)
+    print(f"{sum(numbers)} files, {bad} differ")
+    return 1 if bad or not sum(numbers) else 0
+
+
+if __name__ == "__main__":
+    if len(sys.argv) != 3:
+        sys.exit(__doc__)
+    sys.exit(main(sys.argv[1:]))
