@@ -11,3 +11,5 @@ mod Clearing
 mod Valuing
 mod Answering
 mod Completing
+pub mod Listed
+pub mod SmallProduct

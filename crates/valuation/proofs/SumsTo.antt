@@ -1,15 +1,16 @@
--- The sums over k, one k after the other: from none (sums-none) to one more (sums-more), and that a next k fits (sums-small),
--- since the sizes of D add up to at most their limit (sumN-grow).
-use mathlib.Core.Path.{refl, ap, _∙_}
+-- The sums over k, one k after the other: from none (sums-none) to one more (sums-more), past blank ones (sums-skip) to the next place
+-- (sums-at) or to the end (sums-over, sums-end), and that a next k fits (sums-small), since the sizes of D add up to at most their limit.
+use mathlib.Core.Path.{_≡_, refl, ap, _∙_, subst}
 use mathlib.Core.List.{List}
-use Prim.Native.Nat.{ℕ, suc, _+_, _-_, _≤_, _<_}
+use Prim.Native.Nat.{ℕ, zero, suc, _+_, _-_, _≤_, _<_}
 use native.Mathlib.Omega.{arith}
 use lib.IntN.{ℤ, pos, natAbs, _+ℤ_}
 use lib.ListN.{getD}
 use Rattle.laws.specs.Cells.{addF, addR}
 use Rattle.valuation.specs.declared.whole.Sums.{Sums}
 use Rattle.valuation.specs.Lent.{cellIn, entryIn}
-use Rattle.valuation.specs.Recursion.{most-sum, Small, Added, SumsTo, Transform, Known}
+use Rattle.valuation.specs.Recursion.{most-sum, Small, Added, SumsTo, Blank, from, Listed, Transform, Known}
+use Rattle.valuation.proofs.Added.{added-empty}
 use Rattle.valuation.proofs.Growing.{sumN-grow}
 
 module _ (d : List ℤ) (h : List ℕ) (f : List ℤ) (r : List ℕ) (last : ℕ) where
@@ -37,6 +38,17 @@ module _ (d : List ℤ) (h : List ℕ) (f : List ℤ) (r : List ℕ) (last : ℕ
         omega (arith, i .bound-within, t .sizes-within, t .horizon),
       )
 
+  -- a blank k adds nothing
+  pub sums-skip : (X n t m : ℕ) (s : Sums) → Transform X d h → Known f r last → last < X → m ≡ n + t → m ≤ suc last → ((k : ℕ) → n ≤ k → k < m → Blank d h k) → SumsTo d h f r last n s → SumsTo d h f r last m s
+  sums-skip X n zero m s tr y l e j b i = let z : n ≡ m = omega arith in subst (λ q. SumsTo d h f r last q s) z i
+  sums-skip X n (suc t) m s tr y l e j b i =
+      let z : suc (n + t) ≡ m = omega arith in
+      let before = sums-skip X n t (n + t) s tr y l refl (omega arith) (λ k g v. b k g (omega arith)) i in
+      let none = b (n + t) (omega arith) (omega arith) in
+      subst (λ q. SumsTo d h f r last q s) z
+      (sums-more (n + t) s s before
+      (added-empty (entryIn d h (n + t)) (cellIn f r (last - (n + t))) (y .calm (last - (n + t)) (omega arith)) (tr .errors (n + t) (omega arith)) s (none .0) (none .1)))
+
   pub sums-small : (X k : ℕ) (s : Sums) → Transform X d h → Known f r last → last < X → k ≤ last → SumsTo d h f r last k s →
       Small s (entryIn d h k) (cellIn f r (last - k))
   sums-small X k s t y l j i =
@@ -50,3 +62,18 @@ module _ (d : List ℤ) (h : List ℕ) (f : List ℤ) (r : List ℕ) (last : ℕ
         minus = fit .1;
         bound = fit .2;
       }
+
+  -- the sums up to the next place, or up to `last` where it lies beyond
+  module _ (X : ℕ) (list : List ℕ) (count : ℕ) (s : Sums) (t : Transform X d h) (y : Known f r last) (l : last < X) (i : Listed X d h list count) where
+    pub sums-at : (j : ℕ) → j < count → getD list j 0 ≤ last → SumsTo d h f r last (from list j) s → SumsTo d h f r last (getD list j 0) s
+    sums-at j g near k =
+        let up = i .rising j g in
+        sums-skip X (from list j) (getD list j 0 - from list j) (getD list j 0) s t y l (omega arith) (omega arith) (λ n a b. i .before j n g a b) k
+
+    pub sums-over : (j : ℕ) → j < count → last < getD list j 0 → from list j ≤ suc last → SumsTo d h f r last (from list j) s → SumsTo d h f r last (suc last) s
+    sums-over j g far within k =
+        sums-skip X (from list j) (suc last - from list j) (suc last) s t y l (omega arith) (omega arith) (λ n a b. i .before j n g a (omega arith)) k
+
+    pub sums-end : from list count ≤ suc last → SumsTo d h f r last (from list count) s → SumsTo d h f r last (suc last) s
+    sums-end within k =
+        sums-skip X (from list count) (suc last - from list count) (suc last) s t y l (omega arith) (omega arith) (λ n a b. i .behind n a (omega arith)) k

@@ -1,10 +1,11 @@
 -- What the functions of the module recursion say of their sums and of the slices.
 use mathlib.Core.Path.{_≡_}
 use mathlib.Core.Bool.{Bool, true, false}
+use mathlib.Core.Logic.{_⊎_}
 use mathlib.Core.List.{List}
-use Prim.Native.Nat.{ℕ, suc, _+_, _-_, _*_, _^_, _<_, _≤_}
+use Prim.Native.Nat.{ℕ, zero, suc, _+_, _-_, _*_, _^_, _<_, _≤_}
 use lib.IntN.{ℤ, pos, negsuc, natAbs, _+ℤ_}
-use lib.ListN.{length, take, drop, getD}
+use lib.ListN.{length, take, drop, getD, set}
 use Rattle.algebra.specs.RationalSum.{sumN, sumZ}
 use Rattle.fund.specs.Base.{table}
 use Rattle.fund.specs.Limits.{most-horizon, most-bound}
@@ -53,6 +54,43 @@ pub record SumsTo (d : List ℤ) (h : List ℕ) (f : List ℤ) (r : List ℕ) (l
   pub plus-within : s .plus ≤ 2 * sizes d n
   pub minus-within : s .minus ≤ 2 * sizes d n
   pub bound-within : s .bound ≤ sizes d n + n * (3 * most-error)
+
+-- ---- the places of the transform
+-- D(k+1) and H(k+1) are 0
+abbrev pub Blank : List ℤ → List ℕ → ℕ → Type 0
+Blank d h k = (natAbs (getD d (suc k) (pos 0)) ≡ 0) × (getD h (suc k) 0 ≡ 0)
+
+-- Behind the j-th place of a list.
+abbrev pub from : List ℕ → ℕ → ℕ
+from list zero = 0
+from list (suc j) = suc (getD list j 0)
+
+-- The first `count` of the list are places in rising order, and every k below X that is none of them is blank.
+pub record Listed (X : ℕ) (d : List ℤ) (h : List ℕ) (list : List ℕ) (count : ℕ) : Type 0 where
+  pub few : count ≤ X
+  pub reach : from list count ≤ X
+  pub rising : (j : ℕ) → j < count → from list j ≤ getD list j 0
+  pub within : (j : ℕ) → j < count → getD list j 0 < X
+  pub before : (j k : ℕ) → j < count → from list j ≤ k → k < getD list j 0 → Blank d h k
+  pub behind : (k : ℕ) → from list count ≤ k → k < X → Blank d h k
+
+-- a place is noted, where the entry is not blank
+abbrev pub Noted : ℕ → ℕ → ℕ → List ℕ → ℕ → List ℕ → ℕ → Type 0
+Noted size error k list count list′ count′ =
+    ((size ≡ 0) × (error ≡ 0) × (list′ ≡ list) × (count′ ≡ count)) ⊎ ((list′ ≡ set list count k) × (count′ ≡ count + 1))
+
+-- |D(k+1)| and H(k+1) so small that their products with a cell's figures fit a word
+abbrev pub most-size : ℕ
+most-size = 35 * 10 ^ 12
+
+abbrev pub most-small-error : ℕ
+most-small-error = 9 * 10 ^ 6
+
+abbrev pub SmallEntry : ℤ → ℕ → Type 0
+SmallEntry d h = (natAbs d ≤ most-size) × (h ≤ most-small-error)
+
+abbrev pub AllSmall : ℕ → List ℤ → List ℕ → Type 0
+AllSmall X d h = (k : ℕ) → k < X → SmallEntry (getD d (suc k) (pos 0)) (getD h (suc k) 0)
 
 -- the transform to X and the cells up to last are within the limits
 pub record Transform (X : ℕ) (d : List ℤ) (h : List ℕ) : Type 0 where

@@ -3,7 +3,9 @@
 mod cells;
 mod inside;
 mod lives;
+mod places;
 mod premium;
+mod products;
 mod recursion;
 mod start;
 mod totals;

@@ -1,17 +1,20 @@
 // The recursion of document 01: each f(x) and R(x) from D, H and the cells before it. It does not know where D and H come
 // from; document 02 §10's limits keep every sum within a word.
+use crate::places;
+use crate::products;
 use crate::whole;
 use crate::whole::Signed;
 use crate::whole::Sums;
 use fund::Fund;
 ghost use mathlib.Core.Path.{_≡_};
+ghost use mathlib.Core.Bool.{true};
 ghost use Prim.Native.Nat.{suc, _+_, _*_, _/_, _<_, _≤_};
 ghost use lib.ListN.{length};
 ghost use Rattle.fund.specs.Limits.{most-horizon};
 ghost use Rattle.rounding.specs.Rounding.{nearest, up};
 ghost use Rattle.valuation.specs.Sums.{sumOf};
 ghost use Rattle.valuation.specs.Lent.{cellIn, cellOf, Calm};
-ghost use Rattle.valuation.specs.Recursion.{most-sum, opposite, Small, Added, SumsTo, Transform, Known, Recurs};
+ghost use Rattle.valuation.specs.Recursion.{most-sum, SumsTo, Listed, AllSmall, Transform, Known, Recurs};
 
 const MOST_CELL: u64 = 2000000000000;
 
@@ -35,9 +38,33 @@ pub(crate) fn recursion(
         (cellOf horizon (now (d .entry)) (now (h .entry)) (now (f .entry)) (now (r .entry)))
         (now (f .entry)) (now (f .exit)) (now (r .entry)) (now (r .exit)) res ⌝ }
 {
+    let mut list = [0usize; 4096];
+    let count = places::places(horizon, d, h, &mut list);
+    let small = places::all_small(horizon, d, h);
+    fill(horizon, d, h, &list, count, small, f, r)
+}
+
+// The same, where the places are listed.
+fn fill(
+    horizon: usize,
+    d: &[i64],
+    h: &[u64],
+    list: &[usize],
+    count: usize,
+    small: bool,
+    f: &mut [i64],
+    r: &mut [u64],
+) -> Recursed
+    requires { ⌜ Transform horizon (now d) (now h) ⌝ }
+    requires { ⌜ (horizon < length (now f)) × (horizon < length (now r)) × Calm (cellIn (now f) (now r) 0) ⌝ }
+    requires { ⌜ Listed horizon (now d) (now h) (now list) count × (count ≤ length (now list)) × (small ≡ true → AllSmall horizon (now d) (now h)) ⌝ }
+    ensures { λ res. ⌜ Recurs horizon
+        (cellOf horizon (now (d .entry)) (now (h .entry)) (now (f .entry)) (now (r .entry)))
+        (now (f .entry)) (now (f .exit)) (now (r .entry)) (now (r .exit)) res ⌝ }
+{
     let mut last: usize = 0;
     while last < horizon {
-        let s = summed(horizon, d, h, &f[..], &r[..], last);
+        let s = summed(horizon, d, h, &f[..], &r[..], last, list, count, small);
         let x = (last + 1) as u64;
         let bound = bound_of(s, x);
         if Fund::MOST_BOUND < bound {
@@ -54,10 +81,21 @@ pub(crate) fn recursion(
     Recursed::Done
 }
 
-// The sums for the cell after `last`: D(1), D(2), .. meet f(last), f(last - 1), .. to f(0).
-fn summed(horizon: usize, d: &[i64], h: &[u64], f: &[i64], r: &[u64], last: usize) -> Sums
+// The sums for the cell after `last`: D(1), D(2), .. meet f(last), f(last - 1), .. to f(0). Only places are visited.
+fn summed(
+    horizon: usize,
+    d: &[i64],
+    h: &[u64],
+    f: &[i64],
+    r: &[u64],
+    last: usize,
+    list: &[usize],
+    count: usize,
+    small: bool,
+) -> Sums
     requires { ⌜ Transform horizon (now d) (now h) ⌝ }
     requires { ⌜ Known (now f) (now r) last × (last < horizon) ⌝ }
+    requires { ⌜ Listed horizon (now d) (now h) (now list) count × (count ≤ length (now list)) × (small ≡ true → AllSmall horizon (now d) (now h)) ⌝ }
     ensures { λ s. ⌜ SumsTo (now (d .entry)) (now (h .entry)) (now (f .entry)) (now (r .entry)) last (suc last) s ⌝ }
 {
     let mut s = Sums {
@@ -65,45 +103,16 @@ fn summed(horizon: usize, d: &[i64], h: &[u64], f: &[i64], r: &[u64], last: usiz
         minus: 0,
         bound: 0,
     };
-    let mut k: usize = 0;
-    while k <= last {
-        s = add(s, d[k + 1], h[k + 1], f[last - k], r[last - k]);
-        k += 1;
-    }
-    s
-}
-
-// What one k adds: no product where D and H are 0, and none for f where D is.
-fn add(s: Sums, d: i64, h: u64, f: i64, r: u64) -> Sums
-    requires { ⌜ Small s (record { D = d; H = h }) (record { f = f; R = r }) ⌝ }
-    ensures { λ t. ⌜ Added s (record { D = d; H = h }) (record { f = f; R = r }) t ⌝ }
-{
-    let size = whole::magnitude(d);
-    if size == 0 {
-        if h == 0 {
+    let mut j: usize = 0;
+    while j < count {
+        let k = list[j];
+        if last < k {
             return s;
         }
-        return whole::with_part(
-            s,
-            false,
-            0,
-            rounding::up_per_unit(h, whole::magnitude(f) + r),
-        );
+        s = products::add(small, s, d[k + 1], h[k + 1], f[last - k], r[last - k]);
+        j += 1;
     }
-    let cell = whole::magnitude(f);
-    let part = rounding::nearest_per_unit(size, cell);
-    let bound = rounding::up_per_unit(size, r) + rounding::up_per_unit(h, cell + r);
-    whole::with_part(s, opposite(d, f), part, bound)
-}
-
-// Whether one of the two is negative and the other is not.
-fn opposite(d: i64, f: i64) -> bool
-    ensures { λ r. ⌜ r ≡ opposite d f ⌝ }
-{
-    if d < 0 {
-        return 0 <= f;
-    }
-    f < 0
+    s
 }
 
 // f(x), the nearest of the sum over x.

@@ -1,5 +1,6 @@
--- `summed` meets its contract. The loop's invariant: the sums are those over the first k; the measure is how many are left.
-use mathlib.Core.Path.{_≡_}
+-- `summed` meets its contract. The loop's invariant: the sums are those over all k up to the places that were visited, since what
+-- lies between is blank; the measure is how many places are left.
+use mathlib.Core.Path.{_≡_, subst}
 use Prim.Native.Nat.{suc, _+_, _≤_, _-_}
 use native.Mathlib.Numerals.{add-one}
 use native.Mathlib.Omega.{arith}
@@ -9,21 +10,34 @@ use lib.ListN.{getD}
 use mir.Syntax.{w64}
 use mir.Val.{toZ, ofZ}
 use mir.Facts.{toZ-ofZ}
-use Rattle.valuation.specs.Recursion.{SumsTo}
-use Rattle.valuation.proofs.SumsTo.{sums-none, sums-more, sums-small}
+use Rattle.valuation.specs.Recursion.{from, SumsTo}
+use Rattle.valuation.proofs.SumsTo.{sums-none, sums-more, sums-small, sums-at, sums-over, sums-end}
 use Rattle.valuation.proofs.recursion.summed.Statement.{statement}
 use Rattle.valuation.proofs.recursion.summed.Tie as tie
 
 abbrev Inv-loop : tie.InvT-loop
-Inv-loop horizon d h f r last s₀ k₀ s k = (k ≤ suc last) × SumsTo d h f r last k s
+Inv-loop horizon d h f r last list count small s₀ j₀ s j = (j ≤ count) × (from list j ≤ suc last) × SumsTo d h f r last (from list j) s
 
 abbrev μ-loop : tie.MeasureT-loop
-μ-loop horizon d h f r last s₀ k₀ s k = suc last - k
+μ-loop horizon d h f r last list count small s₀ j₀ s j = count - j
 
 loop-holds : tie.Need-loop-holds Inv-loop μ-loop
 loop-holds c =
-    let a = c .before .before .args in
-    (omega arith, sums-none (a .d .now) (a .h .now) (a .f .now) (a .r .now) (a .last))
+    let a = c .before .before .before .args in
+    (omega arith, omega arith, sums-none (a .d .now) (a .h .now) (a .f .now) (a .r .now) (a .last))
+
+mul-k : tie.Need-mul-k Inv-loop μ-loop
+mul-k c = omega arith
+
+shared-slice-read-k : tie.Need-shared-slice-read-k Inv-loop μ-loop
+shared-slice-read-k c = omega arith
+
+returns : tie.Need-returns Inv-loop μ-loop
+returns c =
+    let s = c .before .before .before .before .before .before .before in
+    let a = s .args in
+    let l = c .before .before .before .loop in
+    sums-over (a .d .now) (a .h .now) (a .f .now) (a .r .now) (a .last) (a .horizon) (a .list .now) (a .count) (l .s) (s .pre .0) (s .pre .1 .0 .0) (s .pre .1 .0 .1) (s .pre .1 .1 .0) (l .j) (omega arith) (c .if1 .taken) (l .inv .1) (l .inv .2)
 
 add-add : tie.Need-add-add Inv-loop μ-loop
 add-add c = omega arith
@@ -56,53 +70,51 @@ shared-slice-read-add-2 : tie.Need-shared-slice-read-add-2 Inv-loop μ-loop
 shared-slice-read-add-2 c = omega arith
 
 -- what was read of D and of f are the elements
-abbrev Read-D : tie.After-shared-slice-known4 Inv-loop μ-loop → Type 0
-Read-D c =
-    let a = c .before .before .before .before .before .before .before .before .args in
-    let k = c .before .before .before .before .before .loop .k in
-    toZ w64 (ofZ w64 (getD (a .d .now) (k + 1) (pos 0))) ≡ getD (a .d .now) (k + 1) (pos 0)
-
-read-D : (c : tie.After-shared-slice-known4 Inv-loop μ-loop) → Read-D c
+read-D : (c : tie.After-shared-slice-known6 Inv-loop μ-loop) → let a = c .before .before .before .before .before .before .before .before .before .before .before .args in let k = getD (a .list .now) (c .before .before .before .before .before .before .before .loop .j) 0 in toZ w64 (ofZ w64 (getD (a .d .now) (k + 1) (pos 0))) ≡ getD (a .d .now) (k + 1) (pos 0)
 read-D c = toZ-ofZ (sfits-of (c .before .before .before .add-arg .given))
 
-abbrev Read-f : tie.After-shared-slice-known4 Inv-loop μ-loop → Type 0
-Read-f c =
-    let a = c .before .before .before .before .before .before .before .before .args in
-    let k = c .before .before .before .before .before .loop .k in
-    toZ w64 (ofZ w64 (getD (a .f .now) (a .last - k) (pos 0))) ≡ getD (a .f .now) (a .last - k) (pos 0)
-
-read-f : (c : tie.After-shared-slice-known4 Inv-loop μ-loop) → Read-f c
+read-f : (c : tie.After-shared-slice-known6 Inv-loop μ-loop) → let a = c .before .before .before .before .before .before .before .before .before .before .before .args in let k = getD (a .list .now) (c .before .before .before .before .before .before .before .loop .j) 0 in toZ w64 (ofZ w64 (getD (a .f .now) (a .last - k) (pos 0))) ≡ getD (a .f .now) (a .last - k) (pos 0)
 read-f c = toZ-ofZ (sfits-of (c .before .add-arg2 .given))
 
 add-requires : tie.Need-add-requires Inv-loop μ-loop
 add-requires c κs =
-    let s = c .before .before .before .before .before .before .before .before in
+    let s = c .before .before .before .before .before .before .before .before .before .before .before in
     let a = s .args in
-    let l = c .before .before .before .before .before .loop in
+    let l = c .before .before .before .before .before .before .before .loop in
+    let i = s .pre .1 .1 in
+    let k = getD (a .list .now) (l .j) 0 in
+    let sums = sums-at (a .d .now) (a .h .now) (a .f .now) (a .r .now) (a .last) (a .horizon) (a .list .now) (a .count) (l .s) (s .pre .0) (s .pre .1 .0 .0) (s .pre .1 .0 .1) (i .0) (l .j) (omega arith) (c .before .before .before .before .if1 .left) (l .inv .2) in
     rw (read-D c, read-f c, add-one)
-    (sums-small (a .d .now) (a .h .now) (a .f .now) (a .r .now) (a .last) (a .horizon) (l .k) (l .s)
-    (s .pre .0) (s .pre .1 .0) (s .pre .1 .1) (omega arith) (l .inv .1))
+    (sums-small (a .d .now) (a .h .now) (a .f .now) (a .r .now) (a .last) (a .horizon) k (l .s) (s .pre .0) (s .pre .1 .0 .0) (s .pre .1 .0 .1) (c .before .before .before .before .if1 .left) sums, λ e. i .2 e k (i .0 .within (l .j) (omega arith)))
 
-add-k : tie.Need-add-k Inv-loop μ-loop
-add-k c = omega arith
+add-j : tie.Need-add-j Inv-loop μ-loop
+add-j c = omega arith
 
 loop-less : tie.Need-loop-less Inv-loop μ-loop
 loop-less c = omega arith
 
 loop-again : tie.Need-loop-again Inv-loop μ-loop
 loop-again c =
-    let a = c .before .before .before .before .before .before .before .before .before .args in
-    let l = c .before .before .before .before .before .before .loop in (
+    let s = c .before .before .before .before .before .before .before .before .before .before .before .before in
+    let a = s .args in
+    let l = c .before .before .before .before .before .before .before .before .loop in
+    let i = s .pre .1 .1 in
+    let k = getD (a .list .now) (l .j) 0 in
+    let sums = sums-at (a .d .now) (a .h .now) (a .f .now) (a .r .now) (a .last) (a .horizon) (a .list .now) (a .count) (l .s) (s .pre .0) (s .pre .1 .0 .0) (s .pre .1 .0 .1) (i .0) (l .j) (omega arith) (c .before .before .before .before .before .if1 .left) (l .inv .2) in
+    rw add-one (
       omega arith,
-      rw add-one
-          (sums-more (a .d .now) (a .h .now) (a .f .now) (a .r .now) (a .last) (l .k) (l .s) (c .add .result) (l .inv .1)
-          (rw (read-D (c .before), read-f (c .before), add-one) at (c .add .ensures))),
+      omega (arith, c .before .before .before .before .before .if1 .left),
+      sums-more (a .d .now) (a .h .now) (a .f .now) (a .r .now) (a .last) k (l .s) (c .add .result) sums (rw (read-D (c .before), read-f (c .before), add-one) at (c .add .ensures)),
     )
 
-returns : tie.Need-returns Inv-loop μ-loop
-returns c =
-    let e : suc (c .before .before .before .before .args .last) ≡ c .before .loop .k = omega arith in
-    rw e (c .before .loop .inv .1)
+returns-2 : tie.Need-returns-2 Inv-loop μ-loop
+returns-2 c =
+    let s = c .before .before .before .before .before in
+    let a = s .args in
+    let l = c .before .loop in
+    let e : l .j ≡ a .count = omega arith in
+    let all = subst (λ j. (from (a .list .now) j ≤ suc (a .last)) × SumsTo (a .d .now) (a .h .now) (a .f .now) (a .r .now) (a .last) (from (a .list .now) j) (l .s)) e (l .inv .1, l .inv .2) in
+    sums-end (a .d .now) (a .h .now) (a .f .now) (a .r .now) (a .last) (a .horizon) (a .list .now) (a .count) (l .s) (s .pre .0) (s .pre .1 .0 .0) (s .pre .1 .0 .1) (s .pre .1 .1 .0) (all .0) (all .1)
 
 pub summed-spec : {M : Type 1} → statement M
 summed-spec =
@@ -111,6 +123,9 @@ summed-spec =
     Inv-loop
     μ-loop
     loop-holds
+    mul-k
+    shared-slice-read-k
+    returns
     add-add
     mul-add
     shared-slice-copy-out-add
@@ -122,7 +137,7 @@ summed-spec =
     mul-add-4
     shared-slice-read-add-2
     add-requires
-    add-k
+    add-j
     loop-less
     loop-again
-    returns)
+    returns-2)

@@ -4,8 +4,8 @@ use lib.IntN.{pos}
 use lib.Signed.{ltZ}
 use mir.Facts.{toZ-ofZ}
 use Rattle.valuation.proofs.Signs.{below-opposite, above-opposite}
-use Rattle.valuation.proofs.recursion.opposite.Statement.{statement}
-use Rattle.valuation.proofs.recursion.opposite.Tie as tie
+use Rattle.valuation.proofs.products.opposite.Statement.{statement}
+use Rattle.valuation.proofs.products.opposite.Tie as tie
 
 returns : tie.Need-returns
 returns c =

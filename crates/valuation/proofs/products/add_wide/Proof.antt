@@ -1,4 +1,4 @@
--- `add` meets its contract: the three rounded parts are those of one k, and each of them fits.
+-- `add_wide` meets its contract: the three rounded parts are those of one k, and each of them fits.
 use mathlib.Core.Path.{_≡_, refl, sym, ap, _∙_}
 use Prim.Native.Nat.{ℕ, _+_, _*_, _^_}
 use native.Mathlib.Omega.{arith}
@@ -11,8 +11,8 @@ use Rattle.rounding.proofs.Word.{near-rounds, up-rounds}
 use Rattle.fund.specs.Transform.{unit}
 use Rattle.fund.specs.Recursion.{Cell, Entry}
 use Rattle.valuation.proofs.Added.{part-is, Parts, Within, within, H-most, added, added-none, added-empty}
-use Rattle.valuation.proofs.recursion.add.Statement.{statement}
-use Rattle.valuation.proofs.recursion.add.Tie as tie
+use Rattle.valuation.proofs.products.add_wide.Statement.{statement}
+use Rattle.valuation.proofs.products.add_wide.Tie as tie
 
 abbrev entry : tie.Start → Entry
 entry c = record { D = c .args .d; H = c .args .h }
@@ -139,8 +139,8 @@ returns-3 c =
     added (entry s) (cell s) (s .pre .calm) (s .pre .error) (s .args .s) (c .with-part2 .result) _ _ _ (parts (c .before .before))
     (rw (c .before .opposite .ensures, toZ-ofZ (s .fits .d), toZ-ofZ (s .fits .f)) at (c .with-part2 .ensures))
 
-pub add-spec : {M : Type 1} → statement M
-add-spec =
+pub add-wide-spec : {M : Type 1} → statement M
+add-wide-spec =
     tie.close
     (tie.spec
     magnitude-requires

@@ -1,0 +1,63 @@
+"""Compares the peer with the independent calculation: python3 bench/check_peer.py LIBRARY N SEED
+
+LIBRARY is peer.c built with `cc -shared -fPIC`. Every answer is compared whole: number, place, line, figures and all cells.
+"""
+
+import ctypes
+import random
+import sys
+from pathlib import Path
+
+sys.path.insert(0, str(Path(__file__).resolve().parent.parent / "tests"))
+import cases
+import generate
+import pricing
+
+FIGURES = "number place start length truncation mean premium within horizon".split()
+
+
+class Priced(ctypes.Structure):
+    _fields_ = [(name, ctypes.c_int64 if name == "premium" else ctypes.c_uint64) for name in FIGURES]
+
+
+def peer_answer(peer, data, lengths):
+    """The cells start as garbage, so that each must be written."""
+    kinds = (ctypes.c_int64, ctypes.c_uint64) * 2
+    slices = [(kind * length)(*[7] * length) for kind, length in zip(kinds, lengths)]
+    out = Priced()
+    lent = [word for s, n in zip(slices, lengths) for word in (s, ctypes.c_size_t(n))]
+    peer.peer_price(data, ctypes.c_size_t(len(data)), *lent, ctypes.byref(out))
+    return [getattr(out, name) for name in FIGURES] + [tuple(s) for s in slices]
+
+
+def expected_answer(data, lengths):
+    a = pricing.price(data, lengths)
+    return [a.number, a.place, a.start, a.length, a.truncation, a.mean, a.premium, a.bound, a.horizon,
+            a.D, a.H, a.f, a.R]
+
+
+def calls(count, seed):
+    """Generated files, each with slices that are long enough or, for some, of any length; then every known case."""
+    rng = random.Random(seed)
+    for case in cases.chosen(count, seed):
+        longest = rng.choice((4096, 12, 12))
+        yield case.name, case.data, tuple(rng.choice((longest, rng.randint(0, longest))) for _ in range(4))
+    for case in generate.limit_funds() + generate.damaged_files() + generate.large_funds(seed, 20):
+        yield case.name, case.data, case.lengths
+
+
+def main(library, count, seed):
+    peer = ctypes.CDLL(library)
+    numbers, differing = [0] * 11, 0
+    for name, data, lengths in calls(count, seed):
+        expected = expected_answer(data, lengths)
+        numbers[expected[0]] += 1
+        if peer_answer(peer, data, lengths) != expected:
+            differing += 1
+            print(f"differs: {name}")
+    print(f"{sum(numbers)} calls, {differing} differ; by number from 0 to 10: {numbers}")
+    return 1 if differing or 0 in numbers else 0
+
+
+if __name__ == "__main__":
+    sys.exit(main(sys.argv[1], int(sys.argv[2]), int(sys.argv[3])))

@@ -1,0 +1,413 @@
+// Document 01 in plain C, without proofs: the peer that the verified library is measured against.
+#include "peer.h"
+#include <string.h>
+
+typedef unsigned __int128 wide;
+
+#define MILLION 1000000ull
+#define UNIT 1000000000000ull
+#define FIVES 244140625ull // 5^12
+
+enum { MOST_HORIZON = 4095, MOST_ORDER = 12, MOST_RATES = 121, MOST_MEMBERS = 1000, MOST_AGE = 120 };
+enum { FORM = 1, RANGE, EDITION, DEDUCTIBLE, UNMATCHED, HALF, LOAD, ORDER, SHORT, WIDE };
+
+struct rate {
+    uint64_t age, q, i;
+};
+
+struct member {
+    size_t start; // of its line
+    uint64_t age, group, d, e;
+    uint64_t q, i, p; // folded
+};
+
+struct fund {
+    uint64_t rates, members, horizon, order, frequency, deductible;
+    size_t rate_rows, member_rows;
+    struct rate rate[MOST_RATES];
+    struct member member[MOST_MEMBERS];
+};
+
+// A place where D or H is not zero.
+struct place {
+    uint64_t k, size; // |D(k)|
+    int64_t sign;     // -1 where D(k) is negative, else 0
+    uint64_t h;
+};
+
+// All of them, in rising order.
+struct places {
+    size_t count;
+    int words; // whether each product of a bound is a word, R being at most 250,000 and |f| at most 2*10^12
+    struct place at[MOST_HORIZON];
+};
+
+// Roundings
+
+static uint64_t up(uint64_t a, uint64_t b) { return (a + b - 1) / b; }
+
+static uint64_t nearest(uint64_t a, uint64_t b) { return (a + b / 2) / b; }
+
+// A product below 2^108 over 10^12, which is 2^12 times FIVES: one division of words where the product over 2^12 is a
+// word, else two.
+static inline uint64_t per_unit(wide product) {
+    uint64_t top = (uint64_t)(product >> 64), low = (uint64_t)product;
+    if (top >> 12 == 0)
+        return (top << 52 | low >> 12) / FIVES;
+    uint64_t high = top << 20 | low >> 44;
+    return (high / FIVES << 32) + (high % FIVES << 32 | (uint32_t)(low >> 12)) / FIVES;
+}
+
+static inline uint64_t nearest_per_unit(uint64_t a, uint64_t b) { return per_unit((wide)a * b + UNIT / 2); }
+
+static inline uint64_t up_per_unit(uint64_t a, uint64_t b) { return per_unit((wide)a * b + (UNIT - 1)); }
+
+// The same for a product that is a word.
+static inline uint64_t up_per_unit_word(uint64_t a, uint64_t b) { return (a * b + (UNIT - 1)) / UNIT; }
+
+// The fund file
+
+struct reader {
+    const unsigned char *file;
+    size_t length, next; // the next line's start
+    uint64_t place;
+    size_t start, end; // the line taken last
+};
+
+// The next line; 0 where it is missing.
+static int take(struct reader *r) {
+    r->place++;
+    r->start = r->end = 0;
+    if (r->next == r->length)
+        return 0;
+    const unsigned char *feed = memchr(r->file + r->next, '\n', r->length - r->next);
+    r->start = r->next;
+    r->end = feed ? (size_t)(feed - r->file) : r->length;
+    r->next = feed ? r->end + 1 : r->length;
+    return 1;
+}
+
+// Whether the line is the key and `count` numbers between commas, with its line feed.
+static int spelled(const struct reader *r, const char *key, size_t key_length, int count, uint64_t *n) {
+    const unsigned char *at = r->file + r->start, *end = r->file + r->end;
+    if (r->next == r->end || (size_t)(end - at) < key_length || memcmp(at, key, key_length) != 0)
+        return 0;
+    at += key_length;
+    for (int k = 0; k < count; k++) {
+        const unsigned char *first = at;
+        uint64_t value = 0;
+        while (at < end && (unsigned)(*at - '0') <= 9 && at - first < 8)
+            value = 10 * value + (*at++ - '0');
+        if (at == first || at - first > 7 || (*first == '0' && at - first > 1))
+            return 0;
+        n[k] = value;
+        if (k + 1 < count && (at == end || *at++ != ','))
+            return 0;
+    }
+    return at == end;
+}
+
+#define SPELLED(r, key, count, n) spelled(r, key, sizeof key - 1, count, n)
+
+static int read_number(struct reader *r, const char *key, uint64_t least, uint64_t most, uint64_t *n) {
+    if (!take(r) || !spelled(r, key, strlen(key), 1, n))
+        return FORM;
+    return *n < least || *n > most ? RANGE : 0;
+}
+
+static int read_rate(struct fund *fund, const uint64_t *n) {
+    size_t rows = fund->rate_rows;
+    if (fund->member_rows > 0)
+        return FORM;
+    if (rows == MOST_RATES || n[0] > MOST_AGE || (rows > 0 && n[0] <= fund->rate[rows - 1].age) || n[1] + n[2] > MILLION)
+        return RANGE;
+    fund->rate[fund->rate_rows++] = (struct rate){n[0], n[1], n[2]};
+    return 0;
+}
+
+static int read_member(struct fund *fund, size_t start, const uint64_t *n) {
+    if (fund->member_rows == MOST_MEMBERS || n[0] > MOST_AGE || n[1] < 1 || n[1] > 2 || n[2] > 65535 || n[3] > 65535)
+        return RANGE;
+    struct member *m = &fund->member[fund->member_rows++];
+    m->start = start;
+    m->age = n[0], m->group = n[1], m->d = n[2], m->e = n[3];
+    return 0;
+}
+
+static int read_rows(struct reader *r, struct fund *fund) {
+    uint64_t n[4];
+    int why;
+    fund->rate_rows = fund->member_rows = 0;
+    for (;;) {
+        if (!take(r))
+            return FORM;
+        if (SPELLED(r, "member=", 4, n)) {
+            if ((why = read_member(fund, r->start, n)))
+                return why;
+        } else if (SPELLED(r, "rate=", 3, n)) {
+            if ((why = read_rate(fund, n)))
+                return why;
+        } else if (SPELLED(r, "end=", 1, n)) {
+            if (n[0] != fund->member_rows)
+                return RANGE;
+            return r->next < r->length && take(r) ? FORM : 0;
+        } else {
+            return FORM;
+        }
+    }
+}
+
+static int read_fund(struct reader *r, struct fund *fund) {
+    int why;
+    if ((why = read_number(r, "rates=", 1900, 2999, &fund->rates)) ||
+        (why = read_number(r, "members=", 1900, 2999, &fund->members)) ||
+        (why = read_number(r, "horizon=", 0, MOST_HORIZON, &fund->horizon)) ||
+        (why = read_number(r, "order=", 1, MOST_ORDER, &fund->order)) ||
+        (why = read_number(r, "frequency=", 0, 5000, &fund->frequency)) ||
+        (why = read_number(r, "deductible=", 0, 4096, &fund->deductible)))
+        return why;
+    return read_rows(r, fund);
+}
+
+// From members to the transform
+
+// Refusals 5 and 6; `at` is the member.
+static int fold(struct fund *fund, size_t *at) {
+    const struct rate *row[MOST_AGE + 1] = {0};
+    for (size_t k = 0; k < fund->rate_rows; k++)
+        row[fund->rate[k].age] = &fund->rate[k];
+    for (*at = 0; *at < fund->member_rows; ++*at) {
+        struct member *m = &fund->member[*at];
+        const struct rate *rate = row[m->age];
+        if (!rate)
+            return UNMATCHED;
+        m->q = m->d ? rate->q : 0;
+        m->i = m->e ? rate->i : 0;
+        m->p = MILLION - m->q - m->i;
+    }
+    for (*at = 0; *at < fund->member_rows; ++*at)
+        if (fund->member[*at].group == 1 && fund->member[*at].p <= MILLION / 2)
+            return HALF;
+    return 0;
+}
+
+static uint64_t lambda_of(const struct fund *fund) {
+    uint64_t claims = 0;
+    for (const struct member *m = fund->member, *end = m + fund->member_rows; m < end; m++)
+        if (m->group == 2)
+            claims += m->q + m->i;
+    return claims * fund->frequency * 1000;
+}
+
+static uint64_t load_of(const struct fund *fund, uint64_t lambda) {
+    uint64_t load = lambda;
+    for (const struct member *m = fund->member, *end = m + fund->member_rows; m < end; m++)
+        if (m->group == 1)
+            load += up(UNIT * (m->q + m->i), m->p);
+    return load;
+}
+
+static wide truncation_of(const struct fund *fund) {
+    wide sum = 0;
+    for (const struct member *m = fund->member, *end = m + fund->member_rows; m < end; m++) {
+        if (m->group != 1)
+            continue;
+        uint64_t claim = m->q + m->i, w = UNIT;
+        for (uint64_t n = 0; n <= fund->order; n++)
+            w = up(w * claim, m->p);
+        sum += up(w * m->p, (m->p - claim) * (fund->order + 1));
+    }
+    return sum;
+}
+
+static uint64_t mean_of(const struct fund *fund) {
+    uint64_t ones = 0, replaced = 0;
+    for (const struct member *m = fund->member, *end = m + fund->member_rows; m < end; m++)
+        *(m->group == 1 ? &ones : &replaced) += m->q * m->d + m->i * m->e;
+    return ones * MILLION + replaced * fund->frequency * 1000;
+}
+
+// The terms of a member of group 1.
+static void add_terms(const struct member *m, uint64_t order, uint64_t horizon, int64_t *D, uint64_t *H) {
+    uint64_t v[MOST_ORDER + 1] = {UNIT};
+    for (uint64_t n = 1; n <= order; n++) {
+        // without q only l = 0 is reached, without i only l = n
+        uint64_t least = m->i ? 0 : n, most = m->q ? n : 0;
+        for (uint64_t l = most + 1; l-- > least;) {
+            v[l] = nearest((l ? m->q * v[l - 1] : 0) + m->i * v[l], m->p);
+            uint64_t x = m->d * l + m->e * (n - l);
+            if (x > horizon)
+                continue;
+            int64_t term = (int64_t)nearest(x * v[l], n);
+            D[x] += n % 2 ? term : -term;
+            H[x] += x;
+        }
+    }
+}
+
+static void transform(const struct fund *fund, int64_t *D, uint64_t *H) {
+    uint64_t horizon = fund->horizon;
+    for (const struct member *m = fund->member, *end = m + fund->member_rows; m < end; m++) {
+        if (m->group == 1) {
+            if (m->q || m->i)
+                add_terms(m, fund->order, horizon, D, H);
+            continue;
+        }
+        uint64_t frequency = fund->frequency * 1000;
+        if (m->d <= horizon)
+            D[m->d] += (int64_t)(m->q * frequency * m->d);
+        if (m->e <= horizon)
+            D[m->e] += (int64_t)(m->i * frequency * m->e);
+    }
+}
+
+// The recursion and its bounds
+
+static void start(const struct fund *fund, uint64_t lambda, int64_t *cell, uint64_t *bound) {
+    uint64_t t = UNIT, c = 0;
+    int64_t sum = UNIT;
+    *bound = 0;
+    if (lambda > 0)
+        for (uint64_t n = 1; n < 64; n++) {
+            wide divisor = (wide)n * UNIT;
+            t = (uint64_t)(((wide)t * lambda + divisor / 2) / divisor);
+            c = (uint64_t)(((wide)c * lambda + divisor - 1) / divisor) + 1;
+            sum += n % 2 ? -(int64_t)t : (int64_t)t;
+            *bound += c;
+        }
+    int negative = sum < 0;
+    uint64_t size = negative ? -(uint64_t)sum : (uint64_t)sum;
+    for (const struct member *m = fund->member, *end = m + fund->member_rows; m < end; m++)
+        if (m->group == 1) {
+            size = nearest(size * m->p, MILLION);
+            ++*bound;
+        }
+    *cell = negative ? -(int64_t)size : (int64_t)size;
+}
+
+static void list_places(uint64_t horizon, const int64_t *D, const uint64_t *H, struct places *p) {
+    p->count = 0;
+    p->words = 1;
+    for (uint64_t k = 1; k <= horizon; k++) {
+        if (D[k] == 0 && H[k] == 0)
+            continue;
+        uint64_t size = D[k] < 0 ? -(uint64_t)D[k] : (uint64_t)D[k];
+        p->at[p->count++] = (struct place){k, size, D[k] >> 63, H[k]};
+        p->words &= size <= 70 * UNIT && H[k] <= 9000000;
+    }
+}
+
+struct sums {
+    int64_t cell;
+    uint64_t bound;
+};
+
+// The sums of one x over the first places; f and R point at their cells x.
+static inline struct sums sums_of(const struct place *at, size_t count, int words, const int64_t *f, const uint64_t *R) {
+    struct sums s = {0, 0};
+    for (const struct place *end = at + count; at < end; at++) {
+        int64_t cell = *(f - at->k), minus = cell >> 63;
+        uint64_t r = *(R - at->k), size = (uint64_t)((cell ^ minus) - minus);
+        int64_t part = (int64_t)nearest_per_unit(at->size, size);
+        minus ^= at->sign;
+        s.cell += (part ^ minus) - minus;
+        s.bound += words ? up_per_unit_word(at->size, r) + up_per_unit_word(at->h, size + r)
+                         : up_per_unit(at->size, r) + up_per_unit(at->h, size + r);
+    }
+    return s;
+}
+
+// Kept out of line: inlined into the rest, the loop lacks registers.
+__attribute__((noinline)) static struct sums sums_at(const struct places *p, size_t count, const int64_t *f, const uint64_t *R) {
+    return p->words ? sums_of(p->at, count, 1, f, R) : sums_of(p->at, count, 0, f, R);
+}
+
+// f and R from 1 to the horizon; the first place whose bound is too wide, or 0.
+static uint64_t recursion(uint64_t horizon, const int64_t *D, const uint64_t *H, int64_t *f, uint64_t *R) {
+    struct places p;
+    size_t reached = 0;
+    list_places(horizon, D, H, &p);
+    for (uint64_t x = 1; x <= horizon; x++) {
+        while (reached < p.count && p.at[reached].k <= x)
+            reached++;
+        struct sums s = sums_at(&p, reached, f + x, R + x);
+        R[x] = up(s.bound, x) + 1;
+        if (R[x] > 250000)
+            return x;
+        uint64_t size = s.cell < 0 ? -(uint64_t)s.cell : (uint64_t)s.cell;
+        int64_t cell = (int64_t)nearest(size, x);
+        f[x] = s.cell < 0 ? -cell : cell;
+    }
+    return 0;
+}
+
+static void premium(const struct fund *fund, const int64_t *f, const uint64_t *R, struct priced *out) {
+    uint64_t M = fund->deductible;
+    out->premium = (int64_t)out->mean - (int64_t)(M * UNIT);
+    out->within = 2 * M * out->truncation;
+    for (uint64_t x = 0; x < M; x++) {
+        out->premium += (int64_t)(M - x) * f[x];
+        out->within += (M - x) * R[x];
+    }
+}
+
+// Refusals 7 to 10, or the figures and cells.
+static int value(const struct fund *fund, int64_t *D, size_t nD, uint64_t *H, size_t nH, int64_t *f, size_t nf,
+                 uint64_t *R, size_t nR, struct priced *out) {
+    uint64_t lambda = lambda_of(fund), horizon = fund->horizon;
+    if (load_of(fund, lambda) > 8 * UNIT)
+        return LOAD;
+    wide truncation = truncation_of(fund);
+    if (truncation > 100000000)
+        return ORDER;
+    if (nD <= horizon || nH <= horizon || nf <= horizon || nR <= horizon)
+        return SHORT;
+    transform(fund, D, H);
+    start(fund, lambda, &f[0], &R[0]);
+    out->place = recursion(horizon, D, H, f, R);
+    if (out->place)
+        return WIDE;
+    out->truncation = (uint64_t)truncation;
+    out->mean = mean_of(fund);
+    out->horizon = horizon;
+    premium(fund, f, R, out);
+    return 0;
+}
+
+static void clear(int64_t *D, size_t nD, uint64_t *H, size_t nH, int64_t *f, size_t nf, uint64_t *R, size_t nR) {
+    memset(D, 0, nD * sizeof *D);
+    memset(H, 0, nH * sizeof *H);
+    memset(f, 0, nf * sizeof *f);
+    memset(R, 0, nR * sizeof *R);
+}
+
+int peer_price(const unsigned char *file, size_t length, int64_t *D, size_t nD, uint64_t *H, size_t nH, int64_t *f,
+               size_t nf, uint64_t *R, size_t nR, struct priced *out) {
+    struct fund fund;
+    struct reader r = {.file = file, .length = length};
+    size_t at = 0;
+    int why;
+    *out = (struct priced){0};
+    clear(D, nD, H, nH, f, nf, R, nR);
+    if ((why = read_fund(&r, &fund))) {
+        out->place = r.place;
+    } else if (fund.rates != fund.members) {
+        why = EDITION;
+    } else if (fund.deductible > fund.horizon + 1) {
+        why = DEDUCTIBLE;
+    } else if ((why = fold(&fund, &at))) {
+        r.next = fund.member[at].start;
+        take(&r);
+        out->place = 7 + fund.rate_rows + at;
+    } else {
+        why = value(&fund, D, nD, H, nH, f, nf, R, nR, out);
+        if (why)
+            clear(D, nD, H, nH, f, nf, R, nR);
+    }
+    if (why && why != WIDE && out->place) {
+        out->start = r.end > r.start ? r.start : 0;
+        out->length = r.end - r.start;
+    }
+    out->number = (uint64_t)why;
+    return why;
+}

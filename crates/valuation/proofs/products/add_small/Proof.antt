@@ -1,0 +1,113 @@
+-- `add_small` meets its contract: the three rounded parts are those of one k, and each of them fits.
+use mathlib.Core.Path.{_≡_, ap, ap₂, _∙_}
+use Prim.Native.Nat.{ℕ, _+_, _*_, _^_, _≤_}
+use native.Mathlib.Nat as N
+use native.Mathlib.Omega.{arith}
+use borrow.Author.Needs.{needs}
+use lib.IntN.{natAbs}
+use mir.Facts.{toZ-ofZ}
+use Rattle.rounding.specs.Rounding.{near, up}
+use Rattle.fund.specs.Transform.{unit}
+use Rattle.fund.specs.Recursion.{Cell, Entry}
+use Rattle.valuation.specs.Lent.{most-cell}
+use Rattle.valuation.specs.Recursion.{most-size}
+use Rattle.valuation.proofs.Added.{Parts, Within, within, added}
+use Rattle.valuation.proofs.products.add_small.Statement.{statement}
+use Rattle.valuation.proofs.products.add_small.Tie as tie
+
+abbrev entry : tie.Start → Entry
+entry s = record { D = s .args .d; H = s .args .h }
+
+abbrev cell : tie.Start → Cell
+cell s = record { f = s .args .f; R = s .args .r }
+
+-- the magnitudes
+size-is : (c : tie.After-magnitude) → c .magnitude .result ≡ natAbs (c .before .args .d)
+size-is c = c .magnitude .ensures ∙ ap natAbs (toZ-ofZ (c .before .fits .d))
+
+level-is : (c : tie.After-magnitude2) → c .magnitude2 .result ≡ natAbs (c .before .before .args .f)
+level-is c = c .magnitude2 .ensures ∙ ap natAbs (toZ-ofZ (c .before .before .fits .f))
+
+magnitude-requires : tie.Need-magnitude-requires
+magnitude-requires c κs = search needs
+
+magnitude-requires-2 : tie.Need-magnitude-requires-2
+magnitude-requires-2 c κs = search needs
+
+nearest-requires : tie.Need-nearest-requires
+nearest-requires c κs =
+    let p = c .before .before .pre in
+    (omega (arith, size-is (c .before), p .1 .0), omega (arith, level-is c, p .0 .calm .level))
+
+up-requires : tie.Need-up-requires
+up-requires c κs =
+    let p = c .before .before .before .pre in
+    let h : c .before .before .magnitude .result ≤ most-size = omega (arith, size-is (c .before .before), p .1 .0) in
+    omega (arith, N.mul-le-mul h (p .0 .calm .narrow))
+
+add-up : tie.Need-add-up
+add-up c =
+    let p = c .before .before .before .before .pre in
+    omega (arith, level-is (c .before .before), p .0 .calm .level, p .0 .calm .narrow)
+
+up-requires-2 : tie.Need-up-requires-2
+up-requires-2 c κs =
+    let s = c .before .before .before .before in
+    let p = s .pre in
+    let h : c .before .before .magnitude2 .result + s .args .r ≤ most-cell + 250000 = omega (arith, level-is (c .before .before), p .0 .calm .level, p .0 .calm .narrow) in
+    omega (arith, N.mul-le-mul (p .1 .1) h)
+
+parts : (c : tie.After-up2) → let s = c .before .before .before .before .before in Parts (entry s) (cell s) (c .before .before .nearest .result) (c .before .up .result) (c .up2 .result)
+unfolding unit
+parts c =
+    let s = c .before .before .before .before .before in
+    let size = size-is (c .before .before .before .before) in
+    let level = level-is (c .before .before .before) in
+    record {
+      near-is = c .before .before .nearest .ensures ∙ ap₂ (λ a b. near (a * b) (10 ^ 12)) size level;
+      D-is = c .before .up .ensures ∙ ap (λ a. up (a * s .args .r) (10 ^ 12)) size;
+      H-is = c .up2 .ensures ∙ ap (λ b. up (s .args .h * (b + s .args .r)) (10 ^ 12)) level;
+    }
+
+fits : (c : tie.After-up2) → Within (entry (c .before .before .before .before .before)) (c .before .before .nearest .result) (c .before .up .result) (c .up2 .result)
+fits c =
+    let s = c .before .before .before .before .before in
+    within (entry s) (cell s) (s .pre .0 .calm) (s .pre .0 .error) _ _ _ (parts c)
+
+add-bound : tie.Need-add-bound
+add-bound c =
+    let w = fits c in
+    omega (arith, w .D-within, w .H-within, c .before .before .before .before .before .pre .0 .transform)
+
+opposite-requires : tie.Need-opposite-requires
+opposite-requires c κs = search needs
+
+with-part-requires : tie.Need-with-part-requires
+with-part-requires c κs =
+    let w = fits (c .before) in
+    let p = c .before .before .before .before .before .before .pre .0 in (
+      omega (arith, w .near-within, p .transform, p .plus),
+      omega (arith, w .near-within, p .transform, p .minus),
+      omega (arith, w .D-within, w .H-within, p .transform, p .bound),
+    )
+
+returns : tie.Need-returns
+returns c =
+    let s = c .before .before .before .before .before .before .before in
+    added (entry s) (cell s) (s .pre .0 .calm) (s .pre .0 .error) (s .args .s) (c .with-part .result) _ _ _ (parts (c .before .before))
+    (rw (c .before .opposite .ensures, toZ-ofZ (s .fits .d), toZ-ofZ (s .fits .f)) at (c .with-part .ensures))
+
+pub add-small-spec : {M : Type 1} → statement M
+add-small-spec =
+    tie.close
+    (tie.spec
+    magnitude-requires
+    magnitude-requires-2
+    nearest-requires
+    up-requires
+    add-up
+    up-requires-2
+    add-bound
+    opposite-requires
+    with-part-requires
+    returns)
