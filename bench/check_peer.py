@@ -36,13 +36,27 @@ def expected_answer(data, lengths):
             a.D, a.H, a.f, a.R]
 
 
+def heavy_funds(rng, count):
+    """Few places with large D and H: products beyond a word, and exact halves by q = 500,000 and a = 1,000."""
+    for index in range(count):
+        horizon = rng.choice((30, 400, 4095))
+        amounts = [rng.randint(1, horizon) for _ in range(3)]
+        members = [(rng.choice((20, 30)), 2, rng.choice(amounts), 0) for _ in range(rng.randint(1, 3))]
+        members += [(40, 1, d, d) for d in [rng.choice((1, 2, horizon // 12))] * rng.choice((0, 1, 900))]
+        text = generate.Text(horizon=horizon, order=12, frequency=rng.choice((1000, 1000, 700)), deductible=horizon,
+                             rate_rows=((20, 500000, 0), (30, rng.randint(1, 1000000), 0), (40, 700, 900)),
+                             member_rows=tuple(members))
+        yield generate.Case(f"heavy-{index}", text.data())
+
+
 def calls(count, seed):
     """Generated files, each with slices that are long enough or, for some, of any length; then every known case."""
     rng = random.Random(seed)
     for case in cases.chosen(count, seed):
         longest = rng.choice((4096, 12, 12))
         yield case.name, case.data, tuple(rng.choice((longest, rng.randint(0, longest))) for _ in range(4))
-    for case in generate.limit_funds() + generate.damaged_files() + generate.large_funds(seed, 20):
+    known = generate.limit_funds() + generate.damaged_files() + generate.large_funds(seed, 20)
+    for case in known + list(heavy_funds(rng, 60)):
         yield case.name, case.data, case.lengths
 
 

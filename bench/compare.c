@@ -1,5 +1,5 @@
-// Prices each fund file by the peer and by the verified library in turn, compares every figure and cell, and prints the
-// time of one call of each and the ratio.
+// Prices each fund file by the two peers and by the verified library in turn, compares every figure and cell, and prints the
+// time of one call of each and the ratios.
 #define _POSIX_C_SOURCE 199309L
 #include "verified.h"
 #include <stdio.h>
@@ -49,34 +49,48 @@ static int read_file(const char *name) {
     return fclose(in) == 0;
 }
 
+struct side {
+    const char *name;
+    price *call;
+    struct answer answer;
+    long calls;
+    double time;
+};
+
+static struct side sides[] = {{.name = "plain", .call = plain_price}, {.name = "tuned", .call = peer_price}, {.name = "verified", .call = verified_price}};
+
+enum { SIDES = sizeof sides / sizeof sides[0], VERIFIED = SIDES - 1 };
+
 static int compare(const char *name) {
-    static struct answer peer, verified;
-    memset(&peer, 0x55, sizeof peer);
-    memset(&verified, 0xaa, sizeof verified);
     if (!read_file(name)) {
         fprintf(stderr, "%s: cannot be read\n", name);
         return 0;
     }
-    call(peer_price, &peer);
-    call(verified_price, &verified);
-    if (memcmp(&peer, &verified, sizeof peer) != 0) {
-        printf("%s: the answers differ\n", name);
+    for (int k = 0; k < SIDES; k++) {
+        memset(&sides[k].answer, 0x11 * (k + 1), sizeof sides[k].answer);
+        call(sides[k].call, &sides[k].answer);
+        if (memcmp(&sides[0].answer, &sides[k].answer, sizeof sides[0].answer) != 0) {
+            printf("%s: the answers of %s and %s differ\n", name, sides[0].name, sides[k].name);
+            return 0;
+        }
+    }
+    if (sides[0].answer.figures.number != 0) {
+        printf("%s: refused %d\n", name, (int)sides[0].answer.figures.number);
         return 0;
     }
-    if (peer.figures.number != 0) {
-        printf("%s: refused %d\n", name, (int)peer.figures.number);
-        return 0;
+    for (int k = 0; k < SIDES; k++) {
+        sides[k].calls = 1 + (long)(ROUND_SECONDS / timed(sides[k].call, &sides[k].answer, 3));
+        sides[k].time = 1e9;
     }
-    long peer_calls = 1 + (long)(ROUND_SECONDS / timed(peer_price, &peer, 3));
-    long verified_calls = 1 + (long)(ROUND_SECONDS / timed(verified_price, &verified, 3));
-    double peer_time = 1e9, verified_time = 1e9;
-    for (int k = 0; k < ROUNDS; k++) {
-        double p = timed(peer_price, &peer, peer_calls), v = timed(verified_price, &verified, verified_calls);
-        peer_time = p < peer_time ? p : peer_time;
-        verified_time = v < verified_time ? v : verified_time;
-    }
-    printf("%s: peer %.1f us, verified %.1f us, ratio %.2f\n", name, 1e6 * peer_time, 1e6 * verified_time,
-           verified_time / peer_time);
+    for (int round = 0; round < ROUNDS; round++)
+        for (int k = 0; k < SIDES; k++) {
+            double time = timed(sides[k].call, &sides[k].answer, sides[k].calls);
+            sides[k].time = time < sides[k].time ? time : sides[k].time;
+        }
+    printf("%s:", name);
+    for (int k = 0; k < SIDES; k++)
+        printf(" %s %.1f us,", sides[k].name, 1e6 * sides[k].time);
+    printf(" verified/plain %.2f, verified/tuned %.2f\n", sides[VERIFIED].time / sides[0].time, sides[VERIFIED].time / sides[1].time);
     return 1;
 }
 

@@ -1,6 +1,11 @@
-// Document 01 in plain C, without proofs: the peer that the verified library is measured against.
+// Document 01 in C, without proofs: the peers that the verified library is measured against. With PLAIN every product is
+// divided as a 128-bit integer, and the call is plain_price; without, the divisions are made by hand where words are enough.
 #include "peer.h"
 #include <string.h>
+
+#ifdef PLAIN
+#define peer_price plain_price
+#endif
 
 typedef unsigned __int128 wide;
 
@@ -30,8 +35,8 @@ struct fund {
 
 // A place where D or H is not zero.
 struct place {
-    uint64_t k, size; // |D(k)|
-    int64_t sign;     // -1 where D(k) is negative, else 0
+    uint64_t k, size; // size is |D(k)|
+    int64_t sign; // -1 where D(k) is negative, else 0
     uint64_t h;
 };
 
@@ -48,15 +53,18 @@ static uint64_t up(uint64_t a, uint64_t b) { return (a + b - 1) / b; }
 
 static uint64_t nearest(uint64_t a, uint64_t b) { return (a + b / 2) / b; }
 
-// A product below 2^108 over 10^12, which is 2^12 times FIVES: one division of words where the product over 2^12 is a
-// word, else two.
+#ifdef PLAIN
+// A product over 10^12, as 128-bit integers give it.
+static inline uint64_t per_unit(wide product) { return (uint64_t)(product / UNIT); }
+#else
+// A product over 10^12, which is 2^12 times FIVES; where it is below 2^76, by a division of words.
 static inline uint64_t per_unit(wide product) {
     uint64_t top = (uint64_t)(product >> 64), low = (uint64_t)product;
     if (top >> 12 == 0)
         return (top << 52 | low >> 12) / FIVES;
-    uint64_t high = top << 20 | low >> 44;
-    return (high / FIVES << 32) + (high % FIVES << 32 | (uint32_t)(low >> 12)) / FIVES;
+    return (uint64_t)(product / UNIT);
 }
+#endif
 
 static inline uint64_t nearest_per_unit(uint64_t a, uint64_t b) { return per_unit((wide)a * b + UNIT / 2); }
 
@@ -293,7 +301,11 @@ static void list_places(uint64_t horizon, const int64_t *D, const uint64_t *H, s
             continue;
         uint64_t size = D[k] < 0 ? -(uint64_t)D[k] : (uint64_t)D[k];
         p->at[p->count++] = (struct place){k, size, D[k] >> 63, H[k]};
+#ifdef PLAIN
+        p->words = 0;
+#else
         p->words &= size <= 70 * UNIT && H[k] <= 9000000;
+#endif
     }
 }
 
@@ -302,12 +314,13 @@ struct sums {
     uint64_t bound;
 };
 
-// The sums of one x over the first places; f and R point at their cells x.
+// The sums of one x over the places up to it; f and R point at their cells x.
 static inline struct sums sums_of(const struct place *at, size_t count, int words, const int64_t *f, const uint64_t *R) {
     struct sums s = {0, 0};
-    for (const struct place *end = at + count; at < end; at++) {
-        int64_t cell = *(f - at->k), minus = cell >> 63;
-        uint64_t r = *(R - at->k), size = (uint64_t)((cell ^ minus) - minus);
+    for (size_t j = 0; j < count; j++, at++) {
+        ptrdiff_t k = (ptrdiff_t)at->k;
+        int64_t cell = f[-k], minus = cell >> 63;
+        uint64_t r = R[-k], size = (uint64_t)((cell ^ minus) - minus);
         int64_t part = (int64_t)nearest_per_unit(at->size, size);
         minus ^= at->sign;
         s.cell += (part ^ minus) - minus;

@@ -14,3 +14,7 @@ struct priced {
 // Prices a fund file into the four result slices; returns the number.
 int peer_price(const unsigned char *file, size_t length, int64_t *D, size_t nD, uint64_t *H, size_t nH,
                int64_t *f, size_t nf, uint64_t *R, size_t nR, struct priced *out);
+
+// The same with plain 128-bit divisions.
+int plain_price(const unsigned char *file, size_t length, int64_t *D, size_t nD, uint64_t *H, size_t nH,
+               int64_t *f, size_t nf, uint64_t *R, size_t nR, struct priced *out);
