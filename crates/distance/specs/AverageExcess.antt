@@ -26,7 +26,7 @@ use Rattle.fund.specs.Base.{if_then_else_, total, sumℤ}
 use Rattle.fund.specs.Folding.{claim, single}
 use Rattle.fund.specs.Transform.{unit, weight, lambda, mean}
 use Rattle.fund.specs.Exact.{singles, denominator, singlePart, weightAt, exact, exactPremium, outcomes, excess}
-use Rattle.laws.specs.Accepted.{All, Calm}
+use Rattle.laws.specs.Accepted.{All, Limited}
 use Rattle.laws.specs.Cells.{sumℤ-is}
 use Rattle.distance.specs.Lives.{members, W, rate, FoldedLife}
 use Rattle.distance.specs.Errors.{U, nat-units}
@@ -77,7 +77,7 @@ exp-none K =
     ∙ ap₂ _+_ (ℚ-ring .mul-one oneQ) (sum-ext K (λ n. ifact (suc n) * powQ zeroQ (suc n)) (λ n. zeroQ) (λ n l. ap (λ y. ifact (suc n) * y) (L.zero-mul ℚ-ring (powQ zeroQ n)) ∙ L.mul-zero ℚ-ring (ifact (suc n))) ∙ sum-zero K)
     ∙ ℚ-ring .add-zero oneQ
 
-module _ (X r a : ℕ) (ms : List Life) (calm : All Calm ms) (folded : All FoldedLife ms) (none : lambda a ms ≡ 0) where
+module _ (X r a : ℕ) (ms : List Life) (limited : All Limited ms) (folded : All FoldedLife ms) (none : lambda a ms ≡ 0) where
   no-weights : W a ms ≡ zeroS
   unfolding W
   no-weights = fun-ext (λ k. ap (λ y. over (nat y) unit) (no-weight a ms none k) ∙ ap (λ y. over y unit) nat-zero ∙ over-zero unit)
@@ -101,9 +101,9 @@ module _ (X r a : ℕ) (ms : List Life) (calm : All Calm ms) (folded : All Folde
   -- the exact value times 10^(6g) is the denominator times the convolution's cell
   exact-single : (x : ℕ) → x ≤ⁿ X → ofℤ (exact X a ms x) * nat G ≡ nat (denominator X ms) * nat (singlePart ms x)
   exact-single x l =
-      ap₂ _*_ (exact-is X r a ms calm folded x l ∙ ap (λ y. nat (denominator X ms) * y) (P-is x)) (nat-pow 10 (6 *ⁿ singles ms))
+      ap₂ _*_ (exact-is X r a ms limited folded x l ∙ ap (λ y. nat (denominator X ms) * y) (P-is x)) (nat-pow 10 (6 *ⁿ singles ms))
       ∙ ring3 ℚ-ring (λ d o g. d ⊗ o ⊗ g := d ⊗ (g ⊗ o)) tt (nat (denominator X ms)) (ownProduct (members r ms) x) (sixes ms)
-      ∙ ap (λ y. nat (denominator X ms) * y) (sym (single-is r ms calm folded x))
+      ∙ ap (λ y. nat (denominator X ms) * y) (sym (single-is r ms limited folded x))
 
   -- the premium's sum, times 10^(6g)
   sum-single : (M : ℕ) → M ≤ⁿ suc X → ofℤ (sumℤ M (λ x. pos ((M ∸ x) *ⁿ 10 ^ 12) *ℤ exact X a ms x)) * nat G ≡ nat (denominator X ms) * (U * nat (below (singlePart ms) M))
@@ -129,7 +129,7 @@ module _ (X r a : ℕ) (ms : List Life) (calm : All Calm ms) (folded : All Folde
   mean-single : nat (mean a ms) * nat G ≡ U * nat (expect (λ c. c) (outcomes ms))
   mean-single =
       sym (nat-mul (mean a ms) G)
-      ∙ ap nat (ap (λ y. y *ⁿ G) (mean-claims a ms none) ∙ mul-assoc 1000000 (claims ms) G ∙ ap (λ y. 1000000 *ⁿ y) (sym (claims-are ms calm)) ∙ (let e : 1000000 *ⁿ (1000000 *ⁿ C) ≡ C *ⁿ 10 ^ 12 = omega arith in e))
+      ∙ ap nat (ap (λ y. y *ⁿ G) (mean-claims a ms none) ∙ mul-assoc 1000000 (claims ms) G ∙ ap (λ y. 1000000 *ⁿ y) (sym (claims-are ms limited)) ∙ (let e : 1000000 *ⁿ (1000000 *ⁿ C) ≡ C *ⁿ 10 ^ 12 = omega arith in e))
       ∙ nat-units C ∙ ℚ-ring .mul-comm (nat C) U
     where
       C : ℕ
@@ -166,7 +166,7 @@ module _ (X r a : ℕ) (ms : List Life) (calm : All Calm ms) (folded : All Folde
 
       -- excess + M×10^(6g) is totals plus shortfall
       sums : E +ⁿ M *ⁿ G ≡ C +ⁿ B
-      sums = ap (λ y. E +ⁿ M *ⁿ y) (sym (weights-are ms calm)) ∙ excess-is M (outcomes ms) ∙ ap (λ y. C +ⁿ y) (sym (shortfall-is ms M))
+      sums = ap (λ y. E +ⁿ M *ⁿ y) (sym (weights-are ms limited)) ∙ excess-is M (outcomes ms) ∙ ap (λ y. C +ⁿ y) (sym (shortfall-is ms M))
 
       whole : nat C + nat B - nat M * nat G ≡ nat E
       whole = ap₂ _-_ (sym (nat-add C B) ∙ ap nat (sym sums) ∙ nat-add E (M *ⁿ G)) (sym (nat-mul M G)) ∙ ring2 ℚ-ring (λ e k. (e ⊕ k) ⊝ k := e) tt (nat E) (nat (M *ⁿ G))

@@ -24,7 +24,7 @@ use Rattle.distance.specs.Errors.{U, unit-pos}
 use Rattle.distance.specs.Recursion.{Steps, recursion-close}
 use Rattle.distance.specs.Start.{start-close}
 use Rattle.distance.specs.Lives.{members, W, rate}
-use Rattle.distance.specs.Transform.{calm-fair, transform-close}
+use Rattle.distance.specs.Transform.{limited-fair, transform-close}
 use Rattle.distance.specs.Members.{Priceable, members-good, members-share, errors-are, group, start-is}
 
 seven : (E : ℕ) → E ≤ⁿ most-truncation → 7 *ⁿ E ≤ⁿ unit *ⁿ 3
@@ -68,12 +68,12 @@ module _ (X r a : ℕ) (ms : List Life) (small : r ≤ⁿ 12) (p : Priceable r a
   unfolding rate
   at-start =
       subst (λ (y : Cell). abs (ofℤ (y .f) - U * F 0) ≤ nat (y .R)) (sym (cellAt-zero (entries (terms X r a ms) X) first))
-      (subst (λ y. abs (ofℤ (start (lambda a ms) ms) - U * y) ≤ nat (startBound (lambda a ms) ms)) (sym (F-start ∙ start-is r a ms (p .calm) (p .folded)))
+      (subst (λ y. abs (ofℤ (start (lambda a ms) ms) - U * y) ≤ nat (startBound (lambda a ms) ms)) (sym (F-start ∙ start-is r a ms (p .limited) (p .folded)))
       (start-close (lambda a ms) ms))
 
   pub rounded : (x : ℕ) → x ≤ⁿ X → abs (ofℤ (cell x .f) - U * F x) ≤ nat (cell x .R)
   rounded = recursion-close X (D (terms X r a ms)) (H (terms X r a ms)) (λ x. cell x .f) (λ x. cell x .R) steps T F
-      (transform-close X r a ms small (all-map calm-fair ms (p .calm))) at-start F-step
+      (transform-close X r a ms small (all-map limited-fair ms (p .limited))) at-start F-step
 
   -- ---- the cut
   abbrev E : ℕ
@@ -91,7 +91,7 @@ module _ (X r a : ℕ) (ms : List Life) (small : r ≤ⁿ 12) (p : Priceable r a
           (≤-trans (nat-le (seven E (p .truncation-within))) (≤-of-eq (nat-mul unit 3))))
 
       whole : sum (suc X) (λ x. abs (F x - P x)) ≤ nat 2 * over (nat E) unit
-      whole = total-63 (members r ms) (members-share r ms (p .calm) (p .folded)) (W a ms) (rate a ms) (group r a ms p) X r (members-good r ms (p .calm) (p .folded)) F
+      whole = total-63 (members r ms) (members-share r ms (p .limited) (p .folded)) (W a ms) (rate a ms) (group r a ms p) X r (members-good r ms (p .limited) (p .folded)) F
           (record { start = F-start; step = F-step }) (over (nat E) unit) (≤-of-eq (errors-are r ms)) tiny
 
   -- ---- together

@@ -29,7 +29,7 @@ use Rattle.distance.specs.AverageExcess.{average-excess}
 
 -- what acceptance gives of the lives
 pub priceable : (fund : FundFile) (n : Lengths) → Accepts fund n (fundCells (fund .header) (lives fund)) → Priceable (fund .header .order) (fund .header .frequency) (lives fund)
-priceable fund n a = record { calm = a .calm-lives; folded = all-folded fund; load-within = a .load-within; truncation-within = a .truncation-within }
+priceable fund n a = record { limited = a .limited-lives; folded = all-folded fund; load-within = a .load-within; truncation-within = a .truncation-within }
 
 module _ (fund : FundFile) (n : Lengths) (ok : FundOk fund) (a : Accepts fund n (fundCells (fund .header) (lives fund))) where
   abbrev X : ℕ
@@ -83,4 +83,4 @@ average file n fund r e z =
     let c = answer-accepted file n fund r e in
     let a = accepts fund n (fundCells (fund .header) (lives fund)) (c .verdict-is) in
     ap (λ (x : Answer). exactPremiumAt fund (x .mean) *ℤ pos (10 ^ (6 * singles (lives fund)))) (c .answer-is)
-    ∙ average-excess (fund .header .horizon) (fund .header .order) (fund .header .frequency) (lives fund) (a .calm-lives) (all-folded fund) z (fund .header .deductible) (a .deductible)
+    ∙ average-excess (fund .header .horizon) (fund .header .order) (fund .header .frequency) (lives fund) (a .limited-lives) (all-folded fund) z (fund .header .deductible) (a .deductible)

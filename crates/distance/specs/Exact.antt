@@ -27,10 +27,10 @@ use Rattle.fund.specs.Base.{if_then_else_, total, sumℤ}
 use Rattle.fund.specs.Folding.{stay, single}
 use Rattle.fund.specs.Transform.{unit, lambda}
 use Rattle.fund.specs.Exact.{factorial, singles, denominator, shifted, one, singlePart, weightAt, convolved, fold, series, replacedPart, power, exponential, exact}
-use Rattle.laws.specs.Accepted.{All, Calm}
+use Rattle.laws.specs.Accepted.{All, Limited}
 use Rattle.laws.specs.Cells.{sumℤ-is, sum-is}
 use Rattle.distance.specs.Errors.{U, unit-pos, nat-units}
-use Rattle.distance.specs.Lives.{memberOf, members, W, rate, FoldedLife, calm-folded}
+use Rattle.distance.specs.Lives.{memberOf, members, W, rate, FoldedLife, limited-folded}
 
 -- 10^n in ℚ
 abbrev pub ten : ℚ
@@ -64,7 +64,7 @@ six-more g = ap (powQ ten) e ∙ powQ-add ten 6 (6 *ⁿ g) ∙ ap (λ x. x * pow
     e : 6 *ⁿ (1 +ⁿ g) ≡ 6 +ⁿ 6 *ⁿ g
     e = omega arith
 
-pub single-is : (r : ℕ) (ms : List Life) → All Calm ms → All FoldedLife ms → (x : ℕ) → nat (singlePart ms x) ≡ sixes ms * ownProduct (members r ms) x
+pub single-is : (r : ℕ) (ms : List Life) → All Limited ms → All FoldedLife ms → (x : ℕ) → nat (singlePart ms x) ≡ sixes ms * ownProduct (members r ms) x
 unfolding singlePart singles total members one
 single-is r [] c f zero = ofℤ-one ∙ sym (ℚ-ring .mul-one oneQ)
 single-is r [] c f (suc x) = nat-zero ∙ sym (L.mul-zero ℚ-ring oneQ)
@@ -93,7 +93,7 @@ single-is r (m ∷ ms) c f x = go (single m) refl (single-is r ms (c .1) (f .1))
         ∙ ring7 ℚ-ring (λ p q i n a b c. p ⊗ (n ⊗ a) ⊕ q ⊗ (n ⊗ b) ⊕ i ⊗ (n ⊗ c) := n ⊗ (p ⊗ a ⊕ q ⊗ b ⊕ i ⊗ c)) tt (nat (stay m)) (nat (m .q)) (nat (m .i)) G (P x) (shift (m .d) P x) (shift (m .e) P x)
         ∙ ap (λ y. G * y) (sym (over-ok S 1000000 (omega arith)))
         ∙ ring3 ℚ-ring (λ n a b. n ⊗ (a ⊗ b) := (a ⊗ n) ⊗ b) tt G (nat 1000000) (over S 1000000)
-        ∙ ap₂ _*_ (sym (six-more (singles ms))) (sym (own-step (m .q) (m .i) (stay m) 1000000 (m .d) (m .e) (calm-folded m (c .0) (f .0) e) (memberOf r m .e) P x))
+        ∙ ap₂ _*_ (sym (six-more (singles ms))) (sym (own-step (m .q) (m .i) (stay m) 1000000 (m .d) (m .e) (limited-folded m (c .0) (f .0) e) (memberOf r m .e) P x))
     go false e ih = ih x ∙ ap (λ y. powQ ten (6 *ⁿ y) * P x) z
       where
         z : singles ms ≡ 0 +ⁿ singles ms
@@ -194,7 +194,7 @@ denominator-is X ms =
 abbrev pub P : ℕ → ℕ → List Life → Ser
 P r a ms = distribution (expSum 63 (negQ (rate a ms))) (poisson (W a ms)) (members r ms)
 
-pub exact-is : (X r a : ℕ) (ms : List Life) → All Calm ms → All FoldedLife ms → (x : ℕ) → x ≤ⁿ X → ofℤ (exact X a ms x) ≡ nat (denominator X ms) * P r a ms x
+pub exact-is : (X r a : ℕ) (ms : List Life) → All Limited ms → All FoldedLife ms → (x : ℕ) → x ≤ⁿ X → ofℤ (exact X a ms x) ≡ nat (denominator X ms) * P r a ms x
 unfolding exact
 exact-is X r a ms c f x l =
     ofℤ-mul (exponential a ms) (sumℤ (suc x) g)

@@ -20,7 +20,7 @@ use Rattle.fund.specs.Reading.{FundFile}
 use Rattle.fund.specs.Folding.{rateAt, folded, life, lives, claim, stay, single}
 use Rattle.fund.specs.Transform.{unit, w, lambda}
 use Rattle.fund.specs.Exact.{weightAt}
-use Rattle.laws.specs.Accepted.{All, Calm}
+use Rattle.laws.specs.Accepted.{All, Limited}
 
 -- a life's share of the truncation figure, in units
 abbrev pub shareOf : ℕ → Life → ℕ
@@ -62,7 +62,7 @@ all-folded file = go (file .members)
     go (m ∷ rest) = (folded-life (rateAt (file .rates) (m .age)) m, go rest)
 
 -- a group 1 life that is accepted
-pub calm-folded : (m : Life) → Calm m → FoldedLife m → single m ≡ true → Folded (m .q) (m .i) (stay m) 1000000 (m .d) (m .e)
-calm-folded m c f s =
+pub limited-folded : (m : Life) → Limited m → FoldedLife m → single m ≡ true → Folded (m .q) (m .i) (stay m) 1000000 (m .d) (m .e)
+limited-folded m c f s =
     let h = c s in
     record { half = omega arith; total = omega arith; q-folded = f .q-folded; i-folded = f .i-folded }

@@ -30,25 +30,25 @@ use Rattle.fund.specs.Folding.{claim, stay, single}
 use Rattle.fund.specs.Limits.{most-load, most-truncation}
 use Rattle.fund.specs.Transform.{unit, weight, lambda, load, w, truncation}
 use Rattle.fund.specs.Exact.{weightAt}
-use Rattle.laws.specs.Accepted.{All, Calm}
+use Rattle.laws.specs.Accepted.{All, Limited}
 use Rattle.distance.specs.Errors.{U, unit-pos}
 use Rattle.distance.specs.Start.{stays}
-use Rattle.distance.specs.Lives.{shareOf, memberOf, members, W, rate, FoldedLife, calm-folded}
+use Rattle.distance.specs.Lives.{shareOf, memberOf, members, W, rate, FoldedLife, limited-folded}
 use Rattle.distance.specs.Exact.{W-zero}
 
 -- what refusals 6 to 8 leave
 pub record Priceable (r a : ℕ) (ms : List Life) : Type 0 where
-  pub calm : All Calm ms
+  pub limited : All Limited ms
   pub folded : All FoldedLife ms
   pub load-within : load a ms ≤ⁿ most-load
   pub truncation-within : truncation r ms ≤ⁿ most-truncation
 
 -- ---- group 1
-life-good : (r : ℕ) (m : Life) → Calm m → FoldedLife m → single m ≡ true → Good r (memberOf r m)
+life-good : (r : ℕ) (m : Life) → Limited m → FoldedLife m → single m ≡ true → Good r (memberOf r m)
 unfolding w
 life-good r m c f s =
     let h = c s in
-    figure-good unit (m .q) (m .i) (stay m) 1000000 (m .d) (m .e) unit-pos (calm-folded m c f s) (w m) refl
+    figure-good unit (m .q) (m .i) (stay m) 1000000 (m .d) (m .e) unit-pos (limited-folded m c f s) (w m) refl
     (λ n. up-low (w m n *ⁿ claim m) (stay m) (omega arith))
     r (shareOf r m) (stay m ∸ claim m) (omega arith)
     (omega (arith, up-low (w m (suc r) *ⁿ stay m) H (positive (stay m ∸ claim m) (omega arith)), mul-comm H (shareOf r m)))
@@ -60,7 +60,7 @@ life-good r m c f s =
     H : ℕ
     H = (stay m ∸ claim m) *ⁿ suc r
 
-pub members-good : (r : ℕ) (ms : List Life) → All Calm ms → All FoldedLife ms → M.All (Good r) (members r ms)
+pub members-good : (r : ℕ) (ms : List Life) → All Limited ms → All FoldedLife ms → M.All (Good r) (members r ms)
 unfolding members
 members-good r [] c f = tt
 members-good r (m ∷ ms) c f = go (single m) refl (members-good r ms (c .1) (f .1))
@@ -69,13 +69,13 @@ members-good r (m ∷ ms) c f = go (single m) refl (members-good r ms (c .1) (f 
     go true s h = (life-good r m (c .0) (f .0) s, h)
     go false s h = h
 
-pub members-share : (r : ℕ) (ms : List Life) → All Calm ms → All FoldedLife ms → M.All Share (members r ms)
+pub members-share : (r : ℕ) (ms : List Life) → All Limited ms → All FoldedLife ms → M.All Share (members r ms)
 unfolding members
 members-share r [] c f = tt
 members-share r (m ∷ ms) c f = go (single m) refl (members-share r ms (c .1) (f .1))
   where
     go : (b : Bool) → single m ≡ b → M.All Share (members r ms) → M.All Share (if b then memberOf r m ∷ members r ms else members r ms)
-    go true s h = (member-share (m .q) (m .i) (stay m) 1000000 (m .d) (m .e) (calm-folded m (c .0) (f .0) s) (memberOf r m .e), h)
+    go true s h = (member-share (m .q) (m .i) (stay m) 1000000 (m .d) (m .e) (limited-folded m (c .0) (f .0) s) (memberOf r m .e), h)
     go false s h = h
 
 pub errors-are : (r : ℕ) (ms : List Life) → errors (members r ms) ≡ over (nat (truncation r ms)) unit
@@ -161,7 +161,7 @@ group r a ms p =
         ∙ sym (nat-sum n (weightAt a ms))
 
 -- ---- the exact start
-own-start : (r : ℕ) (ms : List Life) → All Calm ms → All FoldedLife ms → ownProduct (members r ms) 0 ≡ stays ms
+own-start : (r : ℕ) (ms : List Life) → All Limited ms → All FoldedLife ms → ownProduct (members r ms) 0 ≡ stays ms
 unfolding members stays
 own-start r [] c f = refl
 own-start r (m ∷ ms) c f = go (single m) refl (own-start r ms (c .1) (f .1))
@@ -171,5 +171,5 @@ own-start r (m ∷ ms) c f = go (single m) refl (own-start r ms (c .1) (f .1))
     go true s h = ap₂ _*_ (ap (λ z. over (nat (stay m)) 1000000 * (oneQ + z)) (life-good r m (c .0) (f .0) s .z-zero) ∙ ring1 ℚ-ring (λ p. p ⊗ (𝟏 ⊕ 𝟎) := p) tt (over (nat (stay m)) 1000000)) h
     go false s h = h
 
-pub start-is : (r a : ℕ) (ms : List Life) → All Calm ms → All FoldedLife ms → exact 63 (rate a ms) (W a ms) (members r ms) 0 ≡ expSum 63 (negQ (rate a ms)) * stays ms
+pub start-is : (r a : ℕ) (ms : List Life) → All Limited ms → All FoldedLife ms → exact 63 (rate a ms) (W a ms) (members r ms) 0 ≡ expSum 63 (negQ (rate a ms)) * stays ms
 start-is r a ms c f = ap (λ x. expSum 63 (negQ (rate a ms)) * x) (ap₂ _*_ (ring1 ℚ-ring (λ x. 𝟎 ⊕ 𝟏 ⊗ x := x) tt oneQ) (own-start r ms c f) ∙ L.one-mul ℚ-ring (stays ms))

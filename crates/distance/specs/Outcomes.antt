@@ -13,7 +13,7 @@ use Rattle.fund.specs.declared.Life.{Life}
 use Rattle.fund.specs.Base.{if_then_else_, total}
 use Rattle.fund.specs.Folding.{stay, single}
 use Rattle.fund.specs.Exact.{singles, shifted, one, singlePart, Outcome, after, outcomes, excess}
-use Rattle.laws.specs.Accepted.{All, Calm}
+use Rattle.laws.specs.Accepted.{All, Limited}
 
 -- the weighted sum of h of the totals claimed
 abbrev pub expect : (ℕ → ℕ) → List Outcome → ℕ
@@ -132,13 +132,13 @@ six-more n = ap (λ y. 10 ^ y) e ∙ simp pow-succ' (omega arith)
     e = omega arith
 
 -- p + q + i = 1,000,000
-whole : (m : Life) → Calm m → single m ≡ true → (x : ℕ) → stay m * x + (m .q * x + m .i * x) ≡ 1000000 * x
+whole : (m : Life) → Limited m → single m ≡ true → (x : ℕ) → stay m * x + (m .q * x + m .i * x) ≡ 1000000 * x
 whole m c s x =
     let h = c s in
     let e : stay m + (m .q + m .i) ≡ 1000000 = omega arith in
     omega (arith, ap (λ y. y * x) e, add-mul (stay m) (m .q + m .i) x, add-mul (m .q) (m .i) x)
 
-pub weights-are : (ms : List Life) → All Calm ms → expect (λ c. 1) (outcomes ms) ≡ 10 ^ (6 * singles ms)
+pub weights-are : (ms : List Life) → All Limited ms → expect (λ c. 1) (outcomes ms) ≡ 10 ^ (6 * singles ms)
 unfolding singles outcomes total
 weights-are [] c = refl
 weights-are (m ∷ ms) c = go (single m) refl (weights-are ms (c .1))
@@ -166,7 +166,7 @@ expect-add d (o ∷ os) =
 unfoldable pub claims : List Life → ℕ
 claims ms = total (λ m. if single m then m .q * m .d + m .i * m .e else 0) ms
 
-pub claims-are : (ms : List Life) → All Calm ms → 1000000 * expect (λ c. c) (outcomes ms) ≡ claims ms * 10 ^ (6 * singles ms)
+pub claims-are : (ms : List Life) → All Limited ms → 1000000 * expect (λ c. c) (outcomes ms) ≡ claims ms * 10 ^ (6 * singles ms)
 unfolding claims singles outcomes total
 claims-are [] c = refl
 claims-are (m ∷ ms) c = go (single m) refl (weights-are ms (c .1)) (claims-are ms (c .1))

@@ -28,7 +28,7 @@ use Rattle.fund.specs.Base.{if_then_else_, total, alternate}
 use Rattle.fund.specs.Folding.{claim, stay, single}
 use Rattle.fund.specs.Transform.{unit, row, Term, placeOf, placed, termOf, rowTerms, singleTerms, weight, replacedTerm, replacedTerms, terms, sumD, sumH, D, H}
 use Rattle.fund.specs.Exact.{weightAt}
-use Rattle.laws.specs.Accepted.{All, Calm}
+use Rattle.laws.specs.Accepted.{All, Limited}
 use Rattle.distance.specs.Errors.{U, unit-pos, alternate-close}
 use Rattle.distance.specs.Lives.{memberOf, members, W}
 use Rattle.distance.specs.Triangle.{placed-close}
@@ -75,8 +75,8 @@ append-close k ts us y z h g =
 abbrev pub Fair : Life → Type 0
 Fair m = single m ≡ true → (0 < stay m) × (claim m ≤ⁿ stay m)
 
-pub calm-fair : (m : Life) → Calm m → Fair m
-calm-fair m calm s = let h = calm s in (omega arith, omega arith)
+pub limited-fair : (m : Life) → Limited m → Fair m
+limited-fair m limited s = let h = limited s in (omega arith, omega arith)
 
 -- a term that is not placed although its place is within X
 not-placed : (X : ℕ) (m : Life) (n l : ℕ) → l ≤ⁿ n → placeOf m n l ≤ⁿ X → T (not (placed X m n l)) → rowsQ (m .q) (m .i) (stay m) n l ≡ zeroQ

@@ -43,7 +43,7 @@ module _ (X r a : ℕ) (ms : List Life) (small : r ≤ⁿ 12) (p : Priceable r a
   gap-is : (x : ℕ) → x ≤ⁿ X → ofℤ (gap x) ≡ nat Δ * off x
   gap-is x l =
       ofℤ-sub (pos Δ *ℤ y x .f) (pos unit *ℤ exact X a ms x)
-      ∙ ap₂ _-_ (ofℤ-mul (pos Δ) (y x .f)) (ofℤ-mul (pos unit) (exact X a ms x) ∙ ap (λ z. U * z) (exact-is X r a ms (p .calm) (p .folded) x l))
+      ∙ ap₂ _-_ (ofℤ-mul (pos Δ) (y x .f)) (ofℤ-mul (pos unit) (exact X a ms x) ∙ ap (λ z. U * z) (exact-is X r a ms (p .limited) (p .folded) x l))
       ∙ ring4 ℚ-ring (λ d f u q. d ⊗ f ⊝ u ⊗ (d ⊗ q) := d ⊗ (f ⊝ u ⊗ q)) tt (nat Δ) (ofℤ (y x .f)) U (P X r a ms small p x)
 
   gap-abs : (x : ℕ) → x ≤ⁿ X → nat (natAbs (gap x)) ≡ nat Δ * abs (off x)
@@ -81,7 +81,7 @@ module _ (X r a : ℕ) (ms : List Life) (small : r ≤ⁿ 12) (p : Priceable r a
         ∙ ap₂ _+_ (ofℤ-mul (pos mean -ℤ pos (M *ⁿ 10 ^ 12)) (pos Δ) ∙ ap (λ z. z * nat Δ) (ofℤ-sub (pos mean) (pos (M *ⁿ 10 ^ 12)) ∙ ap (λ z. nat mean - z) (nat-units M)))
         (ap ofℤ (sumℤ-is M g) ∙ ofℤ-sum M g
         ∙ sum-ext M (λ x. ofℤ (g x)) (λ x. nat Δ * (nat (M ∸ x) * (U * P X r a ms small p x)))
-        (λ x l. ofℤ-mul (pos ((M ∸ x) *ⁿ 10 ^ 12)) (exact X a ms x) ∙ ap₂ _*_ (nat-units (M ∸ x)) (exact-is X r a ms (p .calm) (p .folded) x (omega arith))
+        (λ x l. ofℤ-mul (pos ((M ∸ x) *ⁿ 10 ^ 12)) (exact X a ms x) ∙ ap₂ _*_ (nat-units (M ∸ x)) (exact-is X r a ms (p .limited) (p .folded) x (omega arith))
         ∙ ring4 ℚ-ring (λ m u d q. m ⊗ u ⊗ (d ⊗ q) := d ⊗ (m ⊗ (u ⊗ q))) tt (nat (M ∸ x)) U (nat Δ) (P X r a ms small p x))
         ∙ sum-mul M (nat Δ) (λ x. nat (M ∸ x) * (U * P X r a ms small p x)))
         ∙ ring3 ℚ-ring (λ c d s. c ⊗ d ⊕ d ⊗ s := d ⊗ (c ⊕ s)) tt (nat mean - nat M * U) (nat Δ) (sum M (λ x. nat (M ∸ x) * (U * P X r a ms small p x)))

@@ -57,7 +57,7 @@ module _ (X r a : ℕ) (ms : List Life) (small : r ≤ⁿ 12) (p : Priceable r a
       -- the mass, in units
       mass : sum (suc x) (λ k. U * abs (Q k)) ≤ U * over (nat 8) 7
       mass = ≤-trans (≤-of-eq (sum-mul (suc x) U (λ k. abs (Q k))))
-          (≤-mul-left U (nat-nn unit) (mass-63 (members r ms) (members-share r ms (p .calm) (p .folded)) (W a ms) (rate a ms) (group r a ms p) x))
+          (≤-mul-left U (nat-nn unit) (mass-63 (members r ms) (members-share r ms (p .limited) (p .folded)) (W a ms) (rate a ms) (group r a ms p) x))
 
       one : (k : ℕ) → k < suc x → nat (natAbs (y k .f)) ≤ abs (off k) + U * abs (Q k)
       one k h = ≤-trans (≤-of-eq (sym (abs-ofℤ (y k .f)) ∙ ap abs (ring2 ℚ-ring (λ f q. f := (f ⊝ q) ⊕ q) tt (ofℤ (y k .f)) (U * Q k))))

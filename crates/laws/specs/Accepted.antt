@@ -54,18 +54,18 @@ first-none met at (a ∷ rest) e = go (met a) refl e (first-none met (suc at) re
 
 -- ---- what acceptance says of a fund
 -- group 1's q + i is below a half
-abbrev pub Calm : Life → Type 0
-Calm m = single m ≡ true → claim m < half-rate
+abbrev pub Limited : Life → Type 0
+Limited m = single m ≡ true → claim m < half-rate
 
-calm : (m : Life) → half m ≡ false → Calm m
+limited : (m : Life) → half m ≡ false → Limited m
 unfolding half
-calm m e s = leb-false half-rate (claim m) (rw s at e)
+limited m e s = leb-false half-rate (claim m) (rw s at e)
 
 pub record Accepts (file : FundFile) (n : Lengths) (cells : List Cell) : Type 0 where
   pub editions : file .header .rates ≡ file .header .members
   pub deductible : file .header .deductible ≤ suc (file .header .horizon)
   pub matched : All (λ m. unmatched (file .rates) m ≡ false) (file .members)
-  pub calm-lives : All Calm (lives file)
+  pub limited-lives : All Limited (lives file)
   pub load-within : load (file .header .frequency) (lives file) ≤ most-load
   pub truncation-within : truncation (file .header .order) (lives file) ≤ most-truncation
   pub D-long : file .header .horizon < n .D
@@ -94,7 +94,7 @@ accepts file n cells e =
       editions = eqb-true _ _ (not-false (eqb (file .header .rates) (file .header .members)) (at0-none _ (e3 .0)));
       deductible = ltb-false _ _ (at0-none _ (e4 .0));
       matched = first-none _ _ _ (e5 .0);
-      calm-lives = all-map calm (lives file) (first-none _ _ _ (e6 .0));
+      limited-lives = all-map limited (lives file) (first-none _ _ _ (e6 .0));
       load-within = ltb-false _ _ (at0-none _ (e7 .0));
       truncation-within = ltb-false _ _ (at0-none _ (e8 .0));
       D-long = leb-false _ _ (sH .0);

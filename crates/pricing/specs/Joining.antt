@@ -22,7 +22,7 @@ use Rattle.fund.specs.Reading.{FundFile, read, stopped, reading}
 use Rattle.fund.specs.Folding.{rateAt, folded, life, lives, claim}
 use Rattle.fund.specs.Refusals.{half, Lengths, refuse, valued, matched, verdict}
 use Rattle.fund.specs.Answer.{namesLine, part, refused, fundCells, answerOf, answerTo, answer}
-use Rattle.laws.specs.Accepted.{All, Calm, all-map, refuse-accepted, first-none}
+use Rattle.laws.specs.Accepted.{All, Limited, all-map, refuse-accepted, first-none}
 use Rattle.laws.specs.Ranges.{RateOk, MemberOk, FundOk}
 use Rattle.widths.specs.Lives.{InRange}
 
@@ -36,14 +36,14 @@ rate-found (s ∷ rest) age r k e = go (eqb (s .age) age) e (rate-found rest age
     go true h later = let z : s ≡ r = cc in subst RateOk z (k .0)
     go false h later = later h
 
-folded-in : (o : Option Rate) (m : Member) → ((r : Rate) → o ≡ some r → RateOk r) → MemberOk m → Calm (folded o m) → InRange (folded o m)
+folded-in : (o : Option Rate) (m : Member) → ((r : Rate) → o ≡ some r → RateOk r) → MemberOk m → Limited (folded o m) → InRange (folded o m)
 unfolding folded
 folded-in none m k ok c =
     record {
       group-least = ok .group-least;
       group-most = ok .group-most;
       rates = omega arith;
-      calm = c;
+      limited = c;
       death = ok .d;
       disability = ok .e;
       no-death = λ h. refl;
@@ -54,7 +54,7 @@ folded-in (some r) m k ok c =
       group-least = ok .group-least;
       group-most = ok .group-most;
       rates = both (eqb (m .d) 0) (eqb (m .e) 0);
-      calm = c;
+      limited = c;
       death = ok .d;
       disability = ok .e;
       no-death = λ h. rw h;
@@ -67,13 +67,13 @@ folded-in (some r) m k ok c =
     both false true = let s = k r refl in omega (arith, s .q)
     both false false = let s = k r refl in omega (arith, s .both)
 
-members-in : (rates : List Rate) (ms : List Member) → All RateOk rates → All MemberOk ms → All Calm (map (life rates) ms) → All InRange (map (life rates) ms)
+members-in : (rates : List Rate) (ms : List Member) → All RateOk rates → All MemberOk ms → All Limited (map (life rates) ms) → All InRange (map (life rates) ms)
 unfolding life
 members-in rates [] k ok c = tt
 members-in rates (m ∷ ms) k ok c =
     (folded-in (rateAt rates (m .age)) m (λ r e. rate-found rates (m .age) r k e) (ok .0) (c .0), members-in rates ms k (ok .1) (c .1))
 
-not-half : (m : Life) → half m ≡ false → Calm m
+not-half : (m : Life) → half m ≡ false → Limited m
 unfolding half
 not-half m e s = leb-false half-rate (claim m) (rw s at e)
 

@@ -16,7 +16,7 @@ use Rattle.laws.specs.Cells.{addF}
 use Rattle.valuation.specs.declared.whole.Sums.{Sums}
 use Rattle.widths.specs.Sign.{signed}
 use Rattle.valuation.specs.Sums.{sumOf, WithPart}
-use Rattle.valuation.specs.Lent.{Calm, most-error}
+use Rattle.valuation.specs.Lent.{Limited, most-error}
 use Rattle.valuation.specs.Recursion.{opposite, Added}
 use Rattle.valuation.proofs.Signs.{nearest-product}
 
@@ -48,23 +48,23 @@ zero-size : (z : ℤ) → natAbs z ≡ 0 → z ≡ pos 0
 zero-size (pos n) e = ap pos e
 zero-size (negsuc n) e = absurd (omega arith)
 
-module _ (k : Entry) (y : Cell) (calm : Calm y) (error : k .H ≤ most-error) where
+module _ (k : Entry) (y : Cell) (limited : Limited y) (error : k .H ≤ most-error) where
   near-most : near (natAbs (k .D) * natAbs (y .f)) unit ≤ 2 * natAbs (k .D)
   unfolding unit
   near-most =
       near-below (natAbs (k .D) * natAbs (y .f)) unit (2 * natAbs (k .D)) unit-positive
-      (omega (arith, N.mul-le-mul-left (natAbs (k .D)) (calm .level)))
+      (omega (arith, N.mul-le-mul-left (natAbs (k .D)) (limited .level)))
 
   D-most : up (natAbs (k .D) * y .R) unit ≤ natAbs (k .D)
   unfolding unit
   D-most =
-      let h : y .R ≤ 10 ^ 12 = omega (arith, calm .narrow) in
+      let h : y .R ≤ 10 ^ 12 = omega (arith, limited .narrow) in
       up-least (natAbs (k .D) * y .R) unit (natAbs (k .D)) unit-positive (omega (arith, N.mul-le-mul-left (natAbs (k .D)) h))
 
   pub H-most : up (k .H * (natAbs (y .f) + y .R)) unit ≤ 3 * most-error
   unfolding unit
   H-most =
-      let g : natAbs (y .f) + y .R ≤ 3 * 10 ^ 12 = omega (arith, calm .level, calm .narrow) in
+      let g : natAbs (y .f) + y .R ≤ 3 * 10 ^ 12 = omega (arith, limited .level, limited .narrow) in
       up-least (k .H * (natAbs (y .f) + y .R)) unit (3 * most-error) unit-positive (omega (arith, N.mul-le-mul error g))
 
   pub within : (n a b : ℕ) → Parts k y n a b → Within k n a b

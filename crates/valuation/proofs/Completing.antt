@@ -1,4 +1,4 @@
--- What a valuation that passes refusals 7 to 9 answers: no cell leaves its limit (not-swollen), a wide cell is refusal 10
+-- What a valuation that passes refusals 7 to 9 answers: no cell leaves its limit (not-large), a wide cell is refusal 10
 -- (answers-wide), and without one the slices and the figures are the fund's (below-deductible, answers-accepted).
 use mathlib.Core.Path.{_≡_, refl, sym, _∙_, ap, ap₂, subst}
 use mathlib.Core.Logic.{⊎-elim}
@@ -34,8 +34,8 @@ use Rattle.valuation.specs.declared.premium.Priced.{Priced}
 use Rattle.valuation.specs.Inside.{HeaderIn}
 use Rattle.valuation.specs.Lent.{cellIn, most-cell}
 use Rattle.valuation.specs.declared.recursion.Recursed.{Recursed}
-use Rattle.valuation.specs.declared.recursion.Recursed.the-variants.{Done, Wide, Swell}
-use Rattle.valuation.specs.Recursion.{Filled, WideAt, SwellAt, Recurs}
+use Rattle.valuation.specs.declared.recursion.Recursed.the-variants.{Done, Wide, Large}
+use Rattle.valuation.specs.Recursion.{Filled, WideAt, LargeAt, Recurs}
 use Rattle.valuation.specs.Premium.{Cells, PricedAs, levels, most-mean}
 use Rattle.valuation.specs.Valued.{left, outcome, lengths, Zeros, Answers, Fit, Stepped}
 use Rattle.valuation.proofs.Valuing.{priceable-of}
@@ -49,8 +49,8 @@ module _ {fund : Fund} {ms : List Life} {d d′ : List ℤ} {h h′ : List ℕ} 
   pub wide-by : (x : ℕ) → s ≡ Wide x → WideAt (fund .horizon) (fundCell fund ms) x
   wide-by x e = subst (Recurs (fund .horizon) (fundCell fund ms) f f′ r r′) e (k .recurs)
 
-  pub swell-by : (x : ℕ) → s ≡ Swell x → SwellAt (fund .horizon) (fundCell fund ms) x
-  swell-by x e = subst (Recurs (fund .horizon) (fundCell fund ms) f f′ r r′) e (k .recurs)
+  pub large-by : (x : ℕ) → s ≡ Large x → LargeAt (fund .horizon) (fundCell fund ms) x
+  large-by x e = subst (Recurs (fund .horizon) (fundCell fund ms) f f′ r r′) e (k .recurs)
 
 drop-replicate : {A : Type 0} (k n : ℕ) (a : A) → drop k (replicate n a) ≡ replicate (n - k) a
 drop-replicate zero n a = ap (λ m. replicate m a) (let z : n ≡ n - 0 = omega arith in z)
@@ -70,14 +70,14 @@ module _ (count : ℕ) (groups q i d e : List ℕ) (l : Lives count groups q i d
   abbrev X : ℕ
   X = fund .horizon
 
-  pub not-swollen : (x : ℕ) → SwellAt X (fundCell fund ms) x → ⊥
+  pub not-large : (x : ℕ) → LargeAt X (fundCell fund ms) x → ⊥
   unfolding fundTerms fundStart
-  not-swollen x s =
+  not-large x s =
       let small = f-small X (fund .order) (fund .frequency) ms (h .order) (priceable-of count groups q i d e l fund n fit) (h .horizon) x (s .within) narrow in
-      omega (arith, small, s .swell)
+      omega (arith, small, s .large)
     where
       narrow : (k : ℕ) → k ≤ x → fundCell fund ms k .R ≤ most-bound
-      narrow k g = ⊎-elim (λ e. subst (λ z. fundCell fund ms z .R ≤ most-bound) (sym e) (s .narrow)) (λ b. s .calm k b .narrow) (N.eq-or-lt-of-le g)
+      narrow k g = ⊎-elim (λ e. subst (λ z. fundCell fund ms z .R ≤ most-bound) (sym e) (s .narrow)) (λ b. s .limited k b .narrow) (N.eq-or-lt-of-le g)
 
   -- the last refusal is what is left
   rest : valued fund ms n (fundCells fund ms) ≡ refuse refusal.Wide (first wide 0 (table (suc X) (fundCell fund ms))) Accepted
@@ -91,7 +91,7 @@ module _ (count : ℕ) (groups q i d e : List ℕ) (l : Lives count groups q i d
   valued-wide x w =
       rest
       ∙ ap (λ o. refuse refusal.Wide o Accepted)
-      (first-some-of wide 0 (suc X) x (fundCell fund ms) (let g = w .within in omega arith) (λ k g. narrow-cell (fundCell fund ms k) (w .calm k g .narrow)) (wide-cell (fundCell fund ms x) (w .wide)))
+      (first-some-of wide 0 (suc X) x (fundCell fund ms) (let g = w .within in omega arith) (λ k g. narrow-cell (fundCell fund ms k) (w .limited k g .narrow)) (wide-cell (fundCell fund ms x) (w .wide)))
       ∙ ap (Refused refusal.Wide) (let z : 0 + x ≡ x = omega arith in z)
 
   pub answers-wide : (v : Valued) (ds : List ℤ) (hs : List ℕ) (fs : List ℤ) (rs : List ℕ) → Zeros n ds hs fs rs → (x : ℕ) → v ≡ none-valued true (Refused refusal.Wide x) →
@@ -103,7 +103,7 @@ module _ (count : ℕ) (groups q i d e : List ℕ) (l : Lives count groups q i d
     unfolding refuse
     valued-accepted =
         rest
-        ∙ ap (λ o. refuse refusal.Wide o Accepted) (first-none-of wide 0 (suc X) (fundCell fund ms) (λ k g. narrow-cell (fundCell fund ms k) (filled .calm k (omega arith) .narrow)))
+        ∙ ap (λ o. refuse refusal.Wide o Accepted) (first-none-of wide 0 (suc X) (fundCell fund ms) (λ k g. narrow-cell (fundCell fund ms k) (filled .limited k (omega arith) .narrow)))
 
     f-at : (x : ℕ) → x ≤ X → getD f′ x (pos 0) ≡ fundCell fund ms x .f
     f-at x g = sym (getD-take (suc X) f′ x (pos 0) (omega arith)) ∙ ap (λ t. getD t x (pos 0)) (filled .f-are) ∙ getD-table (suc X) (λ k. fundCell fund ms k .f) x (pos 0) (omega arith)
@@ -124,7 +124,7 @@ module _ (count : ℕ) (groups q i d e : List ℕ) (l : Lives count groups q i d
           f-long = omega (arith, h .deductible, length-take (suc X) f′, ap length (filled .f-are), length-table (suc X) (λ k. fundCell fund ms k .f));
           r-long = omega (arith, h .deductible, length-take (suc X) r′, ap length (filled .r-are), length-table (suc X) (λ k. fundCell fund ms k .R));
           levels-within = sums (fund .deductible) (h .deductible);
-          narrow = λ x g. let b = h .deductible in omega (arith, r-at x (omega arith), filled .calm x (omega arith) .narrow);
+          narrow = λ x g. let b = h .deductible in omega (arith, r-at x (omega arith), filled .limited x (omega arith) .narrow);
         }
       where
         sums : (m : ℕ) → m ≤ suc X → levels f′ m ≤ most-cell
@@ -133,7 +133,7 @@ module _ (count : ℕ) (groups q i d e : List ℕ) (l : Lives count groups q i d
             omega (
               arith,
               sumN-ext (suc m) (λ x. natAbs (getD f′ x (pos 0))) (λ x. natAbs (fundCell fund ms x .f)) (λ x k. ap natAbs (f-at x (omega arith))),
-              f-sum-small X (fund .order) (fund .frequency) ms (h .order) (priceable-of count groups q i d e l fund n fit) (h .horizon) m (omega arith) (λ k b. filled .calm k (omega arith) .narrow),
+              f-sum-small X (fund .order) (fund .frequency) ms (h .order) (priceable-of count groups q i d e l fund n fit) (h .horizon) m (omega arith) (λ k b. filled .limited k (omega arith) .narrow),
             )
 
     -- the figures and the slices

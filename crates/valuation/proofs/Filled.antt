@@ -19,7 +19,7 @@ use Rattle.laws.specs.Cells.{addF, addR, noEntry, cellAt-zero, cellAt-f, cellAt
 use Rattle.laws.specs.Tables.{length-table, getD-table}
 use Rattle.valuation.specs.declared.whole.Sums.{Sums}
 use Rattle.valuation.specs.Sums.{sumOf}
-use Rattle.valuation.specs.Lent.{cellIn, entryIn, entriesIn, cellOf, Calm}
+use Rattle.valuation.specs.Lent.{cellIn, entryIn, entriesIn, cellOf, Limited}
 use Rattle.valuation.specs.Recursion.{SumsTo, Known, Filled}
 
 abbrev cellFrom : ℤ → ℕ → Cell
@@ -53,15 +53,15 @@ module _ (X : ℕ) (d : List ℤ) (h : List ℕ) (f₀ : List ℤ) (r₀ : List 
   abbrev cell : ℕ → Cell
   cell = cellOf X d h f₀ r₀
 
-  pub filled-first : 0 < length f₀ → 0 < length r₀ → Calm (cellIn f₀ r₀ 0) → Filled 0 (cellOf X d h f₀ r₀) f₀ f₀ r₀ r₀
-  filled-first p q calm =
+  pub filled-first : 0 < length f₀ → 0 < length r₀ → Limited (cellIn f₀ r₀ 0) → Filled 0 (cellOf X d h f₀ r₀) f₀ f₀ r₀ r₀
+  filled-first p q limited =
       let e = cellAt-zero (entriesIn X d h) (cellIn f₀ r₀ 0) in
       record {
         f-are = front-first (λ x. cell x .f) f₀ (pos 0) p (sym (ap (λ (y : Cell). y .f) e));
         r-are = front-first (λ x. cell x .R) r₀ 0 q (sym (ap (λ (y : Cell). y .R) e));
         f-beyond = refl;
         r-beyond = refl;
-        calm = λ x l. let z : x ≡ 0 = omega arith in subst (λ x. Calm (cell x)) (sym z) (subst Calm (sym e) calm);
+        limited = λ x l. let z : x ≡ 0 = omega arith in subst (λ x. Limited (cell x)) (sym z) (subst Limited (sym e) limited);
       }
 
   module _ (f : List ℤ) (r : List ℕ) (last : ℕ) (filled : Filled last (cellOf X d h f₀ r₀) f₀ f r₀ r) where
@@ -72,7 +72,7 @@ module _ (X : ℕ) (d : List ℤ) (h : List ℕ) (f₀ : List ℤ) (r₀ : List 
         (front (suc last) (λ x. cell x .R) r x 0 (filled .r-are) (omega arith))
 
     pub filled-known : last < length f → last < length r → Known f r last
-    filled-known p q = record { f-long = p; r-long = q; calm = λ x l. subst Calm (sym (filled-cell x l)) (filled .calm x l) }
+    filled-known p q = record { f-long = p; r-long = q; limited = λ x l. subst Limited (sym (filled-cell x l)) (filled .limited x l) }
 
     entry : (k : ℕ) → k < X → entryIn d h k ≡ getD (entriesIn X d h) k noEntry
     entry k l = sym (getD-table X (entryIn d h) k noEntry l)
@@ -98,13 +98,13 @@ module _ (X : ℕ) (d : List ℤ) (h : List ℕ) (f₀ : List ℤ) (r₀ : List 
         ∙ sym (cellAt-R (entriesIn X d h) (cellIn f₀ r₀ 0) last (long l))
 
     pub filled-more : (z : ℤ) (n : ℕ) → suc last < length f → suc last < length r → z ≡ cellOf X d h f₀ r₀ (suc last) .f →
-        n ≡ cellOf X d h f₀ r₀ (suc last) .R → Calm (cellOf X d h f₀ r₀ (suc last)) →
+        n ≡ cellOf X d h f₀ r₀ (suc last) .R → Limited (cellOf X d h f₀ r₀ (suc last)) →
         Filled (suc last) (cellOf X d h f₀ r₀) f₀ (set f (suc last) z) r₀ (set r (suc last) n)
-    filled-more z n p q zf nr calm =
+    filled-more z n p q zf nr limited =
         record {
           f-are = front-more (suc last) (λ x. cell x .f) f z (filled .f-are) p zf;
           r-are = front-more (suc last) (λ x. cell x .R) r n (filled .r-are) q nr;
           f-beyond = beyond-more (suc last) f f₀ z (filled .f-beyond);
           r-beyond = beyond-more (suc last) r r₀ n (filled .r-beyond);
-          calm = λ x l. ⊎-elim (λ e. subst (λ x. Calm (cell x)) (sym e) calm) (λ g. filled .calm x (N.le-of-suc-le-suc g)) (N.eq-or-lt-of-le l);
+          limited = λ x l. ⊎-elim (λ e. subst (λ x. Limited (cell x)) (sym e) limited) (λ g. filled .limited x (N.le-of-suc-le-suc g)) (N.eq-or-lt-of-le l);
         }

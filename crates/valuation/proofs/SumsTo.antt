@@ -47,7 +47,7 @@ module _ (d : List ℤ) (h : List ℕ) (f : List ℤ) (r : List ℕ) (last : ℕ
       let none = b (n + t) (omega arith) (omega arith) in
       subst (λ q. SumsTo d h f r last q s) z
       (sums-more (n + t) s s before
-      (added-empty (entryIn d h (n + t)) (cellIn f r (last - (n + t))) (y .calm (last - (n + t)) (omega arith)) (tr .errors (n + t) (omega arith)) s (none .0) (none .1)))
+      (added-empty (entryIn d h (n + t)) (cellIn f r (last - (n + t))) (y .limited (last - (n + t)) (omega arith)) (tr .errors (n + t) (omega arith)) s (none .0) (none .1)))
 
   pub sums-small : (X k : ℕ) (s : Sums) → Transform X d h → Known f r last → last < X → k ≤ last → SumsTo d h f r last k s →
       Small s (entryIn d h k) (cellIn f r (last - k))
@@ -55,7 +55,7 @@ module _ (d : List ℤ) (h : List ℕ) (f : List ℤ) (r : List ℕ) (last : ℕ
       let fit = sums-fit X k s t (omega arith) i in
       let g = sumN-grow (λ k. natAbs (getD d (suc k) (pos 0))) (suc k) X (omega arith) in
       record {
-        calm = y .calm (last - k) (omega arith);
+        limited = y .limited (last - k) (omega arith);
         transform = omega (arith, t .sizes-within);
         error = t .errors k (omega arith);
         plus = fit .0;

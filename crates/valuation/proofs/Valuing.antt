@@ -30,9 +30,9 @@ use Rattle.widths.specs.Lives.{lifeAt, livesOf, InRange, Lives}
 use Rattle.widths.specs.Adding.{Cleared}
 use Rattle.widths.specs.Widths.{width-D, width-H, H-le, D-sum-le}
 use Rattle.valuation.specs.declared.recursion.Recursed.{Recursed}
-use Rattle.valuation.specs.declared.recursion.Recursed.the-variants.{Done, Wide, Swell}
+use Rattle.valuation.specs.declared.recursion.Recursed.the-variants.{Done, Wide, Large}
 use Rattle.valuation.specs.Inside.{HeaderIn}
-use Rattle.valuation.specs.Lent.{cellIn, cellOf, most-cell, Calm as CalmCell}
+use Rattle.valuation.specs.Lent.{cellIn, cellOf, most-cell, Limited as LimitedCell}
 use Rattle.valuation.specs.Recursion.{Transform, Recurs}
 use Rattle.valuation.specs.Start.{Rates, Started}
 use Rattle.valuation.specs.declared.start.First.{First}
@@ -82,7 +82,7 @@ module _ (n : ℕ) (groups q i d e : List ℕ) (l : Lives n groups q i d e) wher
   unfolding fundTruncation
   priceable-of fund c f =
       record {
-        calm = all-map (λ m r. r .calm) ms (l .in-range);
+        limited = all-map (λ m r. r .limited) ms (l .in-range);
         folded = all-map (λ m r. record { q-folded = r .no-death; i-folded = r .no-disability }) ms (l .in-range);
         load-within = f .load-within;
         truncation-within = f .truncation-within;
@@ -108,9 +108,9 @@ module _ (n : ℕ) (groups q i d e : List ℕ) (l : Lives n groups q i d e) wher
       ts = terms X (fund .order) (fund .frequency) ms
 
   -- the first cell is within the limits
-  pub start-calm : (fund : Fund) (c : Lengths) → HeaderIn fund → Fit fund ms c → (y : Cell) → y ≡ fundStart fund ms → y .R ≤ 691 + n → CalmCell y
+  pub start-limited : (fund : Fund) (c : Lengths) → HeaderIn fund → Fit fund ms c → (y : Cell) → y ≡ fundStart fund ms → y .R ≤ 691 + n → LimitedCell y
   unfolding fundStart
-  start-calm fund c h f y e b =
+  start-limited fund c h f y e b =
       record {
         narrow = first-narrow;
         level =
@@ -140,7 +140,7 @@ level-fits (negsuc n) h = record { sfits = omega arith }
 -- the start in its cells is the fund's, and within the limits
 pub record FirstIn (fund : Fund) (ms : List Life) (f : List ℤ) (r : List ℕ) : Type 0 where
   pub is : cellIn f r 0 ≡ fundStart fund ms
-  pub calm : CalmCell (cellIn f r 0)
+  pub limited : LimitedCell (cellIn f r 0)
 
 pub first-in : (n : ℕ) (groups q i d e : List ℕ) → Lives n groups q i d e → (fund : Fund) (c : Lengths) → HeaderIn fund → Fit fund (livesOf n groups q i d e) c →
     (first : First) (lambda₀ : ℕ) → lambda₀ ≡ lambda (fund .frequency) (livesOf n groups q i d e) → Started lambda₀ n groups q i first →
@@ -148,7 +148,7 @@ pub first-in : (n : ℕ) (groups q i d e : List ℕ) → Lives n groups q i d e 
     FirstIn fund (livesOf n groups q i d e) f′ r′
 unfolding fundStart
 first-in n groups q i d e l fund c h fit first lambda₀ is s f f′ r r′ f-is r-is f-long r-long =
-    record { is = same ∙ start-is; calm = subst CalmCell (sym same) first-calm }
+    record { is = same ∙ start-is; limited = subst LimitedCell (sym same) first-limited }
   where
     ms : List Life
     ms = livesOf n groups q i d e
@@ -159,13 +159,13 @@ first-in n groups q i d e l fund c h fit first lambda₀ is s f f′ r r′ f-is
     start-is : y ≡ fundStart fund ms
     start-is = ap₂ (λ x z. record { f = x; R = z }) (s .cell-is d e ∙ ap (λ k. start k ms) is) (s .bound-is d e ∙ ap (λ k. startBound k ms) is)
 
-    first-calm : CalmCell y
-    first-calm = start-calm n groups q i d e l fund c h fit y start-is (s .bound-within)
+    first-limited : LimitedCell y
+    first-limited = start-limited n groups q i d e l fund c h fit y start-is (s .bound-within)
 
     same : cellIn f′ r′ 0 ≡ y
     same =
         ap₂ (λ x z. record { f = x; R = z })
-        (ap (λ t. getD t 0 (pos 0)) f-is ∙ getD-set-same f 0 (toZ w64 (ofZ w64 (first .cell))) (pos 0) f-long ∙ toZ-ofZ (level-fits (first .cell) (first-calm .level)))
+        (ap (λ t. getD t 0 (pos 0)) f-is ∙ getD-set-same f 0 (toZ w64 (ofZ w64 (first .cell))) (pos 0) f-long ∙ toZ-ofZ (level-fits (first .cell) (first-limited .level)))
         (ap (λ t. getD t 0 0) r-is ∙ getD-set-same r 0 (first .bound) 0 r-long)
 
 -- ---- the recursion's cells are the fund's
@@ -190,7 +190,7 @@ recurs-as X cell cell′ f f₁ f′ r r₁ r′ x y s e f-is r-is k = go s (sub
           r-are = k .r-are;
           f-beyond = k .f-beyond ∙ ap (drop (suc X)) f-is ∙ drop-set X f x;
           r-beyond = k .r-beyond ∙ ap (drop (suc X)) r-is ∙ drop-set X r y;
-          calm = k .calm;
+          limited = k .limited;
         }
     go (Wide z) k = k
-    go (Swell z) k = k
+    go (Large z) k = k

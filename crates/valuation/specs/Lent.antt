@@ -33,6 +33,6 @@ most-error = 10 ^ 9
 abbrev pub most-cell : ℕ
 most-cell = 2 * 10 ^ 12
 
-pub record Calm (y : Cell) : Type 0 where
+pub record Limited (y : Cell) : Type 0 where
   pub narrow : y .R ≤ most-bound
   pub level : natAbs (y .f) ≤ most-cell

@@ -13,9 +13,9 @@ use Rattle.fund.specs.Recursion.{Cell, Entry}
 use Rattle.laws.specs.Cells.{addF, addR}
 use Rattle.valuation.specs.declared.whole.Sums.{Sums}
 use Rattle.valuation.specs.declared.recursion.Recursed.{Recursed}
-use Rattle.valuation.specs.declared.recursion.Recursed.the-variants.{Done, Wide, Swell}
+use Rattle.valuation.specs.declared.recursion.Recursed.the-variants.{Done, Wide, Large}
 use Rattle.valuation.specs.Sums.{sumOf}
-use Rattle.valuation.specs.Lent.{cellIn, entryIn, most-transform, most-error, most-cell, Calm}
+use Rattle.valuation.specs.Lent.{cellIn, entryIn, most-transform, most-error, most-cell, Limited}
 
 abbrev pub most-sum : ℕ
 most-sum = 9 * 10 ^ 17
@@ -33,7 +33,7 @@ opposite (negsuc a) (pos b) = true
 opposite (negsuc a) (negsuc b) = false
 
 pub record Small (s : Sums) (k : Entry) (y : Cell) : Type 0 where
-  pub calm : Calm y
+  pub limited : Limited y
   pub transform : natAbs (k .D) ≤ most-transform
   pub error : k .H ≤ most-error
   pub plus : s .plus ≤ most-sum
@@ -103,7 +103,7 @@ pub record Transform (X : ℕ) (d : List ℤ) (h : List ℕ) : Type 0 where
 pub record Known (f : List ℤ) (r : List ℕ) (last : ℕ) : Type 0 where
   pub f-long : last < length f
   pub r-long : last < length r
-  pub calm : (x : ℕ) → x ≤ last → Calm (cellIn f r x)
+  pub limited : (x : ℕ) → x ≤ last → Limited (cellIn f r x)
 
 -- ---- the whole recursion
 -- every cell up to X is in its place, and what stands beyond is as it was
@@ -112,23 +112,23 @@ pub record Filled (X : ℕ) (cell : ℕ → Cell) (f f′ : List ℤ) (r r′ : 
   pub r-are : take (suc X) r′ ≡ table (suc X) (λ x. cell x .R)
   pub f-beyond : drop (suc X) f′ ≡ drop (suc X) f
   pub r-beyond : drop (suc X) r′ ≡ drop (suc X) r
-  pub calm : (x : ℕ) → x ≤ X → Calm (cell x)
+  pub limited : (x : ℕ) → x ≤ X → Limited (cell x)
 
 -- the first cell that is not within the limits is x: too wide, or not too wide and too large
 pub record WideAt (X : ℕ) (cell : ℕ → Cell) (x : ℕ) : Type 0 where
   pub after : 0 < x
   pub within : x ≤ X
-  pub calm : (y : ℕ) → y < x → Calm (cell y)
+  pub limited : (y : ℕ) → y < x → Limited (cell y)
   pub wide : most-bound < cell x .R
 
-pub record SwellAt (X : ℕ) (cell : ℕ → Cell) (x : ℕ) : Type 0 where
+pub record LargeAt (X : ℕ) (cell : ℕ → Cell) (x : ℕ) : Type 0 where
   pub after : 0 < x
   pub within : x ≤ X
-  pub calm : (y : ℕ) → y < x → Calm (cell y)
+  pub limited : (y : ℕ) → y < x → Limited (cell y)
   pub narrow : cell x .R ≤ most-bound
-  pub swell : most-cell < natAbs (cell x .f)
+  pub large : most-cell < natAbs (cell x .f)
 
 abbrev pub Recurs : (X : ℕ) (cell : ℕ → Cell) (f f′ : List ℤ) (r r′ : List ℕ) → Recursed → Type 0
 Recurs X cell f f′ r r′ Done = Filled X cell f f′ r r′
 Recurs X cell f f′ r r′ (Wide x) = WideAt X cell x
-Recurs X cell f f′ r r′ (Swell x) = SwellAt X cell x
+Recurs X cell f f′ r r′ (Large x) = LargeAt X cell x

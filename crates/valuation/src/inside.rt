@@ -6,14 +6,14 @@ ghost use mathlib.Core.Path.{_≡_};
 ghost use Prim.Native.Nat.{_≤_};
 ghost use lib.ListN.{length};
 ghost use Rattle.fund.specs.Limits.{most-members};
-ghost use Rattle.laws.specs.Accepted.{All, Calm};
+ghost use Rattle.laws.specs.Accepted.{All, Limited};
 ghost use Rattle.widths.specs.Lives.{InRange, Lives, livesOf};
 ghost use Rattle.valuation.specs.Inside.{Tells, HeaderIn};
 
 // Refusal 6.
-fn calm(m: Life) -> bool
+fn limited(m: Life) -> bool
     requires { ⌜ (m .q ≤ 1000000) × (m .i ≤ 1000000) ⌝ }
-    ensures { λ r. ⌜ Tells r (Calm m) ⌝ }
+    ensures { λ r. ⌜ Tells r (Limited m) ⌝ }
 {
     if m.group == 1 {
         return m.q + m.i < Fund::HALF;
@@ -55,7 +55,7 @@ fn life_inside(m: Life) -> bool
     if Fund::MOST_AMOUNT < m.e {
         return false;
     }
-    if !calm(m) {
+    if !limited(m) {
         return false;
     }
     if !folded(m.q, m.d) {

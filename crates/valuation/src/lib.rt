@@ -161,7 +161,7 @@ fn completed(
             clear_all(transform, h, f, r);
             return refused(true, Verdict::Refused(Refusal::Wide, x));
         }
-        Recursed::Swell(x) => {
+        Recursed::Large(x) => {
             clear_all(transform, h, f, r);
             return refused(true, Verdict::Refused(Refusal::Wide, x));
         }

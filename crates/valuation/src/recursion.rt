@@ -13,7 +13,7 @@ ghost use lib.ListN.{length};
 ghost use Rattle.fund.specs.Limits.{most-horizon};
 ghost use Rattle.rounding.specs.Rounding.{nearest, up};
 ghost use Rattle.valuation.specs.Sums.{sumOf};
-ghost use Rattle.valuation.specs.Lent.{cellIn, cellOf, Calm};
+ghost use Rattle.valuation.specs.Lent.{cellIn, cellOf, Limited};
 ghost use Rattle.valuation.specs.Recursion.{most-sum, SumsTo, Listed, AllSmall, Transform, Known, Recurs};
 
 const MOST_CELL: u64 = 2000000000000;
@@ -21,7 +21,7 @@ const MOST_CELL: u64 = 2000000000000;
 pub(crate) enum Recursed {
     Done,
     Wide(u64),
-    Swell(u64),
+    Large(u64),
 }
 
 // Fills f and r from 1 to the horizon, or stops at the first cell that is too wide, or too large.
@@ -33,7 +33,7 @@ pub(crate) fn recursion(
     r: &mut [u64],
 ) -> Recursed
     requires { ⌜ Transform horizon (now d) (now h) ⌝ }
-    requires { ⌜ (horizon < length (now f)) × (horizon < length (now r)) × Calm (cellIn (now f) (now r) 0) ⌝ }
+    requires { ⌜ (horizon < length (now f)) × (horizon < length (now r)) × Limited (cellIn (now f) (now r) 0) ⌝ }
     ensures { λ res. ⌜ Recurs horizon
         (cellOf horizon (now (d .entry)) (now (h .entry)) (now (f .entry)) (now (r .entry)))
         (now (f .entry)) (now (f .exit)) (now (r .entry)) (now (r .exit)) res ⌝ }
@@ -56,7 +56,7 @@ fn fill(
     r: &mut [u64],
 ) -> Recursed
     requires { ⌜ Transform horizon (now d) (now h) ⌝ }
-    requires { ⌜ (horizon < length (now f)) × (horizon < length (now r)) × Calm (cellIn (now f) (now r) 0) ⌝ }
+    requires { ⌜ (horizon < length (now f)) × (horizon < length (now r)) × Limited (cellIn (now f) (now r) 0) ⌝ }
     requires { ⌜ Listed horizon (now d) (now h) (now list) count × (count ≤ length (now list)) × (small ≡ true → AllSmall horizon (now d) (now h)) ⌝ }
     ensures { λ res. ⌜ Recurs horizon
         (cellOf horizon (now (d .entry)) (now (h .entry)) (now (f .entry)) (now (r .entry)))
@@ -72,7 +72,7 @@ fn fill(
         }
         let cell = cell_of(s, x);
         if MOST_CELL < whole::magnitude(cell) {
-            return Recursed::Swell(x);
+            return Recursed::Large(x);
         }
         last += 1;
         f[last] = cell;

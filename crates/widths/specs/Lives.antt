@@ -8,7 +8,7 @@ use Rattle.fund.specs.declared.Life.{Life}
 use Rattle.fund.specs.Base.{table}
 use Rattle.fund.specs.Limits.{least-group, most-group, most-rate, most-amount, most-members}
 use Rattle.fund.specs.Folding.{claim}
-use Rattle.laws.specs.Accepted.{All, Calm}
+use Rattle.laws.specs.Accepted.{All, Limited}
 
 abbrev pub lifeAt : List ℕ → List ℕ → List ℕ → List ℕ → List ℕ → ℕ → Life
 lifeAt groups q i d e k =
@@ -22,7 +22,7 @@ pub record InRange (m : Life) : Type 0 where
   pub group-least : least-group ≤ m .group
   pub group-most : m .group ≤ most-group
   pub rates : claim m ≤ most-rate
-  pub calm : Calm m
+  pub limited : Limited m
   pub death : m .d ≤ most-amount
   pub disability : m .e ≤ most-amount
   pub no-death : m .d ≡ 0 → m .q ≡ 0

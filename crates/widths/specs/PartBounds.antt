@@ -31,7 +31,7 @@ pub single-le : (m : Life) → InRange m → singlePart m ≤ 1000000000000
 unfolding unit
 single-le m r =
     by-group m (up (unit * claim m) (stay m)) 0 1000000000000
-    (λ e. let c = r .calm e in up-least (unit * claim m) (stay m) 1000000000000 (omega arith) (omega arith))
+    (λ e. let c = r .limited e in up-least (unit * claim m) (stay m) 1000000000000 (omega arith) (omega arith))
     (omega arith)
 
 pub one-le : (m : Life) → InRange m → onePart m ≤ 1
@@ -58,7 +58,7 @@ unfolding unit
 truncation-le m n r =
     by-group m (up (w m (suc n) * stay m) ((stay m - claim m) * suc n)) 0 1000000000000000000
     (λ e.
-    let c = r .calm e in
+    let c = r .limited e in
     let p : 1 ≤ stay m - claim m = omega arith in
     let s : stay m ≤ 1000000 = omega arith in
     let o : 1 ≤ suc n = omega arith in
@@ -77,7 +77,7 @@ mean-le m a r = go (m .q * m .d + m .i * m .e) (amount-le m r) (single m) refl
   where
     go : (s : ℕ) → s ≤ claim m * 65535 → (t : Bool) → single m ≡ t → (if t then s * 10 ^ 6 else weight a s) ≤ 65535 * ((if t then 0 else weight a (claim m)) + (if t then up (unit * claim m) (stay m) else 0) + 0)
     go s h true e =
-        let c = r .calm e in
+        let c = r .limited e in
         let l : 1000000 * claim m ≤ up (unit * claim m) (stay m) = up-above (unit * claim m) (stay m) (1000000 * claim m) (omega arith) (omega (arith, N.mul-le-mul-right (1000000 * claim m) (N.sub-le 1000000 (claim m)))) in
         omega arith
     go s h false e = omega (arith, N.mul-le-mul-right a h)

@@ -95,7 +95,7 @@ module _ (X : ℕ) (m : Life) (n l : ℕ) where
         n-least = r .n-least;
         n-most = r .n-most;
         place-most = omega (arith, x, o .inD .horizon);
-        number-most = rw g (within-at l (row m n) (row-within m (r .life .calm (r .alone)) n));
+        number-most = rw g (within-at l (row m n) (row-within m (r .life .limited (r .alone)) n));
         d-long = omega (arith, x, o .inD .long);
         h-long = omega (arith, x, o .inH .long);
         d-room = rw (g, ← placed-sizeD e) (o .inD .room (placeOf m n l) x);

@@ -89,7 +89,7 @@ module _ (X : ℕ) (h : X ≤ 4095) (m : Life) where
       go : (b : Bool) → single m ≡ b → sizeD (if b then singleTerms X m r else replacedTerms X a m) ≤ 49140 * ((if b then 0 else weight a (claim m)) + (if b then up (unit * claim m) (stay m) else 0) + 84)
       go true e =
           let k = 4095 * (up (unit * claim m) (stay m) + 84) in
-          omega (arith, single-D (i .calm e) r g, N.mul-le-mul-right k g)
+          omega (arith, single-D (i .limited e) r g, N.mul-le-mul-right k g)
       go false e =
           let q = weight a (m .q) in
           let j = weight a (m .i) in

@@ -4,7 +4,7 @@ use mathlib.Core.Path.{refl}
 use mir.Syntax.{w64}
 use mir.Facts.{toZ-ofZ}
 use Rattle.widths.specs.Lives.{livesOf}
-use Rattle.valuation.proofs.Completing.{filled-by, wide-by, swell-by, not-swollen, answers-wide, below-deductible, mean-within, figure-within, answers-accepted, zeros-kept}
+use Rattle.valuation.proofs.Completing.{filled-by, wide-by, large-by, not-large, answers-wide, below-deductible, mean-within, figure-within, answers-accepted, zeros-kept}
 use Rattle.valuation.proofs.completed.Statement.{statement}
 use Rattle.valuation.proofs.completed.Tie as tie
 
@@ -72,7 +72,7 @@ returns-2 c =
     let a = s .args in
     let st = c .before .before .before .before .before .before .before .before .before .before .before .before .before .before .before .before .before .before .before .before .before .stepped in
     let x = c .before .before .before .before .before .before .before .before .before .before .before .before .before .x2 .given in
-    absurd (not-swollen (a .n) (a .groups .now) (a .q .now) (a .i .now) (a .d .now) (a .e .now) (s .pre .0 .0) (a .fund) (s .pre .0 .1) _ (s .pre .1 .1 .0) (x .0 .0) (swell-by (st .result) (st .ensures) (x .0 .0) (x .1)))
+    absurd (not-large (a .n) (a .groups .now) (a .q .now) (a .i .now) (a .d .now) (a .e .now) (s .pre .0 .0) (a .fund) (s .pre .0 .1) _ (s .pre .1 .1 .0) (x .0 .0) (large-by (st .result) (st .ensures) (x .0 .0) (x .1)))
 
 enum-told : tie.Need-enum-told
 enum-told c = search needs

@@ -49,7 +49,7 @@ recursion-requires c κs =
       (
         kept-long (a .fund .horizon) (a .f .now) _ _ (put .ensures .0) (fit .f-long),
         kept-long (a .fund .horizon) (a .r .now) _ _ (put .ensures .1) (fit .r-long),
-        first .calm,
+        first .limited,
       ),
     )
 

@@ -30,11 +30,11 @@ returns-6 c = tells-no (λ h. omega arith)
 returns-7 : tie.Need-returns-7
 returns-7 c = tells-no (λ h. omega arith)
 
-calm-requires : tie.Need-calm-requires
-calm-requires c κs = search needs
+limited-requires : tie.Need-limited-requires
+limited-requires c κs = search needs
 
 returns-8 : tie.Need-returns-8
-returns-8 c = tells-no (λ h. tells-not (c .before .calm .ensures) (not-true _ (c .if8 .taken)) (h .calm))
+returns-8 c = tells-no (λ h. tells-not (c .before .limited .ensures) (not-true _ (c .if8 .taken)) (h .limited))
 
 folded-requires : tie.Need-folded-requires
 folded-requires c κs = search needs
@@ -55,7 +55,7 @@ returns-10 c =
       group-least = omega (arith, k);
       group-most = omega (arith, k);
       rates = omega (arith, k);
-      calm = k .calm .ensures .yes (not-false _ (f .before .if8 .left));
+      limited = k .limited .ensures .yes (not-false _ (f .before .if8 .left));
       death = omega (arith, k);
       disability = omega (arith, k);
       no-death = f .folded .ensures .yes (not-false _ (c .before .if9 .left));
@@ -75,7 +75,7 @@ life-inside-spec =
     returns-5
     returns-6
     returns-7
-    calm-requires
+    limited-requires
     returns-8
     folded-requires
     returns-9

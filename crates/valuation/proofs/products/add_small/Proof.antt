@@ -37,24 +37,24 @@ magnitude-requires-2 c κs = search needs
 nearest-requires : tie.Need-nearest-requires
 nearest-requires c κs =
     let p = c .before .before .pre in
-    (omega (arith, size-is (c .before), p .1 .0), omega (arith, level-is c, p .0 .calm .level))
+    (omega (arith, size-is (c .before), p .1 .0), omega (arith, level-is c, p .0 .limited .level))
 
 up-requires : tie.Need-up-requires
 up-requires c κs =
     let p = c .before .before .before .pre in
     let h : c .before .before .magnitude .result ≤ most-size = omega (arith, size-is (c .before .before), p .1 .0) in
-    omega (arith, N.mul-le-mul h (p .0 .calm .narrow))
+    omega (arith, N.mul-le-mul h (p .0 .limited .narrow))
 
 add-up : tie.Need-add-up
 add-up c =
     let p = c .before .before .before .before .pre in
-    omega (arith, level-is (c .before .before), p .0 .calm .level, p .0 .calm .narrow)
+    omega (arith, level-is (c .before .before), p .0 .limited .level, p .0 .limited .narrow)
 
 up-requires-2 : tie.Need-up-requires-2
 up-requires-2 c κs =
     let s = c .before .before .before .before in
     let p = s .pre in
-    let h : c .before .before .magnitude2 .result + s .args .r ≤ most-cell + 250000 = omega (arith, level-is (c .before .before), p .0 .calm .level, p .0 .calm .narrow) in
+    let h : c .before .before .magnitude2 .result + s .args .r ≤ most-cell + 250000 = omega (arith, level-is (c .before .before), p .0 .limited .level, p .0 .limited .narrow) in
     omega (arith, N.mul-le-mul (p .1 .1) h)
 
 parts : (c : tie.After-up2) → let s = c .before .before .before .before .before in Parts (entry s) (cell s) (c .before .before .nearest .result) (c .before .up .result) (c .up2 .result)
@@ -72,7 +72,7 @@ parts c =
 fits : (c : tie.After-up2) → Within (entry (c .before .before .before .before .before)) (c .before .before .nearest .result) (c .before .up .result) (c .up2 .result)
 fits c =
     let s = c .before .before .before .before .before in
-    within (entry s) (cell s) (s .pre .0 .calm) (s .pre .0 .error) _ _ _ (parts c)
+    within (entry s) (cell s) (s .pre .0 .limited) (s .pre .0 .error) _ _ _ (parts c)
 
 add-bound : tie.Need-add-bound
 add-bound c =
@@ -94,7 +94,7 @@ with-part-requires c κs =
 returns : tie.Need-returns
 returns c =
     let s = c .before .before .before .before .before .before .before in
-    added (entry s) (cell s) (s .pre .0 .calm) (s .pre .0 .error) (s .args .s) (c .with-part .result) _ _ _ (parts (c .before .before))
+    added (entry s) (cell s) (s .pre .0 .limited) (s .pre .0 .error) (s .args .s) (c .with-part .result) _ _ _ (parts (c .before .before))
     (rw (c .before .opposite .ensures, toZ-ofZ (s .fits .d), toZ-ofZ (s .fits .f)) at (c .with-part .ensures))
 
 pub add-small-spec : {M : Type 1} → statement M

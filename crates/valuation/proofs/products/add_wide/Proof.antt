@@ -26,7 +26,7 @@ error-is : (c : tie.Start) (size b : ℕ) → size ≡ natAbs (c .args .f) → b
 error-is c size b e h =
     let p = c .pre in
     part-is up-rounds (c .args .h) (size + c .args .r) (c .args .h) (natAbs (c .args .f) + c .args .r) b refl (ap (λ m. m + c .args .r) e)
-    (omega (arith, p .error)) (omega (arith, p .calm .level, p .calm .narrow)) h
+    (omega (arith, p .error)) (omega (arith, p .limited .level, p .limited .narrow)) h
 
 parts : (c : tie.After-up-per-unit3) →
     let s = c .before .before .before .before .before .before in
@@ -41,10 +41,10 @@ parts c =
     record {
       near-is =
           part-is near-rounds (size .result) (level .result) (natAbs (s .args .d)) (natAbs (s .args .f)) (c .before .before .nearest-per-unit .result)
-          size-is level-is (omega (arith, p .transform)) (omega (arith, p .calm .level)) (c .before .before .nearest-per-unit .ensures);
+          size-is level-is (omega (arith, p .transform)) (omega (arith, p .limited .level)) (c .before .before .nearest-per-unit .ensures);
       D-is =
           part-is up-rounds (size .result) (s .args .r) (natAbs (s .args .d)) (s .args .r) (c .before .up-per-unit2 .result)
-          size-is refl (omega (arith, p .transform)) (omega (arith, p .calm .narrow)) (c .before .up-per-unit2 .ensures);
+          size-is refl (omega (arith, p .transform)) (omega (arith, p .limited .narrow)) (c .before .up-per-unit2 .ensures);
       H-is = error-is s (level .result) (c .up-per-unit3 .result) level-is (c .up-per-unit3 .ensures);
     }
 
@@ -53,7 +53,7 @@ small : (c : tie.After-up-per-unit3) →
     Within (entry s) (c .before .before .nearest-per-unit .result) (c .before .up-per-unit2 .result) (c .up-per-unit3 .result)
 small c =
     let s = c .before .before .before .before .before .before in
-    within (entry s) (cell s) (s .pre .calm) (s .pre .error) _ _ _ (parts c)
+    within (entry s) (cell s) (s .pre .limited) (s .pre .error) _ _ _ (parts c)
 
 magnitude-requires : tie.Need-magnitude-requires
 magnitude-requires c κs = search needs
@@ -61,7 +61,7 @@ magnitude-requires c κs = search needs
 returns : tie.Need-returns
 returns c =
     let s = c .before .before .before in
-    added-empty (entry s) (cell s) (s .pre .calm) (s .pre .error) (s .args .s)
+    added-empty (entry s) (cell s) (s .pre .limited) (s .pre .error) (s .args .s)
     (sym (c .before .before .magnitude .ensures ∙ ap natAbs (toZ-ofZ (s .fits .d))) ∙ c .before .if1 .taken) (c .if2 .taken)
 
 magnitude-requires-2 : tie.Need-magnitude-requires-2
@@ -71,7 +71,7 @@ add-up-per-unit : tie.Need-add-up-per-unit
 add-up-per-unit c =
     let s = c .before .before .before .before in
     let p = s .pre in
-    omega (arith, c .magnitude2 .ensures ∙ ap natAbs (toZ-ofZ (s .fits .f)), p .calm .level, p .calm .narrow)
+    omega (arith, c .magnitude2 .ensures ∙ ap natAbs (toZ-ofZ (s .fits .f)), p .limited .level, p .limited .narrow)
 
 up-per-unit-requires : tie.Need-up-per-unit-requires
 up-per-unit-requires c κs = search needs
@@ -89,12 +89,12 @@ with-part-requires : tie.Need-with-part-requires
 with-part-requires c κs =
     let s = c .before .before .before .before .before in
     let p = s .pre in
-    (omega (arith, p .plus), omega (arith, p .minus), omega (arith, lone c, H-most (entry s) (cell s) (p .calm) (p .error), p .bound))
+    (omega (arith, p .plus), omega (arith, p .minus), omega (arith, lone c, H-most (entry s) (cell s) (p .limited) (p .error), p .bound))
 
 returns-2 : tie.Need-returns-2
 returns-2 c =
     let s = c .before .before .before .before .before .before in
-    added-none (entry s) (cell s) (s .pre .calm) (s .pre .error) (s .args .s) (c .with-part .result) (c .before .up-per-unit .result)
+    added-none (entry s) (cell s) (s .pre .limited) (s .pre .error) (s .args .s) (c .with-part .result) (c .before .up-per-unit .result)
     (sym (c .before .before .before .before .before .magnitude .ensures ∙ ap natAbs (toZ-ofZ (s .fits .d))) ∙ c .before .before .before .before .if1 .taken)
     (lone (c .before)) (c .with-part .ensures)
 
@@ -111,7 +111,7 @@ add-up-per-unit-2 : tie.Need-add-up-per-unit-2
 add-up-per-unit-2 c =
     let s = c .before .before .before .before .before in
     let p = s .pre in
-    omega (arith, c .before .before .magnitude3 .ensures ∙ ap natAbs (toZ-ofZ (s .fits .f)), p .calm .level, p .calm .narrow)
+    omega (arith, c .before .before .magnitude3 .ensures ∙ ap natAbs (toZ-ofZ (s .fits .f)), p .limited .level, p .limited .narrow)
 
 up-per-unit-requires-3 : tie.Need-up-per-unit-requires-3
 up-per-unit-requires-3 c κs = search needs
@@ -136,7 +136,7 @@ with-part-requires-2 c κs =
 returns-3 : tie.Need-returns-3
 returns-3 c =
     let s = c .before .before .before .before .before .before .before .before in
-    added (entry s) (cell s) (s .pre .calm) (s .pre .error) (s .args .s) (c .with-part2 .result) _ _ _ (parts (c .before .before))
+    added (entry s) (cell s) (s .pre .limited) (s .pre .error) (s .args .s) (c .with-part2 .result) _ _ _ (parts (c .before .before))
     (rw (c .before .opposite .ensures, toZ-ofZ (s .fits .d), toZ-ofZ (s .fits .f)) at (c .with-part2 .ensures))
 
 pub add-wide-spec : {M : Type 1} → statement M

@@ -13,7 +13,7 @@ use mir.Facts.{toZ-ofZ}
 use Rattle.rounding.specs.Rounding.{nearest, up}
 use Rattle.fund.specs.Recursion.{Cell}
 use Rattle.valuation.specs.Sums.{sumOf}
-use Rattle.valuation.specs.Lent.{cellOf, Calm}
+use Rattle.valuation.specs.Lent.{cellOf, Limited}
 use Rattle.valuation.specs.Recursion.{most-sum, Filled}
 use Rattle.valuation.proofs.SumsTo.{sums-fit}
 use Rattle.valuation.proofs.Filled.{filled-first, filled-known, next-f, next-R, filled-more}
@@ -100,7 +100,7 @@ returns c =
     (record {
       after = omega arith;
       within = omega arith;
-      calm = λ y g. l .inv .3 .calm y (omega arith);
+      limited = λ y g. l .inv .3 .limited y (omega arith);
       wide = omega (arith, bound-is (c .before), c .if1 .taken);
     })
 
@@ -130,9 +130,9 @@ returns-2 c =
     (record {
       after = omega arith;
       within = omega arith;
-      calm = λ y g. l .inv .3 .calm y (omega arith);
+      limited = λ y g. l .inv .3 .limited y (omega arith);
       narrow = omega (arith, bound-is (c .before .before .before .before), c .before .before .before .if1 .left);
-      swell = omega (arith, size-is (c .before), c .if2 .taken);
+      large = omega (arith, size-is (c .before), c .if2 .taken);
     })
 
 add-last : tie.Need-add-last Inv-loop μ-loop
@@ -158,7 +158,7 @@ loop-again c =
     let a = c .before .before .before .before .before .before .before .before .before .before .before .before .before .args in
     let l = c .before .before .before .before .before .before .before .before .before .loop in
     let R-is = bound-is (c .before .before .before .before) in
-    let calm : Calm (cell (c .before .before .before .before .before .before .before .before .before .before .before .before .before) (suc (l .last))) =
+    let limited : Limited (cell (c .before .before .before .before .before .before .before .before .before .before .before .before .before) (suc (l .last))) =
     record { narrow = omega (arith, R-is, c .before .before .before .if1 .left); level = omega (arith, size-is (c .before), c .if2 .left) } in (
       omega arith,
       simp length-set (l .inv .1),
@@ -166,7 +166,7 @@ loop-again c =
       rw add-one
           (filled-more (a .horizon) (a .d .now) (a .h .now) (a .f .now) (a .r .now) (l .f) (l .r) (l .last) (l .inv .3)
           (toZ w64 (ofZ w64 (c .before .before .cell-of .result))) (c .before .before .before .before .bound-of .result)
-          (omega arith) (omega arith) (cell-is (c .before .before)) R-is calm),
+          (omega arith) (omega arith) (cell-is (c .before .before)) R-is limited),
     )
 
 same-length-5 : tie.Need-same-length-5 Inv-loop μ-loop

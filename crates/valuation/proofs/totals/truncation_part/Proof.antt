@@ -21,17 +21,17 @@ sub-stay c = search needs
 add-weight : tie.Need-add-weight
 add-weight c = search needs
 
-calm : (c : tie.After-struct-known2) → claim (c .before .before .before .args .m) < 500000
-calm c = c .before .before .before .pre .0 .calm (eq-eqb _ _ (c .before .if1 .taken))
+limited : (c : tie.After-struct-known2) → claim (c .before .before .before .args .m) < 500000
+limited c = c .before .before .before .pre .0 .limited (eq-eqb _ _ (c .before .if1 .taken))
 
 weight-requires : tie.Need-weight-requires
-weight-requires c κs = calm c
+weight-requires c κs = limited c
 
 product : (c : tie.After-weight) → c .weight .result * stay (c .before .before .before .before .args .m) ≤ 1000000000000 * 1000000
 unfolding unit
 product c =
     let m = c .before .before .before .before .args .m in
-    let v : c .weight .result ≤ 1000000000000 = rw (c .weight .ensures) (w-le m (calm (c .before)) _) in
+    let v : c .weight .result ≤ 1000000000000 = rw (c .weight .ensures) (w-le m (limited (c .before)) _) in
     let s : stay m ≤ 1000000 = omega arith in
     mul-le-mul v s
 
@@ -39,7 +39,7 @@ divisor : (c : tie.After-weight) → let a = c .before .before .before .before .
     (1 * 1 ≤ (stay (a .m) - claim (a .m)) * (a .r + 1)) × ((stay (a .m) - claim (a .m)) * (a .r + 1) ≤ 1000000 * 13)
 divisor c =
     let a = c .before .before .before .before .args in
-    let h = calm (c .before) in
+    let h = limited (c .before) in
     let x : 1 ≤ stay (a .m) - claim (a .m) = omega arith in
     let y : stay (a .m) - claim (a .m) ≤ 1000000 = omega arith in
     let u : 1 ≤ a .r + 1 = omega arith in
@@ -50,7 +50,7 @@ mul-up : tie.Need-mul-up
 mul-up c = omega (arith, product c)
 
 sub-up : tie.Need-sub-up
-sub-up c = omega (arith, calm (c .before))
+sub-up c = omega (arith, limited (c .before))
 
 add-up : tie.Need-add-up
 add-up c = search needs

@@ -38,8 +38,8 @@ loop-holds c =
 next-row-requires : tie.Need-next-row-requires Inv-loop μ-loop
 next-row-requires c κs =
     let v = c .before .loop .inv in
-    let calm = v .1 .calm (v .2) in
-    (calm, rw (v .4) (row-within _ calm _))
+    let limited = v .1 .limited (v .2) in
+    (limited, rw (v .4) (row-within _ limited _))
 
 add-n : tie.Need-add-n Inv-loop μ-loop
 add-n c = let v = c .before .before .loop .inv in omega arith

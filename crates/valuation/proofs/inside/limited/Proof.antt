@@ -2,8 +2,8 @@
 use borrow.Author.Needs.{needs}
 use borrow.Author.Tests.{eq-eqb, eqb-true}
 use Rattle.valuation.proofs.Telling.{tells-yes, tells-lt}
-use Rattle.valuation.proofs.inside.calm.Statement.{statement}
-use Rattle.valuation.proofs.inside.calm.Tie as tie
+use Rattle.valuation.proofs.inside.limited.Statement.{statement}
+use Rattle.valuation.proofs.inside.limited.Tie as tie
 
 add-result : tie.Need-add-result
 add-result c = search needs
@@ -14,5 +14,5 @@ returns c = tells-lt _ _ (λ h s. h) (λ h. h (eq-eqb _ _ (c .before .if1 .taken
 returns-2 : tie.Need-returns-2
 returns-2 c = tells-yes (λ s. absurd (c .if1 .left (eqb-true _ _ s)))
 
-pub calm-spec : {M : Type 1} → statement M
-calm-spec = tie.close (tie.spec add-result returns returns-2)
+pub limited-spec : {M : Type 1} → statement M
+limited-spec = tie.close (tie.spec add-result returns returns-2)
