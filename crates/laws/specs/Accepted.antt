@@ -57,9 +57,9 @@ first-none met at (a ∷ rest) e = go (met a) refl e (first-none met (suc at) re
 abbrev pub Limited : Life → Type 0
 Limited m = single m ≡ true → claim m < half-rate
 
-limited : (m : Life) → half m ≡ false → Limited m
+pub not-half : (m : Life) → half m ≡ false → Limited m
 unfolding half
-limited m e s = leb-false half-rate (claim m) (rw s at e)
+not-half m e s = leb-false half-rate (claim m) (rw s at e)
 
 pub record Accepts (file : FundFile) (n : Lengths) (cells : List Cell) : Type 0 where
   pub editions : file .header .rates ≡ file .header .members
@@ -94,7 +94,7 @@ accepts file n cells e =
       editions = eqb-true _ _ (not-false (eqb (file .header .rates) (file .header .members)) (at0-none _ (e3 .0)));
       deductible = ltb-false _ _ (at0-none _ (e4 .0));
       matched = first-none _ _ _ (e5 .0);
-      limited-lives = all-map limited (lives file) (first-none _ _ _ (e6 .0));
+      limited-lives = all-map not-half (lives file) (first-none _ _ _ (e6 .0));
       load-within = ltb-false _ _ (at0-none _ (e7 .0));
       truncation-within = ltb-false _ _ (at0-none _ (e8 .0));
       D-long = leb-false _ _ (sH .0);

@@ -5,3 +5,4 @@ pub mod Ranges
 pub mod Answer
 pub mod Valued
 pub mod Slices
+pub mod Tells

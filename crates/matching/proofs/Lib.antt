@@ -1,4 +1,3 @@
-pub mod Telling
 pub mod Rating
 pub mod Filling
 pub mod Answering

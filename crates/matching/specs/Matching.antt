@@ -18,12 +18,8 @@ use Rattle.fund.specs.Limits.{most-rates, most-members, most-horizon}
 use Rattle.fund.specs.Reading.{FundFile}
 use Rattle.fund.specs.Folding.{life, lives}
 use Rattle.fund.specs.Refusals.{refuse, at0, matched}
+use Rattle.laws.specs.Tells.{Tells}
 use Rattle.matching.specs.declared.verdict.Matched.{Matched}
-
--- A test tells whether something holds.
-pub record Tells (r : Bool) (P : Type 0) : Type 0 where
-  pub yes : r ≡ true → P
-  pub no : P → r ≡ true
 
 pub record RateRoom (n : ℕ) (rated q i : List ℕ) : Type 0 where
   pub few : n ≤ most-rates

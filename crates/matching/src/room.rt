@@ -1,6 +1,7 @@
 // Whether the rows are as many as a file may have, and every slice has a cell for each of its rows.
 use fund::Fund;
-ghost use Rattle.matching.specs.Matching.{Tells, RateRoom, MemberRoom, Room};
+ghost use Rattle.matching.specs.Matching.{RateRoom, MemberRoom, Room};
+ghost use Rattle.laws.specs.Tells.{Tells};
 
 fn rate_room(rated: &[u64], q: &[u64], i: &[u64], rates: usize) -> bool
     ensures { λ r. ⌜ Tells r (RateRoom rates (now (rated .entry)) (now (q .entry)) (now (i .entry))) ⌝ }

@@ -7,7 +7,6 @@ use mathlib.Core.List.{List, [], _∷_, map}
 use mathlib.Core.Option.{Option, none, some}
 use Prim.Native.Nat.{ℕ, _+_, _≤_}
 use native.Mathlib.Omega.{arith}
-use borrow.Author.Tests.{leb-false}
 use lib.Dec.{eqb}
 use Rattle.fund.specs.declared.Rate.{Rate}
 use Rattle.fund.specs.declared.Member.{Member}
@@ -17,12 +16,12 @@ use Rattle.fund.specs.declared.Refusal.the-variants.{Edition, Deductible, Unmat
 use Rattle.fund.specs.declared.Verdict.{Verdict}
 use Rattle.fund.specs.declared.Verdict.the-variants.{Accepted, Refused}
 use Rattle.fund.specs.Base.{if_then_else_}
-use Rattle.fund.specs.Limits.{most-rate, half-rate}
+use Rattle.fund.specs.Limits.{most-rate}
 use Rattle.fund.specs.Reading.{FundFile, read, stopped, reading}
-use Rattle.fund.specs.Folding.{rateAt, folded, life, lives, claim}
-use Rattle.fund.specs.Refusals.{half, Lengths, refuse, valued, matched, verdict}
+use Rattle.fund.specs.Folding.{rateAt, folded, life, lives}
+use Rattle.fund.specs.Refusals.{Lengths, refuse, valued, matched, verdict}
 use Rattle.fund.specs.Answer.{namesLine, part, refused, fundCells, answerOf, answerTo, answer}
-use Rattle.laws.specs.Accepted.{All, Limited, all-map, refuse-accepted, first-none}
+use Rattle.laws.specs.Accepted.{All, Limited, not-half, all-map, refuse-accepted, first-none}
 use Rattle.laws.specs.Ranges.{RateOk, MemberOk, FundOk}
 use Rattle.widths.specs.Lives.{InRange}
 
@@ -72,10 +71,6 @@ unfolding life
 members-in rates [] k ok c = tt
 members-in rates (m ∷ ms) k ok c =
     (folded-in (rateAt rates (m .age)) m (λ r e. rate-found rates (m .age) r k e) (ok .0) (c .0), members-in rates ms k (ok .1) (c .1))
-
-not-half : (m : Life) → half m ≡ false → Limited m
-unfolding half
-not-half m e s = leb-false half-rate (claim m) (rw s at e)
 
 pub lives-in : (file : FundFile) → FundOk file → matched file Accepted ≡ Accepted → All InRange (lives file)
 unfolding matched lives

@@ -21,9 +21,10 @@ use Rattle.fund.specs.Answer.{Answer, empty, namesLine, part, refused, fundCell
 use Rattle.laws.specs.Valued.{valued-load, valued-order, valued-short}
 use Rattle.widths.specs.Lives.{Lives, livesOf}
 use Rattle.valuation.specs.declared.Valued.{Valued}
-use Rattle.valuation.specs.Inside.{HeaderIn, Tells}
+use Rattle.laws.specs.Tells.{Tells}
+use Rattle.valuation.specs.Inside.{HeaderIn}
 use Rattle.valuation.specs.Valued.{left, outcome, lengths, Zeros, Answers, ValuedAs, Fit}
-use Rattle.valuation.proofs.Telling.{tells-yes, tells-no, tells-not}
+use Rattle.laws.specs.Tells.{tells-yes, tells-no, tells-not}
 
 -- What `refused` returns.
 abbrev pub none-valued : Bool → Verdict → Valued

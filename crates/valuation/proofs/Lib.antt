@@ -6,7 +6,7 @@ pub mod Filled
 mod Terms
 mod Members
 mod Weighed
-mod Telling
+mod Entries
 mod Clearing
 mod Valuing
 mod Answering

@@ -37,7 +37,7 @@ use Rattle.valuation.specs.Recursion.{Transform, Recurs}
 use Rattle.valuation.specs.Start.{Rates, Started}
 use Rattle.valuation.specs.declared.start.First.{First}
 use Rattle.valuation.specs.Valued.{Zeros, Fit}
-use Rattle.valuation.proofs.Telling.{all-table-at}
+use Rattle.valuation.proofs.Entries.{all-table-at}
 
 -- ---- slices of zeros
 zero-at : {A : Type 0} (a : A) (n k : ℕ) (s : List A) → s ≡ replicate n a → k < n → getD s k a ≡ a

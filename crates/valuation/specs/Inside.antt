@@ -11,8 +11,3 @@ pub record HeaderIn (fund : Fund) : Type 0 where
   pub order : fund .order ≤ most-order
   pub frequency : fund .frequency ≤ most-frequency
   pub deductible : fund .deductible ≤ suc (fund .horizon)
-
--- A test tells whether something holds.
-pub record Tells (r : Bool) (P : Type 0) : Type 0 where
-  pub yes : r ≡ true → P
-  pub no : P → r ≡ true

@@ -18,7 +18,8 @@ use Rattle.laws.specs.Answer.{fundCell}
 use Rattle.valuation.specs.declared.Valued.{Valued}
 use Rattle.valuation.specs.declared.recursion.Recursed.{Recursed}
 use Rattle.widths.specs.Lives.{Lives, livesOf}
-use Rattle.valuation.specs.Inside.{HeaderIn, Tells}
+use Rattle.laws.specs.Tells.{Tells}
+use Rattle.valuation.specs.Inside.{HeaderIn}
 use Rattle.valuation.specs.Recursion.{Recurs}
 
 -- The answer that a call leaves: what it returns, and the slices.

@@ -8,7 +8,8 @@ ghost use lib.ListN.{length};
 ghost use Rattle.fund.specs.Limits.{most-members};
 ghost use Rattle.laws.specs.Accepted.{All, Limited};
 ghost use Rattle.widths.specs.Lives.{InRange, Lives, livesOf};
-ghost use Rattle.valuation.specs.Inside.{Tells, HeaderIn};
+ghost use Rattle.laws.specs.Tells.{Tells};
+ghost use Rattle.valuation.specs.Inside.{HeaderIn};
 
 // Refusal 6.
 fn limited(m: Life) -> bool

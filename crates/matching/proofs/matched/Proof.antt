@@ -4,7 +4,7 @@ use mathlib.Core.Bool.{true≢false}
 use native.Mathlib.Omega.{arith}
 use borrow.Author.Tests.{not-true, not-false}
 use Rattle.matching.specs.Rows.{rateRow, memberRow}
-use Rattle.matching.proofs.Telling.{tells-yes, tells-no, tells-not}
+use Rattle.laws.specs.Tells.{tells-yes, tells-no, tells-not}
 use Rattle.matching.proofs.Filling.{filled-lives}
 use Rattle.matching.proofs.Answering.{answer-is}
 use borrow.Author.Needs.{needs}

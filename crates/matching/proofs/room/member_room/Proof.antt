@@ -1,6 +1,6 @@
 -- Each test that fails contradicts a length.
 use native.Mathlib.Omega.{arith}
-use Rattle.matching.proofs.Telling.{tells-no, tells-le}
+use Rattle.laws.specs.Tells.{tells-no, tells-le}
 use Rattle.matching.proofs.room.member_room.Statement.{statement}
 use Rattle.matching.proofs.room.member_room.Tie as tie
 

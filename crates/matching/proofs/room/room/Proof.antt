@@ -1,7 +1,7 @@
 -- Each test that fails contradicts a part.
 use native.Mathlib.Omega.{arith}
 use borrow.Author.Tests.{not-true, not-false}
-use Rattle.matching.proofs.Telling.{tells-no, tells-not, tells-le}
+use Rattle.laws.specs.Tells.{tells-no, tells-not, tells-le}
 use borrow.Author.Needs.{needs}
 use Rattle.matching.proofs.room.room.Statement.{statement}
 use Rattle.matching.proofs.room.room.Tie as tie

@@ -5,7 +5,8 @@ use native.Mathlib.Omega.{arith}
 use Rattle.fund.specs.Base.{table}
 use Rattle.laws.specs.Accepted.{All}
 use Rattle.widths.specs.Lives.{InRange, lifeAt, livesOf}
-use Rattle.valuation.proofs.Telling.{tells-yes, tells-no, tells-not, all-table-suc, all-table-at}
+use Rattle.laws.specs.Tells.{tells-yes, tells-no, tells-not}
+use Rattle.valuation.proofs.Entries.{all-table-suc, all-table-at}
 use Rattle.valuation.proofs.inside.all_inside.Statement.{statement}
 use Rattle.valuation.proofs.inside.all_inside.Tie as tie
 

@@ -1,5 +1,5 @@
 -- Only an amount of 0 asks for a rate of 0.
-use Rattle.valuation.proofs.Telling.{tells-yes, tells-eq}
+use Rattle.laws.specs.Tells.{tells-yes, tells-eq}
 use Rattle.valuation.proofs.inside.folded.Statement.{statement}
 use Rattle.valuation.proofs.inside.folded.Tie as tie
 

@@ -2,7 +2,7 @@
 use Prim.Native.Nat.{_+_}
 use borrow.Author.Needs.{needs}
 use native.Mathlib.Omega.{arith}
-use Rattle.valuation.proofs.Telling.{tells-no, tells-le}
+use Rattle.laws.specs.Tells.{tells-no, tells-le}
 use Rattle.valuation.proofs.inside.header_inside.Statement.{statement}
 use Rattle.valuation.proofs.inside.header_inside.Tie as tie
 

@@ -2,7 +2,7 @@
 use borrow.Author.Needs.{needs}
 use borrow.Author.Tests.{not-true, not-false}
 use native.Mathlib.Omega.{arith}
-use Rattle.valuation.proofs.Telling.{tells-no, tells-as, tells-not}
+use Rattle.laws.specs.Tells.{tells-no, tells-as, tells-not}
 use Rattle.valuation.proofs.inside.life_inside.Statement.{statement}
 use Rattle.valuation.proofs.inside.life_inside.Tie as tie
 

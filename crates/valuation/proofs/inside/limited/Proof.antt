@@ -1,7 +1,7 @@
 -- Group 1 alone is asked.
 use borrow.Author.Needs.{needs}
 use borrow.Author.Tests.{eq-eqb, eqb-true}
-use Rattle.valuation.proofs.Telling.{tells-yes, tells-lt}
+use Rattle.laws.specs.Tells.{tells-yes, tells-lt}
 use Rattle.valuation.proofs.inside.limited.Statement.{statement}
 use Rattle.valuation.proofs.inside.limited.Tie as tie
 

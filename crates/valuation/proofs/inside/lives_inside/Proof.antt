@@ -1,7 +1,7 @@
 -- Each test that fails contradicts a length; the last tells of the lives.
 use borrow.Author.Needs.{needs}
 use native.Mathlib.Omega.{arith}
-use Rattle.valuation.proofs.Telling.{tells-no, tells-as}
+use Rattle.laws.specs.Tells.{tells-no, tells-as}
 use Rattle.valuation.proofs.inside.lives_inside.Statement.{statement}
 use Rattle.valuation.proofs.inside.lives_inside.Tie as tie
 

@@ -1,16 +1,13 @@
--- A test that is known tells whether something holds.
+-- A test tells whether something holds (Tells), and what is known of such tests.
 use mathlib.Core.Path.{_≡_, refl, sym, _∙_}
 use mathlib.Core.Bool.{Bool, true, false, true≢false}
-use mathlib.Core.List.{List, [], _∷_, _++_}
-use Prim.Native.Nat.{ℕ, zero, suc, _+_, _≤_, _<_}
-use native.Mathlib.Numerals.{add-one}
-use native.Mathlib.Omega.{arith}
+use Prim.Native.Nat.{ℕ, _≤_, _<_}
 use borrow.Author.Tests.{leb-true, le-leb, ltb-true, lt-ltb, eqb-true, eq-eqb}
 use lib.Dec.{leb, ltb, eqb}
-use Rattle.fund.specs.Base.{table}
-use Rattle.laws.specs.Accepted.{All}
-use Rattle.laws.specs.Tables.{table-first}
-use Rattle.valuation.specs.Inside.{Tells}
+
+pub record Tells (r : Bool) (P : Type 0) : Type 0 where
+  pub yes : r ≡ true → P
+  pub no : P → r ≡ true
 
 pub tells-yes : {P : Type 0} → P → Tells true P
 tells-yes p = record { yes = λ e. p; no = λ q. refl }
@@ -35,17 +32,3 @@ tells-lt m n f g = record { yes = λ e. f (ltb-true m n e); no = λ p. lt-ltb m 
 
 pub tells-eq : {P : Type 0} (m n : ℕ) → (m ≡ n → P) → (P → m ≡ n) → Tells (eqb m n) P
 tells-eq m n f g = record { yes = λ e. f (eqb-true m n e); no = λ p. eq-eqb m n (g p) }
-
--- ---- a fact of every entry of a table
-pub all-table-suc : {A : Type 0} (P : A → Type 0) (n : ℕ) (g : ℕ → A) → All P (table n g) → P (g n) → All P (table (n + 1) g)
-unfolding table
-all-table-suc P n g h k = rw add-one (snoc (table n g) h)
-  where
-    snoc : (l : List _) → All P l → All P (l ++ (g n ∷ []))
-    snoc [] h = (k, tt)
-    snoc (a ∷ l) h = (h .0, snoc l (h .1))
-
-pub all-table-at : {A : Type 0} (P : A → Type 0) (n k : ℕ) (g : ℕ → A) → k < n → All P (table n g) → P (g k)
-all-table-at P zero k g l h = absurd (omega arith)
-all-table-at P (suc n) zero g l h = (rw table-first at h) .0
-all-table-at P (suc n) (suc k) g l h = all-table-at P n k (λ j. g (suc j)) (omega arith) ((rw table-first at h) .1)
