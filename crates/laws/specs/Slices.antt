@@ -5,7 +5,7 @@ use mathlib.Core.List.{List, [], _∷_, _++_}
 use Prim.Native.Nat.{ℕ, zero, suc, _-_, _<_, _≤_}
 use native.Mathlib.Omega.{arith}
 use lib.IntN.{ℤ, pos}
-use lib.ListN.{length, getD, take, drop, replicate, take-append-drop, List·getD-append}
+use lib.ListN.{getD, take, drop, replicate, take-append-drop, List·getD-append}
 use Rattle.fund.specs.Base.{table}
 use Rattle.fund.specs.Transform.{Term, D, H}
 use Rattle.fund.specs.Recursion.{Entry, entries}

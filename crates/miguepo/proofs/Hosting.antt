@@ -1,15 +1,14 @@
 -- What the call answers, handed over field by field (hosts).
 use mathlib.Core.Path.{_≡_, refl, sym, _∙_, ap, subst}
 use mathlib.Core.List.{List}
-use Prim.Native.Nat.{ℕ, _+_, _-_, _≤_}
+use Prim.Native.Nat.{ℕ, _-_, _≤_}
 use native.Mathlib.Omega.{arith}
 use lib.IntN.{ℤ}
-use lib.ListN.{length}
 use Rattle.fund.specs.declared.Refusal.{Refusal}
 use Rattle.fund.specs.declared.Refusal.the-variants.{Form, Range, Edition, Deductible, Unmatched, Half, Load, Order, Short, Wide}
 use Rattle.fund.specs.declared.Verdict.{Verdict}
 use Rattle.fund.specs.declared.Verdict.the-variants.{Accepted, Refused}
-use Rattle.fund.specs.Reading.{FundFile, read, reading}
+use Rattle.fund.specs.Reading.{reading}
 use Rattle.fund.specs.Refusals.{Lengths, numberOf, numberIn, placeIn}
 use Rattle.fund.specs.Answer.{Answer, answer}
 use Rattle.fund.specs.Listing.{horizonIn}

@@ -4,11 +4,9 @@ use mathlib.Core.List.{List}
 use Prim.Native.Nat.{ℕ, _+_, _≤_}
 use lib.IntN.{ℤ}
 use lib.ListN.{length}
-use Rattle.fund.specs.declared.Verdict.{Verdict}
-use Rattle.fund.specs.declared.Verdict.the-variants.{Accepted}
 use Rattle.fund.specs.Reading.{FundFile, read, reading}
 use Rattle.fund.specs.Refusals.{Lengths, numberIn, placeIn}
-use Rattle.fund.specs.Answer.{Answer, answer}
+use Rattle.fund.specs.Answer.{answer}
 use Rattle.fund.specs.Listing.{horizonIn}
 use Rattle.fund.specs.Distance.{WithinBounds}
 use Rattle.pricing.specs.Priced.{horizonWith}

@@ -1,24 +1,21 @@
 -- What `reader::read` leaves in tables that have room: the fund file that was read (read-into), or the refusal with its line
 -- (stop-spans, stop-answers).
 use mathlib.Core.Path.{_≡_, refl, sym, _∙_, ap, subst}
-use mathlib.Core.Bool.{Bool, true, false, _&&_}
-use mathlib.Core.List.{List, []}
-use Prim.Native.Nat.{ℕ, _+_, _-_, _≤_}
+use mathlib.Core.Bool.{true}
+use mathlib.Core.List.{List}
+use Prim.Native.Nat.{ℕ, _+_, _-_}
 use native.Mathlib.Nat.{add-sub-cancel-left}
 use native.Mathlib.Omega.{arith}
 use borrow.Author.Tests.{le-leb}
 use lib.ListN.{length, replicate, length-replicate}
 use Rattle.fund.specs.declared.Refusal.{Refusal}
-use Rattle.fund.specs.declared.Verdict.{Verdict}
 use Rattle.fund.specs.declared.Verdict.the-variants.{Accepted, Refused}
-use Rattle.fund.specs.Base.{if_then_else_}
 use Rattle.fund.specs.Limits.{most-rates, most-members}
 use Rattle.fund.specs.Reading.{FundFile, Reading, read, stopped, reading}
 use Rattle.fund.specs.Refusals.{Lengths}
 use Rattle.fund.specs.Answer.{Answer, part, refused, answer}
 use Rattle.laws.specs.Ranges.{read-ranges}
 use Rattle.reader.specs.declared.FileRead.{FileRead}
-use Rattle.reader.specs.declared.part.Part.{Part}
 use Rattle.reader.specs.Part.{Spans}
 use Rattle.reader.specs.Rows.{RateTable, MemberTable, RateRoom, MemberRoom}
 use Rattle.reader.specs.Read.{rateCells, memberCells, enough, found, ratesIn, membersIn, rateTable, memberTable, Reads}

@@ -1,7 +1,6 @@
 -- A call that stops leaves zeros and the line of its refusal (stopped-answers); every call whose answer is the definition's keeps
 -- demand 3 (prices); and the line that is handed back (line-inside, line-outside, line-reversed).
 use mathlib.Core.Path.{_≡_, refl, sym, _∙_, ap, subst}
-use mathlib.Core.Bool.{true, false}
 use mathlib.Core.List.{List, []}
 use Prim.Native.Nat.{ℕ, _-_, _≤_, _<_}
 use borrow.Author.Tests.{le-leb, lt-leb}

@@ -1,9 +1,9 @@
 -- The answer of a fund that is read, from the refusals 3 to 6 (matched-answers) and from the valuation (valued-answers).
 use mathlib.Core.Path.{_≡_, refl, sym, _∙_, ap, subst}
 use mathlib.Core.Bool.{Bool, true, false}
-use mathlib.Core.List.{List, []}
+use mathlib.Core.List.{List}
 use mathlib.Core.Option.{Option, none, some}
-use Prim.Native.Nat.{ℕ, suc, _≤_}
+use Prim.Native.Nat.{ℕ, _≤_}
 use native.Mathlib.Omega.{arith}
 use borrow.Author.Tests.{ltb-false}
 use lib.IntN.{ℤ}
@@ -22,7 +22,7 @@ use Rattle.fund.specs.Refusals.{Lengths, refuse, matched, valued}
 use Rattle.fund.specs.Listing.{horizonIn}
 use Rattle.fund.specs.Answer.{Answer, namesLine, refused, fundCells, answerOf, answer}
 use Rattle.laws.specs.Accepted.{All, refuse-accepted, at0-none}
-use Rattle.laws.specs.Ranges.{FundOk, read-ranges}
+use Rattle.laws.specs.Ranges.{read-ranges}
 use Rattle.widths.specs.Lives.{Lives, InRange, livesOf}
 use Rattle.matching.specs.declared.verdict.Matched.{Matched}
 use Rattle.matching.specs.Matching.{Room, Matching}

@@ -10,7 +10,6 @@ use native.Mathlib.Omega.{arith}
 use lib.Dec.{eqb}
 use Rattle.fund.specs.declared.Rate.{Rate}
 use Rattle.fund.specs.declared.Member.{Member}
-use Rattle.fund.specs.declared.Life.{Life}
 use Rattle.fund.specs.declared.Refusal.{Refusal}
 use Rattle.fund.specs.declared.Refusal.the-variants.{Edition, Deductible, Unmatched, Half}
 use Rattle.fund.specs.declared.Verdict.{Verdict}

@@ -6,12 +6,11 @@ use Prim.Native.Nat.{ℕ, zero, suc, _+_, _-_, _≤_}
 use native.Mathlib.Omega.{arith}
 use lib.Dec.{eqb}
 use lib.ListN.{length, getD}
-use Rattle.fund.specs.declared.Refusal.{Refusal}
 use Rattle.fund.specs.declared.Verdict.{Verdict}
 use Rattle.fund.specs.declared.Verdict.the-variants.{Accepted, Refused}
 use Rattle.fund.specs.Base.{if_then_else_}
 use Rattle.fund.specs.Lines.{Line, begun, linesFrom, lines}
-use Rattle.fund.specs.Answer.{Part, empty, namesLine, lineAt, part}
+use Rattle.fund.specs.Answer.{empty, namesLine, lineAt, part}
 use Rattle.laws.specs.Accepted.{All}
 
 -- The lines from a place on: the first starts there, and each ends in the file.

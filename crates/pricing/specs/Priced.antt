@@ -1,12 +1,11 @@
 -- What a pricing call leaves: the answer of document 01, and demand 3 of every fund that it accepts.
 use mathlib.Core.Path.{_≡_}
-use mathlib.Core.Bool.{Bool, true, false, _&&_}
+use mathlib.Core.Bool.{_&&_}
 use mathlib.Core.List.{List, []}
 use Prim.Native.Nat.{ℕ, _-_, _≤_}
 use lib.Dec.{leb}
 use lib.IntN.{ℤ}
 use lib.ListN.{length, take, drop}
-use Rattle.fund.specs.declared.Fund.{Fund}
 use Rattle.fund.specs.declared.Verdict.{Verdict}
 use Rattle.fund.specs.declared.Verdict.the-variants.{Accepted, Refused}
 use Rattle.fund.specs.Base.{if_then_else_}

@@ -4,7 +4,6 @@ use fund::Refusal;
 use fund::Verdict;
 use reader::Part;
 ghost use mathlib.Core.Path.{_≡_};
-ghost use lib.ListN.{length};
 ghost use Rattle.fund.specs.declared.Verdict;
 ghost use Rattle.fund.specs.Answer.{part, refused, answer};
 ghost use Rattle.reader.specs.Part.{Spans};

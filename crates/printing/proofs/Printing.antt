@@ -2,24 +2,22 @@
 use mathlib.Core.Path.{_≡_, refl, sym, _∙_, ap}
 use mathlib.Core.Bool.{Bool, true, false, _&&_}
 use mathlib.Core.List.{List, []}
-use Prim.Native.Nat.{ℕ, suc, _≤_, _<_}
+use Prim.Native.Nat.{ℕ, suc, _≤_}
 use native.Mathlib.Omega.{arith}
 use borrow.Author.Tests.{le-leb, lt-ltb}
-use lib.Dec.{leb, ltb}
+use lib.Dec.{leb}
 use lib.IntN.{ℤ, pos}
 use lib.ListN.{length, take, replicate, length-take, length-replicate}
-use Rattle.fund.specs.declared.Refusal.{Refusal}
 use Rattle.fund.specs.declared.Verdict.{Verdict}
 use Rattle.fund.specs.declared.Verdict.the-variants.{Accepted, Refused}
 use Rattle.fund.specs.Base.{if_then_else_}
 use Rattle.fund.specs.Limits.{most-horizon, most-truncation}
 use Rattle.fund.specs.Reading.{Reading, read, stopped, reading}
-use Rattle.fund.specs.Refusals.{Lengths}
 use Rattle.fund.specs.Answer.{Answer, answer}
-use Rattle.fund.specs.Listing.{listed, refusedLine, printed, horizonIn, enough, listing}
+use Rattle.fund.specs.Listing.{listed, printed, horizonIn, enough, listing}
 use Rattle.laws.specs.Ranges.{read-ranges}
 use Rattle.text.specs.Writing.{Written}
-use Rattle.text.specs.Shown.{room, figures, bounded, inRange, shown}
+use Rattle.text.specs.Shown.{room, figures, inRange, shown}
 use Rattle.valuation.specs.Valued.{lengths}
 use Rattle.pricing.specs.declared.Priced.{Priced}
 use Rattle.pricing.specs.Priced.{left, horizonWith, Answers}

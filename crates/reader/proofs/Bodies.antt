@@ -1,13 +1,13 @@
 -- Laws of the rows: each step of the definition `readRows`, at a line of a file and at the file's end.
-use mathlib.Core.Path.{_≡_, refl, sym, ap, _∙_}
+use mathlib.Core.Path.{_≡_, refl, sym, _∙_}
 use mathlib.Core.Bool.{Bool, true, false}
 use mathlib.Core.List.{List, [], _∷_, _++_}
-use Prim.Native.Nat.{ℕ, zero, suc, _+_, _-_, _≤_, _<_}
+use Prim.Native.Nat.{ℕ, zero, suc, _+_, _-_, _≤_}
 use native.Mathlib.Numerals.{add-one}
 use native.Mathlib.Omega.{arith}
 use borrow.Author.Tests.{eq-eqb, ne-eqb}
 use lib.Dec.{eqb, eqb·suc-zero}
-use lib.ListN.{length, drop, drop-of-length-le}
+use lib.ListN.{length, drop-of-length-le}
 use Rattle.fund.specs.declared.Fund.{Fund}
 use Rattle.fund.specs.declared.Rate.{Rate}
 use Rattle.fund.specs.declared.Member.{Member}
@@ -16,7 +16,7 @@ use Rattle.fund.specs.declared.Refusal.the-variants.{Form, Range}
 use Rattle.fund.specs.Base.{if_then_else_, table}
 use Rattle.fund.specs.Lines.{Line as FundLine, linesFrom}
 use Rattle.fund.specs.Answer.{namesLine}
-use Rattle.fund.specs.Reading.{Reading, read, stopped, rowOf, rateRow, memberRow, endRow, otherRow, rateInRange, memberInRange, noMember, atEnd, readRows}
+use Rattle.fund.specs.Reading.{Reading, stopped, rowOf, rateRow, memberRow, endRow, otherRow, rateInRange, memberInRange, noMember, atEnd, readRows}
 use Rattle.reader.specs.declared.line.Line.{Line}
 use Rattle.reader.specs.declared.line.Stop.{Stop}
 use Rattle.reader.specs.declared.row.Taking.{Taking}
@@ -24,9 +24,9 @@ use Rattle.reader.specs.declared.row.Taking.the-variants.{Taken, Broken}
 use Rattle.reader.specs.declared.body.State.{State}
 use Rattle.reader.specs.declared.body.End.{End}
 use Rattle.reader.specs.declared.body.End.the-variants.{Whole, Stopped}
-use Rattle.reader.specs.Lines.{linesAt, lineOf, NextLine, Passed, HandsBack, stopAt}
-use Rattle.reader.specs.Rows.{RateTable, MemberTable, memberAt, rateRows, memberRows, RateRoom, MemberRoom, RatesClear, MembersClear, rateTaking, memberTaking, RateTaken, MemberTaken}
-use Rattle.reader.specs.Body.{rowsFrom, endReading, Ending, At, Finished, RowNext, RowEnd}
+use Rattle.reader.specs.Lines.{linesAt, lineOf, NextLine, Passed, stopAt}
+use Rattle.reader.specs.Rows.{RateTable, MemberTable, memberAt, rateRows, memberRows, RateRoom, MemberRoom, rateTaking, memberTaking, RateTaken, MemberTaken}
+use Rattle.reader.specs.Body.{rowsFrom, At, Finished, RowNext, RowEnd}
 use Rattle.reader.proofs.Lines.{hands-line, hands-none, passed-next}
 use Rattle.reader.proofs.Rows.{length-members}
 

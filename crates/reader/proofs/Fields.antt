@@ -4,8 +4,7 @@ use mathlib.Core.Path.{_≡_, refl, sym, ap, _∙_}
 use mathlib.Core.Bool.{Bool, true, false, _&&_, and-false, and-true}
 use mathlib.Core.List.{List, [], _∷_, _++_, map, append-assoc}
 use mathlib.Core.Option.{Option, none, some}
-use Prim.Native.Nat.{ℕ, zero, suc, _+_, _-_, _≤_, _<_}
-use native.Mathlib.Numerals.{add-one}
+use Prim.Native.Nat.{ℕ, suc, _+_, _-_, _≤_, _<_}
 use native.Mathlib.Omega.{arith}
 use borrow.Author.Tests.{eqb-true, eqb-false, eq-eqb, ne-eqb}
 use lib.Dec.{eqb, eqb·suc-suc}
@@ -13,7 +12,6 @@ use lib.ListN.{length, take, drop, set, length-drop}
 use lib.Seq.{take-suc-set, take-all, drop-drop}
 use Rattle.fund.specs.Base.{if_then_else_}
 use Rattle.fund.specs.Spelling.{isNumber, value, inFirst, fields, allNumbers, numbers}
-use Rattle.reader.specs.declared.text.Number.{Number}
 use Rattle.reader.specs.declared.text.Number.the-variants.{Value, Misspelled}
 use Rattle.reader.specs.Text.{before, numberIn}
 

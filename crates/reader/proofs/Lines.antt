@@ -3,24 +3,22 @@
 use mathlib.Core.Path.{_≡_, refl, sym, ap, _∙_}
 use mathlib.Core.Bool.{Bool, true, false}
 use mathlib.Core.List.{List, [], _∷_, map}
-use mathlib.Core.Option.{Option, none, some}
+use mathlib.Core.Option.{none, some}
 use Prim.Native.Nat.{ℕ, zero, suc, _+_, _-_, _≤_, _<_}
 use native.Mathlib.Nat.{add-sub-cancel}
-use native.Mathlib.Numerals.{add-one}
 use native.Mathlib.Omega.{arith}
 use borrow.Author.Tests.{lt-ltb, le-ltb}
 use lib.Dec.{eqb, ltb, leb·suc-suc}
 use lib.ListN.{length, take, drop, getD, length-drop, drop-of-length-le}
 use lib.Seq.{drop-drop, length-take-le, take-all}
 use Rattle.fund.specs.declared.Refusal.{Refusal}
-use Rattle.fund.specs.declared.Verdict.the-variants.{Refused}
 use Rattle.fund.specs.Base.{if_then_else_}
 use Rattle.fund.specs.Lines.{Line as FundLine, begun, linesFrom, lines}
 use Rattle.fund.specs.Spelling.{behind, numbers, spelled}
-use Rattle.fund.specs.Answer.{Part, empty, namesLine, lineAt, part}
+use Rattle.fund.specs.Answer.{empty, namesLine, lineAt, part}
 use Rattle.reader.specs.declared.line.Line.{Line}
 use Rattle.reader.specs.Text.{before}
-use Rattle.reader.specs.Lines.{linesAt, lineOf, Within, NextLine, Passed, HandsBack, stopAt}
+use Rattle.reader.specs.Lines.{linesAt, lineOf, NextLine, Passed, HandsBack, stopAt}
 use Rattle.reader.proofs.Fields.{before-within}
 
 lines-first : (at m : ℕ) (s : List ℕ) → 0 < length s → m ≡ at + suc (before 10 s) → linesFrom at s ≡ record { start = at; text = take (before 10 s) s; ended = ltb (before 10 s) (length s) } ∷ linesFrom m (drop (suc (before 10 s)) s)

@@ -1,17 +1,15 @@
 -- Laws of a number's spelling: each way to break it, the digits and the value place by place, and a bound of the value.
-use mathlib.Core.Path.{_≡_, refl, sym, ap, _∙_}
-use mathlib.Core.Bool.{Bool, true, false, not, _&&_, _||_, and-false}
+use mathlib.Core.Path.{_≡_, refl}
+use mathlib.Core.Bool.{true, false, _&&_, and-false}
 use mathlib.Core.List.{List, [], _∷_}
-use Prim.Native.Nat.{ℕ, zero, suc, _+_, _-_, _*_, _^_, _≤_, _<_}
+use Prim.Native.Nat.{ℕ, suc, _+_, _-_, _*_, _^_, _≤_, _<_}
 use native.Mathlib.Nat.{pow-suc, pow-le-pow-right}
 use native.Mathlib.Omega.{arith}
 use borrow.Author.Tests.{eq-eqb, ne-eqb, le-leb, lt-leb}
-use lib.Dec.{eqb, leb}
+use lib.Dec.{leb}
 use lib.ListN.{length, getD, drop, drop-of-length-le}
 use lib.Seq.{drop-cons}
-use Rattle.fund.specs.Base.{if_then_else_}
 use Rattle.fund.specs.Spelling.{digits, isNumber, valueFrom, value}
-use Rattle.reader.specs.declared.text.Number.{Number}
 use Rattle.reader.specs.declared.text.Number.the-variants.{Value, Misspelled}
 use Rattle.reader.specs.Text.{numberIn}
 

@@ -2,8 +2,8 @@
 use mathlib.Core.Path.{_≡_, refl, sym, ap, _∙_}
 use mathlib.Core.Bool.{Bool, true, false, _&&_}
 use mathlib.Core.List.{List, [], _∷_, _++_}
-use mathlib.Core.Option.{Option, none, some}
-use Prim.Native.Nat.{ℕ, zero, suc, _+_, _-_, _≤_, _<_}
+use mathlib.Core.Option.{none, some}
+use Prim.Native.Nat.{ℕ, zero, suc, _+_, _-_, _<_}
 use native.Mathlib.Numerals.{add-one}
 use native.Mathlib.Omega.{arith}
 use borrow.Author.Tests.{eq-eqb, ne-eqb, ltb-true}
@@ -19,9 +19,8 @@ use Rattle.fund.specs.Lines.{Line as FundLine}
 use Rattle.fund.specs.Spelling.{spelled}
 use Rattle.fund.specs.Reading.{rowOf, rateRow, memberRow, endRow, otherRow, between, rising, rateInRange, memberInRange}
 use Rattle.laws.specs.Tables.{length-table}
-use Rattle.reader.specs.declared.row.Taking.{Taking}
 use Rattle.reader.specs.declared.row.Taking.the-variants.{Taken, Broken}
-use Rattle.reader.specs.Rows.{RateTable, MemberTable, rateAt, memberAt, rateRows, memberRows, RateRoom, MemberRoom, Clear, RatesClear, MembersClear, rateTaking, memberTaking, RateTaken, MemberTaken}
+use Rattle.reader.specs.Rows.{RateTable, MemberTable, rateAt, memberAt, rateRows, memberRows, RateRoom, MemberRoom, Clear, rateTaking, memberTaking, RateTaken, MemberTaken}
 
 -- What a line is, by its numbers.
 module _ (l : FundLine) where

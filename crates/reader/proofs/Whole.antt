@@ -1,21 +1,21 @@
 -- Laws of the whole reading: tables that begin with their rows and are 0 behind them, and the answer from how reading ends.
 use mathlib.Core.Path.{_≡_, refl, sym, ap, _∙_}
 use mathlib.Core.Bool.{Bool, true, false, _&&_, and-false}
-use mathlib.Core.List.{List, [], _∷_, _++_, map}
-use Prim.Native.Nat.{ℕ, zero, suc, _+_, _-_, _≤_, _<_}
+use mathlib.Core.List.{List, [], _∷_, _++_}
+use Prim.Native.Nat.{ℕ, zero, suc, _+_, _-_, _≤_}
 use native.Mathlib.Nat.{sub-zero}
 use native.Mathlib.Omega.{arith}
 use borrow.Author.Tests.{leb-true}
 use lib.Dec.{leb}
-use lib.ListN.{length, take, drop, getD, replicate, length-replicate, take-append-drop}
+use lib.ListN.{length, take, getD, replicate, length-replicate, take-append-drop}
 use lib.Seq.{take-suc}
 use Rattle.fund.specs.declared.Fund.{Fund}
 use Rattle.fund.specs.declared.Rate.{Rate}
 use Rattle.fund.specs.declared.Member.{Member}
-use Rattle.fund.specs.declared.Verdict.the-variants.{Accepted, Refused}
-use Rattle.fund.specs.Base.{if_then_else_, table}
-use Rattle.fund.specs.Reading.{Reading, read, stopped, reading}
-use Rattle.fund.specs.Answer.{Part, part, lent}
+use Rattle.fund.specs.declared.Verdict.the-variants.{Accepted}
+use Rattle.fund.specs.Base.{table}
+use Rattle.fund.specs.Reading.{read, stopped, reading}
+use Rattle.fund.specs.Answer.{lent}
 use Rattle.laws.specs.Tables.{length-table, map-table}
 use Rattle.reader.specs.declared.FileRead.{FileRead}
 use Rattle.reader.specs.declared.line.Stop.{Stop}

@@ -2,8 +2,7 @@
 use mathlib.Core.Path.{_≡_}
 use mathlib.Core.List.{List, [], _∷_, _++_}
 use Prim.Native.Nat.{ℕ, _+_, _<_}
-use lib.ListN.{length, drop, getD}
-use Rattle.fund.specs.Lines.{Line as FundLine}
+use lib.ListN.{drop, getD}
 use Rattle.fund.specs.Reading.{Reading, stopped, HeaderLine, headerLines, readHeader, readRows, reading}
 use Rattle.reader.specs.declared.line.Stop.{Stop}
 use Rattle.reader.specs.declared.header.HeaderStep.{HeaderStep}

@@ -1,13 +1,12 @@
 -- The tables of the rate rows and of the member rows, and what the functions on a row line answer.
 use mathlib.Core.Path.{_≡_}
-use mathlib.Core.Bool.{Bool, true, false}
+use mathlib.Core.Bool.{Bool}
 use mathlib.Core.List.{List, [], _∷_, _++_}
-use Prim.Native.Nat.{ℕ, suc, _+_, _-_, _≤_, _<_}
+use Prim.Native.Nat.{ℕ, _+_, _-_, _≤_, _<_}
 use lib.Dec.{eqb}
 use lib.ListN.{length, drop, getD, replicate}
 use Rattle.fund.specs.declared.Rate.{Rate}
 use Rattle.fund.specs.declared.Member.{Member}
-use Rattle.fund.specs.declared.Refusal.{Refusal}
 use Rattle.fund.specs.declared.Refusal.the-variants.{Form, Range}
 use Rattle.fund.specs.Base.{if_then_else_, table}
 use Rattle.fund.specs.Reading.{Row as FundRow, rateRow, memberRow, endRow, otherRow, rateInRange, memberInRange}

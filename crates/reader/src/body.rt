@@ -8,11 +8,9 @@ use crate::row::Taking;
 use fund::Member;
 use fund::Rate;
 use fund::Refusal;
-ghost use mathlib.Core.Path.{_≡_};
-ghost use Prim.Native.Nat.{_≤_, _<_};
-ghost use lib.ListN.{length};
+ghost use Prim.Native.Nat.{_<_};
 ghost use Rattle.reader.specs.Lines.{Passed, NextLine};
-ghost use Rattle.reader.specs.Rows.{RateTable, MemberTable, RateRoom, MemberRoom};
+ghost use Rattle.reader.specs.Rows.{RateRoom, MemberRoom};
 ghost use Rattle.reader.specs.Body.{Finished, RateStepped, MemberStepped, RowStepped, RowsRead, At};
 
 // Where reading stands: the next line's start, and how many lines, rate rows and member rows were passed.

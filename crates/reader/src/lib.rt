@@ -18,7 +18,7 @@ ghost use mathlib.Core.List.{[]};
 ghost use lib.ListN.{length, replicate};
 ghost use Rattle.reader.specs.declared.header.Header;
 ghost use Rattle.reader.specs.Header.{HeaderRead};
-ghost use Rattle.reader.specs.Rows.{RateTable, MemberTable, Empty};
+ghost use Rattle.reader.specs.Rows.{Empty};
 ghost use Rattle.reader.specs.Read.{refusedAt, withoutRoom, rateCells, memberCells, rateTable, memberTable, Filled, Reads};
 
 // What reading a file found. Where it has room, the verdict is that of 1 and 2; the header's figures, and how many rows the

@@ -12,7 +12,7 @@ ghost use Prim.Native.Nat.{ℕ, _+_, _≤_};
 ghost use lib.ListN.{length};
 ghost use Rattle.fund.specs.Reading.{rowOf, rising, rateInRange, memberInRange};
 ghost use Rattle.reader.specs.Lines.{lineOf, Within};
-ghost use Rattle.reader.specs.Rows.{rowIn, RateTable, MemberTable, rateRows, memberRows, RateRoom, MemberRoom, RateTaken, MemberTaken};
+ghost use Rattle.reader.specs.Rows.{rowIn, MemberTable, rateRows, memberRows, RateRoom, MemberRoom, RateTaken, MemberTaken};
 
 pub(crate) enum Row {
     Rate(Rate),

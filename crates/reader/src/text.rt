@@ -1,7 +1,7 @@
 // The spelling of a text: where a byte stands, whether a key begins it, and its numbers between commas.
 ghost use mathlib.Core.Path.{_≡_};
 ghost use Prim.Native.Nat.{_+_, _≤_};
-ghost use lib.ListN.{length, take, drop};
+ghost use lib.ListN.{length, drop};
 ghost use Rattle.fund.specs.Spelling.{behind, numbers};
 ghost use Rattle.reader.specs.Text.{before, behindIf, numberIn, numbersIn};
 

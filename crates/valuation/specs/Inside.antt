@@ -1,6 +1,4 @@
 -- What the tests of a header and of lives tell.
-use mathlib.Core.Path.{_≡_}
-use mathlib.Core.Bool.{Bool, true}
 use Prim.Native.Nat.{suc, _≤_}
 use Rattle.fund.specs.declared.Fund.{Fund}
 use Rattle.fund.specs.Limits.{most-horizon, most-order, most-frequency}

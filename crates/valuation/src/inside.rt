@@ -5,7 +5,6 @@ use fund::Life;
 ghost use mathlib.Core.Path.{_≡_};
 ghost use Prim.Native.Nat.{_≤_};
 ghost use lib.ListN.{length};
-ghost use Rattle.fund.specs.Limits.{most-members};
 ghost use Rattle.laws.specs.Accepted.{All, Limited};
 ghost use Rattle.widths.specs.Lives.{InRange, Lives, livesOf};
 ghost use Rattle.laws.specs.Tells.{Tells};

@@ -1,6 +1,5 @@
 -- Each turn takes the next file, and a count of turns falls.
 use mathlib.Core.Path.{_≡_}
-use native.Mathlib.Omega.{arith}
 use borrow.Author.Needs.{needs}
 use lib.ListN.{length}
 use Rattle.cases.proofs.main.Statement.{statement}

@@ -1,6 +1,5 @@
 -- The file's bytes are the first ones of the buffer.
 use mathlib.Core.Path.{sym}
-use native.Mathlib.Omega.{arith}
 use lib.Seq.{length-take-le}
 use borrow.Author.Needs.{needs}
 use Rattle.cases.proofs.next.Statement.{statement}

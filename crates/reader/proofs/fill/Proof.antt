@@ -1,6 +1,5 @@
 -- `reader::fill`: the header is read, and then the rows.
 use borrow.Author.Needs.{needs}
-use Rattle.reader.specs.Rows.{RateTable, MemberTable}
 use Rattle.reader.proofs.Whole.{filled-stop, empty-rates, empty-members}
 use Rattle.reader.proofs.fill.Statement.{statement}
 use Rattle.reader.proofs.fill.Tie as tie

@@ -1,8 +1,7 @@
 -- `reader::fill_rows`: the rows end with a fund, or reading stops and the tables are clear again.
 use mathlib.Core.Path.{_∙_}
 use borrow.Author.Needs.{needs}
-use Rattle.reader.specs.Rows.{RateTable, MemberTable}
-use Rattle.reader.proofs.Whole.{SameRates, SameMembers, rate-lengths, member-lengths, filled-whole, filled-stop}
+use Rattle.reader.proofs.Whole.{rate-lengths, member-lengths, filled-whole, filled-stop}
 use Rattle.reader.proofs.fill_rows.Statement.{statement}
 use Rattle.reader.proofs.fill_rows.Tie as tie
 

@@ -1,6 +1,4 @@
 -- `reader::has_member_cells`: the tests of the definition, in its order.
-use native.Mathlib.Omega.{arith}
-use borrow.Author.Needs.{needs}
 use borrow.Author.Tests.{le-leb, lt-leb}
 use Rattle.reader.specs.Read.{memberCells}
 use Rattle.reader.proofs.has_member_cells.Statement.{statement}

@@ -1,6 +1,4 @@
 -- `reader::has_rate_cells`: the tests of the definition, in its order.
-use native.Mathlib.Omega.{arith}
-use borrow.Author.Needs.{needs}
 use borrow.Author.Tests.{le-leb, lt-leb}
 use Rattle.reader.specs.Read.{rateCells}
 use Rattle.reader.proofs.has_rate_cells.Statement.{statement}

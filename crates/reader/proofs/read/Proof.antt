@@ -1,7 +1,6 @@
 -- `reader::read`: the tables are cleared, and filled where each has room.
 use mathlib.Core.Path.{sym, _∙_}
 use borrow.Author.Needs.{needs}
-use Rattle.reader.specs.Rows.{RateTable, MemberTable}
 use Rattle.reader.proofs.Whole.{room-empty, reads-filled, reads-rates-short, reads-members-short}
 use Rattle.reader.proofs.read.Statement.{statement}
 use Rattle.reader.proofs.read.Tie as tie

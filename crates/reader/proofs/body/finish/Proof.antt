@@ -1,6 +1,4 @@
 -- `reader::body::finish`: each return is a step of the definition at an `end=` line.
-use mathlib.Core.Path.{_≡_}
-use native.Mathlib.Omega.{arith}
 use borrow.Author.Needs.{needs}
 use Rattle.reader.proofs.Bodies.{finish-count, finish-more, finish-whole}
 use Rattle.reader.proofs.body.finish.Statement.{statement}

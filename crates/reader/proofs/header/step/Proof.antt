@@ -1,5 +1,5 @@
 -- `reader::header::step`: each return is a step of the definition `readHeader`.
-use mathlib.Core.Path.{_≡_, sym, _∙_}
+use mathlib.Core.Path.{sym, _∙_}
 use native.Mathlib.Omega.{arith}
 use borrow.Author.Needs.{needs}
 use Rattle.reader.proofs.Headers.{step-missing, step-form, step-range, step-next}

@@ -1,5 +1,4 @@
 -- `reader::header::within` is the test of the definitions.
-use borrow.Author.Needs.{needs}
 use borrow.Author.Tests.{le-leb, lt-leb}
 use Rattle.fund.specs.Reading.{between}
 use Rattle.reader.proofs.header.within.Statement.{statement}

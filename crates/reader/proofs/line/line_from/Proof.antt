@@ -1,5 +1,4 @@
 -- `reader::line::line_from`: a line ends before the next line feed, or where the file does.
-use native.Mathlib.Omega.{arith}
 use borrow.Author.Needs.{needs}
 use Rattle.reader.proofs.Lines.{line-ended, line-open}
 use Rattle.reader.proofs.line.line_from.Statement.{statement}

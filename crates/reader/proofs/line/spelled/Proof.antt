@@ -1,13 +1,11 @@
 -- `reader::line::spelled`: the numbers stand behind the key, in a line that has its line feed.
-use mathlib.Core.Path.{_≡_, refl, sym, ap, _∙_}
-use mathlib.Core.Bool.{true, false}
-use mathlib.Core.Option.{Option, some, none}
-use Prim.Native.Nat.{_≤_}
+use mathlib.Core.Path.{_≡_, sym, ap, _∙_}
+use mathlib.Core.Option.{some}
 use native.Mathlib.Omega.{arith}
 use borrow.Author.Needs.{needs}
 use lib.ListN.{length, drop}
 use Rattle.fund.specs.Spelling.{behind, numbers}
-use Rattle.reader.specs.Text.{numbersIn, behindIf}
+use Rattle.reader.specs.Text.{numbersIn}
 use Rattle.reader.specs.Lines.{lineOf}
 use Rattle.reader.proofs.Lines.{rest-all, behind-length, spelled-open, spelled-not, spelled-behind}
 use Rattle.reader.proofs.line.spelled.Statement.{statement}

@@ -1,5 +1,5 @@
 -- `reader::row::row_of`: the first of the three spellings that the line has.
-use mathlib.Core.Path.{_≡_, sym, _∙_}
+use mathlib.Core.Path.{sym, _∙_}
 use borrow.Author.Needs.{needs}
 use Rattle.fund.specs.Base.{bytes}
 use Rattle.reader.specs.Lines.{lineOf}

@@ -5,7 +5,7 @@ use Prim.Native.Nat.{_<_}
 use native.Mathlib.Omega.{arith}
 use borrow.Author.Needs.{needs}
 use Rattle.fund.specs.Reading.{memberInRange}
-use Rattle.reader.specs.Rows.{MemberTable, memberRows}
+use Rattle.reader.specs.Rows.{memberRows}
 use Rattle.reader.proofs.Rows.{length-members, members-few, member-taken, member-range}
 use Rattle.reader.proofs.row.take_member.Statement.{statement}
 use Rattle.reader.proofs.row.take_member.Tie as tie

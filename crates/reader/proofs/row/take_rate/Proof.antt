@@ -5,7 +5,7 @@ use Prim.Native.Nat.{_<_}
 use native.Mathlib.Omega.{arith}
 use borrow.Author.Needs.{needs}
 use Rattle.fund.specs.Reading.{rateInRange}
-use Rattle.reader.specs.Rows.{RateTable, rateRows}
+use Rattle.reader.specs.Rows.{rateRows}
 use Rattle.reader.proofs.Rows.{length-rates, rates-few, rate-taken, rate-form, rate-range}
 use Rattle.reader.proofs.row.take_rate.Statement.{statement}
 use Rattle.reader.proofs.row.take_rate.Tie as tie

@@ -1,5 +1,5 @@
 -- Only an entry that is 0 and 0 is not noted.
-use mathlib.Core.Path.{_≡_, refl, sym, ap, _∙_}
+use mathlib.Core.Path.{refl, sym, ap, _∙_}
 use mathlib.Core.Logic.{inl, inr}
 use lib.IntN.{natAbs}
 use mir.Facts.{toZ-ofZ}
