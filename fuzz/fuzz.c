@@ -1,8 +1,8 @@
 // The library against the tuned peer of bench/, on files and slice lengths that a fuzzer chooses.
 //
 // The first four bytes of an input choose the slices' lengths, the rest is the file. The peer is built with the fuzzer's
-// coverage and with sanitizers, so that new paths through it lead the search; the library is the archive itself. Each slice
-// is a block of its own, filled with other numbers, so that a store outside it is seen.
+// coverage and with sanitizers, so that new paths through it lead the search; the library is the archive itself. Before and
+// behind each slice stand cells that must stay as they are, since no sanitizer sees the archive's stores.
 #include "../include/miguepo.h"
 #include "../bench/peer.h"
 
@@ -11,12 +11,21 @@
 
 static size_t cells(uint8_t byte) { return byte < 250 ? byte : byte == 250 ? 4096 : (size_t)(byte - 250) * 900; }
 
-static void *block(size_t size, int filling) {
-    void *at = malloc(size ? size : 1);
+enum { EDGE = 64 }; // bytes before and behind each slice
+
+// A slice of so many bytes, filled, between its edges.
+static uint8_t *slice_of(size_t size, int filling) {
+    uint8_t *at = malloc(size + 2 * EDGE);
     if (!at)
         abort();
-    memset(at, filling, size);
-    return at;
+    memset(at, filling, size + 2 * EDGE);
+    return at + EDGE;
+}
+
+static void edges_kept(const uint8_t *at, size_t size, int filling) {
+    for (size_t k = 1; k <= EDGE; k++)
+        if (at[-(ptrdiff_t)k] != filling || at[size + k - 1] != filling)
+            abort();
 }
 
 static void same(const void *a, const void *b, size_t size) {
@@ -28,21 +37,23 @@ int LLVMFuzzerTestOneInput(const uint8_t *data, size_t size) {
     if (size < 4)
         return 0;
     size_t n[4], length = size - 4;
-    void *slice[2][4];
+    uint8_t *slice[2][4];
     for (int k = 0; k < 4; k++) {
         n[k] = cells(data[k]);
         for (int side = 0; side < 2; side++)
-            slice[side][k] = block(8 * n[k], 0x5a + side);
+            slice[side][k] = slice_of(8 * n[k], 0x5a + side);
     }
-    uint8_t *file = block(length, 0);
+    uint8_t *file = malloc(length ? length : 1);
+    if (!file)
+        abort();
     memcpy(file, data + 4, length);
 
     struct priced peer, got;
     memset(&peer, 0, sizeof peer);
     memset(&got, 0, sizeof got);
-    peer_price(file, length, slice[0][0], n[0], slice[0][1], n[1], slice[0][2], n[2], slice[0][3], n[3], &peer);
+    peer_price(file, length, (int64_t *)slice[0][0], n[0], (uint64_t *)slice[0][1], n[1], (int64_t *)slice[0][2], n[2], (uint64_t *)slice[0][3], n[3], &peer);
     size_t start, line;
-    got.number = miguepo_price(file, length, slice[1][0], n[0], slice[1][1], n[1], slice[1][2], n[2], slice[1][3], n[3],
+    got.number = miguepo_price(file, length, (int64_t *)slice[1][0], n[0], (uint64_t *)slice[1][1], n[1], (int64_t *)slice[1][2], n[2], (uint64_t *)slice[1][3], n[3],
                                &got.place, &start, &line, &got.horizon, &got.truncation, &got.mean, &got.premium, &got.within);
     got.start = start;
     got.length = line;
@@ -55,7 +66,9 @@ int LLVMFuzzerTestOneInput(const uint8_t *data, size_t size) {
 
     free(file);
     for (int k = 0; k < 4; k++)
-        for (int side = 0; side < 2; side++)
-            free(slice[side][k]);
+        for (int side = 0; side < 2; side++) {
+            edges_kept(slice[side][k], 8 * n[k], 0x5a + side);
+            free(slice[side][k] - EDGE);
+        }
     return 0;
 }
