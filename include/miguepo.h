@@ -4,7 +4,7 @@
  * are in units of 10^-12.
  *
  * The call takes every sequence of bytes and result slices of every length, and
- * always returns. It keeps no state, allocates nothing, needs less than 128 KiB
+ * always returns. It keeps no state, allocates nothing, needs less than 160 KiB
  * of stack, and may run in several threads at once on different results.
  *
  * What only the caller can get wrong:

@@ -7,7 +7,7 @@ use Prim.Native.Nat.{ℕ, _≤_}
 use native.Mathlib.Omega.{arith}
 use borrow.Author.Tests.{ltb-false}
 use lib.IntN.{ℤ}
-use lib.ListN.{length, replicate, length-replicate}
+use lib.ListN.{length, take, replicate, length-take, length-replicate}
 use Rattle.fund.specs.declared.Fund.{Fund}
 use Rattle.fund.specs.declared.Life.{Life}
 use Rattle.fund.specs.declared.Refusal.{Refusal}
@@ -23,7 +23,7 @@ use Rattle.fund.specs.Listing.{horizonIn}
 use Rattle.fund.specs.Answer.{Answer, namesLine, refused, fundCells, answerOf, answer}
 use Rattle.laws.specs.Accepted.{All, refuse-accepted, at0-none}
 use Rattle.laws.specs.Ranges.{read-ranges}
-use Rattle.widths.specs.Lives.{Lives, InRange, livesOf}
+use Rattle.widths.specs.Lives.{InRange}
 use Rattle.matching.specs.declared.verdict.Matched.{Matched}
 use Rattle.matching.specs.Matching.{Room, Matching}
 use Rattle.valuation.specs.declared.Valued.{Valued}
@@ -86,9 +86,9 @@ module _ (file : List ℕ) (n : Lengths) (fund : FundFile) (is : reading file �
   matched-answers v why place p a e w k =
       subst (λ (x : Answer). Answers file p a x) (sym (answer-matched file n fund is why place (sym e ∙ w))) k
 
-  module _ (groups q i d e : List ℕ) (count : ℕ) (m : matched fund Accepted ≡ Accepted) (same : livesOf count groups q i d e ≡ lives fund) where
-    in-range : All InRange (livesOf count groups q i d e)
-    in-range = subst (λ (ms : List Life). All InRange ms) (sym same) (lives-in fund (read-ranges file fund is) m)
+  module _ (ms : List Life) (m : matched fund Accepted ≡ Accepted) (same : ms ≡ lives fund) where
+    in-range : All InRange ms
+    in-range = subst (λ (ls : List Life). All InRange ls) (sym same) (lives-in fund (read-ranges file fund is) m)
 
     header-in : HeaderIn (fund .header)
     unfolding matched
@@ -98,16 +98,16 @@ module _ (file : List ℕ) (n : Lengths) (fund : FundFile) (is : reading file �
         let e4 = refuse-accepted _ _ _ (e3 .1) in
         record { horizon = ok .horizon; order = ok .order-most; frequency = ok .frequency; deductible = ltb-false _ _ (at0-none _ (e4 .0)) }
 
-    answered : (v : Valued) (a : Answer) (inside : Bool) → inside ≡ true → Answered (fund .header) (livesOf count groups q i d e) n inside a → a ≡ answer file n
+    answered : (v : Valued) (a : Answer) (inside : Bool) → inside ≡ true → Answered (fund .header) ms n inside a → a ≡ answer file n
     answered v a false z k = absurd (let w : _≡_ {A = ℕ} 0 1 = cc in omega arith)
     answered v a true z k =
         k
-        ∙ ap (λ (ms : List Life). outcome (fund .header) ms n (valued (fund .header) ms n (fundCells (fund .header) ms))) same
+        ∙ ap (λ (ls : List Life). outcome (fund .header) ls n (valued (fund .header) ls n (fundCells (fund .header) ls))) same
         ∙ outcome-answer file n fund _ (valued-unlined (fund .header) (lives fund) n _)
         ∙ sym (answer-valued file n fund is m)
 
-    pub valued-answers : (v : Valued) (a : Answer) → count ≤ most-members → count ≤ length groups → count ≤ length q → count ≤ length i → count ≤ length d → count ≤ length e →
-        ValuedAs (fund .header) count groups q i d e n v a → a ≡ answer file n
-    valued-answers v a few lg lq li ld le k =
-        let l : Lives count groups q i d e = record { few = few; groups-long = lg; q-long = lq; i-long = li; d-long = ld; e-long = le; in-range = in-range } in
-        answered v a (v .inside) (k .inside .no (l, header-in)) (k .answered)
+    pub valued-answers : (v : Valued) (a : Answer) → length ms ≤ most-members → ValuedAs (fund .header) ms n v a → a ≡ answer file n
+    valued-answers v a few k = answered v a (v .inside) (k .inside .no (record { few = few; in-range = in-range }, header-in)) (k .answered)
+
+pub few-taken : {A : Type 0} (n : ℕ) (xs : List A) → n ≤ most-members → length (take n xs) ≤ most-members
+few-taken n xs h = omega (arith, length-take n xs)

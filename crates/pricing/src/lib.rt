@@ -1,4 +1,6 @@
 // One call prices a fund: from the bytes of its file to its figures and cells, or to the refusal and its line.
+mod lives;
+
 use fund::Fund;
 use fund::Refusal;
 use fund::Verdict;
@@ -116,7 +118,8 @@ fn valued(
             stopped(file, why, place, line, transform, h, f, r)
         }
         Verdict::Accepted => {
-            let value = valuation::value(fund, groups, &q, &i, d, e, members, transform, h, f, r);
+            let table = lives::gathered(groups, &q, &i, d, e, members);
+            let value = lives::lent(fund, table, members, transform, h, f, r);
             let outcome = value.verdict;
             Priced {
                 verdict: outcome,

@@ -7,4 +7,3 @@ pub mod Rows
 pub mod Bodies
 pub mod Whole
 pub mod Parts
-pub mod Walks

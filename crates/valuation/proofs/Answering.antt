@@ -1,11 +1,11 @@
--- The answer of a valuation that stops at one of the refusals 7 to 10 (answers-refused), and what each test of `tested` and
--- of `value` makes of it.
-use mathlib.Core.Path.{_≡_, refl, sym, _∙_, ap, subst}
-use mathlib.Core.Bool.{Bool, true, false, not}
+-- The answer of a valuation that stops at one of the refusals 7 to 10 (answers-refused), where the header or the table is outside its
+-- ranges (answers-outside), and where both are inside (within).
+use mathlib.Core.Path.{_≡_, refl, sym, _∙_, ap}
+use mathlib.Core.Bool.{Bool, true, false, true≢false}
 use mathlib.Core.List.{List, []}
 use Prim.Native.Nat.{ℕ, min, _+_, _<_, _≤_}
 use native.Mathlib.Omega.{arith}
-use borrow.Author.Tests.{le-leb, lt-leb, not-true}
+use borrow.Author.Tests.{le-leb, lt-leb, ltb-true, ltb-false}
 use lib.IntN.{ℤ, pos}
 use lib.ListN.{length, length-replicate}
 use Rattle.fund.specs.declared.Fund.{Fund}
@@ -19,19 +19,20 @@ use Rattle.fund.specs.Transform.{load, truncation}
 use Rattle.fund.specs.Refusals.{Lengths, short, valued}
 use Rattle.fund.specs.Answer.{Answer, empty, namesLine, part, refused, fundCells, fundTruncation}
 use Rattle.laws.specs.Valued.{valued-load, valued-order, valued-short}
-use Rattle.widths.specs.Lives.{Lives, livesOf}
 use Rattle.valuation.specs.declared.Valued.{Valued}
-use Rattle.laws.specs.Tells.{Tells}
-use Rattle.valuation.specs.Inside.{HeaderIn}
-use Rattle.valuation.specs.Valued.{left, outcome, lengths, Zeros, Answers, ValuedAs, Fit}
-use Rattle.laws.specs.Tells.{tells-yes, tells-no, tells-not}
+use Rattle.laws.specs.Tells.{tells-yes, tells-no}
+use Rattle.valuation.specs.Valued.{left, outcome, lengths, Zeros, Answers, Fit, ValuedAs}
+use mathlib.Core.Logic.{_⊎_, inl, inr, ⊎-elim}
+use lib.Dec.{ltb}
+use Rattle.valuation.specs.declared.totals.Totals.{Totals}
+use Rattle.valuation.specs.Totals.{Fits, Known}
 
 -- What `refused` returns.
 abbrev pub none-valued : Bool → Verdict → Valued
 none-valued inside verdict = record { inside = inside; verdict = verdict; truncation = 0; mean = 0; premium = pos 0; within = 0 }
 
 -- ---- zeros and the lengths of slices
-zeros-lengths : (n : Lengths) (d : List ℤ) (h : List ℕ) (f : List ℤ) (r : List ℕ) → Zeros n d h f r → lengths d h f r ≡ n
+pub zeros-lengths : (n : Lengths) (d : List ℤ) (h : List ℕ) (f : List ℤ) (r : List ℕ) → Zeros n d h f r → lengths d h f r ≡ n
 zeros-lengths n d h f r z =
     rw (
       ap length (z .d-zero) ∙ length-replicate (n .D) (pos 0),
@@ -39,9 +40,6 @@ zeros-lengths n d h f r z =
       ap length (z .f-zero) ∙ length-replicate (n .f) (pos 0),
       ap length (z .r-zero) ∙ length-replicate (n .R) 0,
     )
-
-pub zeros-own : (n : Lengths) (d : List ℤ) (h : List ℕ) (f : List ℤ) (r : List ℕ) → Zeros n d h f r → Zeros (lengths d h f r) d h f r
-zeros-own n d h f r z = subst (λ m. Zeros m d h f r) (sym (zeros-lengths n d h f r z)) z
 
 -- ---- the answer that leaves zeros
 zero-answer : (b : Bool) (u : Verdict) (v : Valued) (n : Lengths) (d : List ℤ) (h : List ℕ) (f : List ℤ) (r : List ℕ) →
@@ -112,27 +110,39 @@ fits fund ms n a t i l j m d h f r =
     }
 
 -- ---- the answer of the whole
-module _ (fund : Fund) (count : ℕ) (groups q i d e : List ℕ) (n : Lengths) (v : Valued) where
-  module _ (ds : List ℤ) (hs : List ℕ) (fs : List ℤ) (rs : List ℕ) (z : Zeros n ds hs fs rs) where
-    module _ (k : v ≡ none-valued false Accepted) where
-      outside : (Lives count groups q i d e × HeaderIn fund → ⊥) → ValuedAs fund count groups q i d e n v (left v ds hs fs rs)
-      outside out =
-          record {
-            inside = rw k (tells-no out);
-            answered = rw (ap (λ (w : Valued). w .inside) k) (zero-answer false Accepted v n ds hs fs rs accepted-line k z);
-          }
+module _ (fund : Fund) (ms : List Life) (t : Totals) (d : List ℤ) (h : List ℕ) (f : List ℤ) (e : List ℕ) (k : Known fund ms t d h f e) where
+  pub zeros-of : (Fits fund t (length d) (length h) (length f) (length e) → ⊥) → Zeros (lengths d h f e) d h f e
+  zeros-of out = let z = k .empty out in record { d-zero = z .0; h-zero = z .1; f-zero = k .f-zero; r-zero = k .r-zero }
 
-      pub outside-header : {b : Bool} → Tells b (HeaderIn fund) → not b ≡ true → ValuedAs fund count groups q i d e n v (left v ds hs fs rs)
-      outside-header t g = outside (λ p. tells-not t (not-true _ g) (p .1))
+  pub answers-outside : (v : Valued) → t .inside ≡ false → v ≡ none-valued false Accepted → ValuedAs fund ms (lengths d h f e) v (left v d h f e)
+  answers-outside v i g =
+      record {
+        inside = rw g (tells-no (λ m. true≢false (sym (k .totals .tells .no m) ∙ i)));
+        answered = rw (ap (λ (w : Valued). w .inside) g) (zero-answer false Accepted v (lengths d h f e) d h f e accepted-line g (zeros-of (λ q. true≢false (sym (q .inside-is) ∙ i))));
+      }
 
-      pub outside-lives : {b : Bool} → Tells b (Lives count groups q i d e) → not b ≡ true → ValuedAs fund count groups q i d e n v (left v ds hs fs rs)
-      outside-lives t g = outside (λ p. tells-not t (not-true _ g) (p .0))
+  pub within : (v : Valued) (a : Answer) → t .inside ≡ true → Answers fund ms (lengths d h f e) v a → ValuedAs fund ms (lengths d h f e) v a
+  within v a i s = record { inside = rw (s .0) (tells-yes (k .totals .tells .yes i)); answered = rw (s .0) (s .1) }
 
-    pub within : (a : Answer) → Lives count groups q i d e × HeaderIn fund → Answers fund (livesOf count groups q i d e) (lengths ds hs fs rs) v a → ValuedAs fund count groups q i d e n v a
-    within a l s =
-        record {
-          inside = rw (s .0) (tells-yes l);
-          answered =
-              let ms = livesOf count groups q i d e in
-              rw (s .0) (subst (λ m. a ≡ outcome fund ms m (valued fund ms m (fundCells fund ms))) (zeros-lengths n ds hs fs rs z) (s .1));
-        }
+lt-or-ge : (m n : ℕ) → (m < n) ⊎ (n ≤ m)
+lt-or-ge m n = go (ltb m n) refl
+  where
+    go : (b : Bool) → ltb m n ≡ b → (m < n) ⊎ (n ≤ m)
+    go true e = inl (ltb-true m n e)
+    go false e = inr (ltb-false m n e)
+
+-- slices that do not all fit are too short
+pub short-of : (n : Lengths) (X : ℕ) → (X < n .D → X < n .H → X < n .f → X < n .R → ⊥) → short n X ≡ true
+short-of n X out =
+    ⊎-elim
+    (λ d.
+    ⊎-elim
+    (λ h.
+    ⊎-elim
+    (λ f. ⊎-elim (λ r. absurd (out d h f r)) (λ r. short-r n X d h f r) (lt-or-ge X (n .R)))
+    (λ f. short-f n X d h f)
+    (lt-or-ge X (n .f)))
+    (λ h. short-h n X d h)
+    (lt-or-ge X (n .H)))
+    (λ d. short-d n X d)
+    (lt-or-ge X (n .D))

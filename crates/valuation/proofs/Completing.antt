@@ -4,7 +4,7 @@ use mathlib.Core.Path.{_≡_, refl, sym, _∙_, ap, ap₂, subst}
 use mathlib.Core.Logic.{⊎-elim}
 use mathlib.Core.Bool.{true}
 use mathlib.Core.List.{List, _++_, map}
-use Prim.Native.Nat.{ℕ, zero, suc, _+_, _-_, _≤_}
+use Prim.Native.Nat.{ℕ, zero, suc, min, _+_, _-_, _≤_}
 use native.Mathlib.Nat as N
 use native.Mathlib.Omega.{arith}
 use lib.IntN.{ℤ, pos, natAbs}
@@ -16,8 +16,8 @@ use Rattle.fund.specs.declared.Life.{Life}
 use Rattle.fund.specs.declared.Refusal.the-variants as refusal
 use Rattle.fund.specs.declared.Verdict.the-variants.{Accepted, Refused}
 use Rattle.fund.specs.Base.{table}
-use Rattle.fund.specs.Limits.{most-bound, most-truncation}
-use Rattle.fund.specs.Transform.{D, H, mean}
+use Rattle.fund.specs.Limits.{most-bound, most-load}
+use Rattle.fund.specs.Transform.{D, H, load, mean}
 use Rattle.fund.specs.Recursion.{Cell}
 use Rattle.fund.specs.Premium.{premium, within}
 use Rattle.fund.specs.Refusals.{Lengths, first, wide, refuse, valued}
@@ -27,30 +27,20 @@ use Rattle.laws.specs.Slices.{table-ext, lent-is}
 use Rattle.laws.specs.Valued.{first-none-of, first-some-of, valued-rest, narrow-cell, wide-cell, long-enough}
 use Rattle.laws.specs.Answer.{fundCell, fundCells-are}
 use Rattle.distance.specs.Widths.{f-small, f-sum-small}
-use Rattle.widths.specs.Lives.{Lives, livesOf}
-use Rattle.widths.specs.Bounds.{mean-load}
+use Rattle.valuation.specs.Table.{Members, most-mean}
+use Rattle.widths.specs.Lives.{InRange}
+use Rattle.widths.specs.Parts.{loadPart, meanPart}
+use Rattle.widths.specs.Sums.{total-le}
+use Rattle.widths.specs.PartBounds.{mean-le, load-is}
 use Rattle.valuation.specs.declared.Valued.{Valued}
 use Rattle.valuation.specs.declared.premium.Priced.{Priced}
 use Rattle.valuation.specs.Inside.{HeaderIn}
 use Rattle.valuation.specs.Lent.{cellIn, most-cell}
-use Rattle.valuation.specs.declared.recursion.Recursed.{Recursed}
-use Rattle.valuation.specs.declared.recursion.Recursed.the-variants.{Done, Wide, Large}
-use Rattle.valuation.specs.Recursion.{Filled, WideAt, LargeAt, Recurs}
-use Rattle.valuation.specs.Premium.{Cells, PricedAs, levels, most-mean}
-use Rattle.valuation.specs.Valued.{left, outcome, lengths, Zeros, Answers, Fit, Stepped}
+use Rattle.valuation.specs.Recursion.{Filled, WideAt, LargeAt}
+use Rattle.valuation.specs.Premium.{Cells, PricedAs, levels}
+use Rattle.valuation.specs.Valued.{left, outcome, lengths, Zeros, Answers, Fit}
 use Rattle.valuation.proofs.Valuing.{priceable-of}
 use Rattle.valuation.proofs.Answering.{none-valued, answers-refused}
-
--- what the recursion says, by what it answers
-module _ {fund : Fund} {ms : List Life} {d d′ : List ℤ} {h h′ : List ℕ} {f f′ : List ℤ} {r r′ : List ℕ} (s : Recursed) (k : Stepped fund ms d d′ h h′ f f′ r r′ s) where
-  pub filled-by : s ≡ Done → Filled (fund .horizon) (fundCell fund ms) f f′ r r′
-  filled-by e = subst (Recurs (fund .horizon) (fundCell fund ms) f f′ r r′) e (k .recurs)
-
-  pub wide-by : (x : ℕ) → s ≡ Wide x → WideAt (fund .horizon) (fundCell fund ms) x
-  wide-by x e = subst (Recurs (fund .horizon) (fundCell fund ms) f f′ r r′) e (k .recurs)
-
-  pub large-by : (x : ℕ) → s ≡ Large x → LargeAt (fund .horizon) (fundCell fund ms) x
-  large-by x e = subst (Recurs (fund .horizon) (fundCell fund ms) f f′ r r′) e (k .recurs)
 
 drop-replicate : {A : Type 0} (k n : ℕ) (a : A) → drop k (replicate n a) ≡ replicate (n - k) a
 drop-replicate zero n a = ap (λ m. replicate m a) (let z : n ≡ n - 0 = omega arith in z)
@@ -63,17 +53,14 @@ unfolding lent
 fronted blank n k g s t e h =
     h ∙ ap (λ u. table k g ++ u) (ap (drop k) e ∙ drop-replicate k n blank ∙ ap (λ m. replicate (n - m) blank) (sym (length-table k g)))
 
-module _ (count : ℕ) (groups q i d e : List ℕ) (l : Lives count groups q i d e) (fund : Fund) (h : HeaderIn fund) (n : Lengths) (fit : Fit fund (livesOf count groups q i d e) n) where
-  abbrev ms : List Life
-  ms = livesOf count groups q i d e
-
+module _ (ms : List Life) (l : Members ms) (fund : Fund) (h : HeaderIn fund) (n : Lengths) (fit : Fit fund ms n) where
   abbrev X : ℕ
   X = fund .horizon
 
   pub not-large : (x : ℕ) → LargeAt X (fundCell fund ms) x → ⊥
   unfolding fundTerms fundStart
   not-large x s =
-      let small = f-small X (fund .order) (fund .frequency) ms (h .order) (priceable-of count groups q i d e l fund n fit) (h .horizon) x (s .within) narrow in
+      let small = f-small X (fund .order) (fund .frequency) ms (h .order) (priceable-of ms l fund n fit) (h .horizon) x (s .within) narrow in
       omega (arith, small, s .large)
     where
       narrow : (k : ℕ) → k ≤ x → fundCell fund ms k .R ≤ most-bound
@@ -133,7 +120,7 @@ module _ (count : ℕ) (groups q i d e : List ℕ) (l : Lives count groups q i d
             omega (
               arith,
               sumN-ext (suc m) (λ x. natAbs (getD f′ x (pos 0))) (λ x. natAbs (fundCell fund ms x .f)) (λ x k. ap natAbs (f-at x (omega arith))),
-              f-sum-small X (fund .order) (fund .frequency) ms (h .order) (priceable-of count groups q i d e l fund n fit) (h .horizon) m (omega arith) (λ k b. filled .limited k (omega arith) .narrow),
+              f-sum-small X (fund .order) (fund .frequency) ms (h .order) (priceable-of ms l fund n fit) (h .horizon) m (omega arith) (λ k b. filled .limited k (omega arith) .narrow),
             )
 
     -- the figures and the slices
@@ -168,12 +155,10 @@ module _ (count : ℕ) (groups q i d e : List ℕ) (l : Lives count groups q i d
         p-of : p .within ≡ within (fund .deductible) (fundTruncation fund ms) (fundCells fund ms)
         p-of = priced .within-is (suc X) (h .deductible) ∙ ap₂ (within (fund .deductible)) t-is cells-in
 
-  pub mean-within : (m : ℕ) → m ≡ mean (fund .frequency) ms → m ≤ most-mean
-  unfolding mean
-  mean-within m g = let b = fit .load-within in omega (arith, mean-load l (fund .frequency))
-
-pub figure-within : (fund : Fund) (ms : List Life) (n : Lengths) (t : ℕ) → t ≡ fundTruncation fund ms → Fit fund ms n → t ≤ most-truncation
-figure-within fund ms n t e fit = let b = fit .truncation-within in omega arith
+-- a mean that the cap does not change
+pub mean-is : (ms : List Life) → Members ms → (a m : ℕ) → load a ms ≤ most-load → m ≡ min (mean a ms) most-mean → m ≡ mean a ms
+unfolding mean
+mean-is ms l a m h e = omega (arith, e, load-is a ms, total-le InRange (meanPart a) (loadPart a) 65535 0 (λ m r. mean-le m a r) ms (l .in-range))
 
 -- zeros in slices whose lengths are those of others
 pub zeros-kept : (d d₀ : List ℤ) (h h₀ : List ℕ) (f f₀ : List ℤ) (r r₀ : List ℕ) (ds : List ℤ) (hs : List ℕ) (fs : List ℤ) (rs : List ℕ) → length d ≡ length d₀ → length h ≡ length h₀ →

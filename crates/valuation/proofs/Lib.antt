@@ -1,15 +1,18 @@
+pub mod LifeSums
+pub mod TableFilled
 mod Growing
 mod Signs
 mod Added
 mod SumsTo
 pub mod Filled
 mod Terms
-mod Members
 mod Weighed
-mod Entries
 mod Clearing
-mod Valuing
-mod Answering
-mod Completing
 pub mod Listed
 pub mod SmallProduct
+mod Totalling
+mod TableCalls
+mod Lending
+mod Answering
+mod Valuing
+mod Completing

@@ -11,9 +11,7 @@ use lib.Dec.{T, eqb, leb, leb→le}
 use lib.IntN.{ℤ, pos, negℤ, _+ℤ_, negℤ-negℤ}
 use mir.Facts.{and-yes}
 use Rattle.rounding.specs.Rounding.{near, up}
-use Rattle.rounding.specs.Word.{scaled}
 use Rattle.rounding.proofs.Laws.{near-mono, up-mono, up-least}
-use Rattle.rounding.proofs.Word.{up-rounds, per-units-is}
 use Rattle.fund.specs.Base.{sum, sumℤ, alternate}
 use Rattle.fund.specs.Limits.{most-load}
 use Rattle.fund.specs.Transform.{unit}
@@ -104,10 +102,14 @@ unfolding nextC
 next-none zero c n e = refl
 next-none (suc lambda) c n e = absurd (omega arith)
 
-pub next-some : (lambda c n : ℕ) → (lambda ≡ 0 → ⊥) → c ≤ most-c → lambda ≤ most-load → nextC lambda c n ≡ scaled up (c * lambda) n (10 ^ 12) + 1
+pub next-some : (lambda c n : ℕ) → (lambda ≡ 0 → ⊥) → nextC lambda c n ≡ up (c * lambda) (n * 10 ^ 12) + 1
 unfolding nextC
-next-some zero c n e h g = absurd (e refl)
-next-some (suc lambda) c n e h g = ap (λ x. x + 1) (sym (per-units-is up-rounds c (suc lambda) (omega arith) n (omega arith)))
+next-some zero c n e = absurd (e refl)
+next-some (suc lambda) c n e = refl
+
+-- a product of a c(n) with lambda
+pub product-within : (c lambda : ℕ) → c ≤ most-c → lambda ≤ most-load → c * lambda ≤ 10 ^ 16
+product-within c lambda h g = omega (arith, N.mul-le-mul h g)
 
 pub next-within : (lambda c n : ℕ) → c ≤ most-c → lambda ≤ most-load → 0 < n → nextC lambda c n ≤ 10 ^ 17
 unfolding nextC

@@ -1,5 +1,5 @@
--- What the steps of a valuation ask and give, from what the lives, the header and the slices are: the slices' zeros (cleared), the
--- rates of group 1 (rates-of), the limits of the transform (limits), and the recursion's cells as the fund's (recurs-as).
+-- What the steps of a valuation ask and give, from what the table, the header and the slices are: the slices' zeros (cleared), the
+-- limits of the transform (limits), the start in its cells (first-in), and the recursion's cells as the fund's (recurs-as).
 use mathlib.Core.Path.{_≡_, refl, sym, _∙_, ap, ap₂, subst}
 use mathlib.Core.List.{List, [], _∷_, _++_}
 use Prim.Native.Nat.{ℕ, zero, suc, _+_, _<_, _≤_}
@@ -14,9 +14,9 @@ use Rattle.algebra.specs.NatSum.{sumN-ext, sumN-first}
 use Rattle.fund.specs.declared.Fund.{Fund}
 use Rattle.fund.specs.declared.Life.{Life}
 use Rattle.fund.specs.Base.{table}
-use Rattle.fund.specs.Limits.{most-horizon, most-load, most-bound}
-use Rattle.fund.specs.Transform.{Term, terms, D, H, load, lambda}
-use Rattle.fund.specs.Recursion.{Cell, entries, start, startBound}
+use Rattle.fund.specs.Limits.{most-horizon, most-bound}
+use Rattle.fund.specs.Transform.{Term, terms, D, H}
+use Rattle.fund.specs.Recursion.{Cell, entries}
 use Rattle.fund.specs.Refusals.{Lengths}
 use Rattle.fund.specs.Answer.{fundTerms, fundStart, fundTruncation}
 use Rattle.laws.specs.Accepted.{all-map}
@@ -26,7 +26,6 @@ use Rattle.laws.specs.Slices.{D-at, H-at, entries-are}
 use Rattle.laws.specs.Answer.{fundCell}
 use Rattle.distance.specs.Members.{Priceable}
 use Rattle.distance.specs.Widths.{f-small}
-use Rattle.widths.specs.Lives.{lifeAt, livesOf, InRange, Lives}
 use Rattle.widths.specs.Adding.{Cleared}
 use Rattle.widths.specs.Widths.{width-D, width-H, H-le, D-sum-le}
 use Rattle.valuation.specs.declared.recursion.Recursed.{Recursed}
@@ -34,10 +33,11 @@ use Rattle.valuation.specs.declared.recursion.Recursed.the-variants.{Don
 use Rattle.valuation.specs.Inside.{HeaderIn}
 use Rattle.valuation.specs.Lent.{cellIn, cellOf, most-cell, Limited as LimitedCell}
 use Rattle.valuation.specs.Recursion.{Transform, Recurs}
-use Rattle.valuation.specs.Start.{Rates, Started}
-use Rattle.valuation.specs.declared.start.First.{First}
-use Rattle.valuation.specs.Valued.{Zeros, Fit}
-use Rattle.valuation.proofs.Entries.{all-table-at}
+use Rattle.valuation.specs.Valued.{Zeros, Fit, lengths}
+use Rattle.valuation.specs.Table.{Members}
+use Rattle.valuation.specs.declared.totals.Totals.{Totals}
+use Rattle.valuation.specs.Totals.{Summed, ReadyOf}
+use Rattle.valuation.proofs.Answering.{fits}
 
 -- ---- slices of zeros
 zero-at : {A : Type 0} (a : A) (n k : ℕ) (s : List A) → s ≡ replicate n a → k < n → getD s k a ≡ a
@@ -59,24 +59,10 @@ kept-long X s t a e h = omega (arith, ap length e, length-set s 0 a)
 pub above : {X n : ℕ} → X < n → 0 < n
 above h = omega arith
 
--- lambda is a part of the load
-pub lambda-most : (a : ℕ) (ms : List Life) (l : ℕ) → l ≡ lambda a ms → load a ms ≤ most-load → l ≤ most-load
-unfolding load
-lambda-most a ms l e h = omega arith
-
 -- ---- lives in their ranges
-module _ (n : ℕ) (groups q i d e : List ℕ) (l : Lives n groups q i d e) where
-  abbrev ms : List Life
-  ms = livesOf n groups q i d e
-
-  life-in : (k : ℕ) → k < n → InRange (lifeAt groups q i d e k)
-  life-in k h = all-table-at InRange n k (lifeAt groups q i d e) h (l .in-range)
-
-  pub rates-of : Rates n groups q i
-  rates-of = record { few = l .few; groups-long = l .groups-long; q-long = l .q-long; i-long = l .i-long; rates = λ k h. life-in k h .rates }
-
+module _ (ms : List Life) (l : Members ms) where
   few-lives : length ms ≤ 1000
-  few-lives = let h = length-table n (lifeAt groups q i d e) in let k = l .few in omega arith
+  few-lives = l .few
 
   pub priceable-of : (fund : Fund) (c : Lengths) → Fit fund ms c → Priceable (fund .order) (fund .frequency) ms
   unfolding fundTruncation
@@ -108,7 +94,7 @@ module _ (n : ℕ) (groups q i d e : List ℕ) (l : Lives n groups q i d e) wher
       ts = terms X (fund .order) (fund .frequency) ms
 
   -- the first cell is within the limits
-  pub start-limited : (fund : Fund) (c : Lengths) → HeaderIn fund → Fit fund ms c → (y : Cell) → y ≡ fundStart fund ms → y .R ≤ 691 + n → LimitedCell y
+  pub start-limited : (fund : Fund) (c : Lengths) → HeaderIn fund → Fit fund ms c → (y : Cell) → y ≡ fundStart fund ms → y .R ≤ 691 + length ms → LimitedCell y
   unfolding fundStart
   start-limited fund c h f y e b =
       record {
@@ -142,31 +128,37 @@ pub record FirstIn (fund : Fund) (ms : List Life) (f : List ℤ) (r : List ℕ) 
   pub is : cellIn f r 0 ≡ fundStart fund ms
   pub limited : LimitedCell (cellIn f r 0)
 
-pub first-in : (n : ℕ) (groups q i d e : List ℕ) → Lives n groups q i d e → (fund : Fund) (c : Lengths) → HeaderIn fund → Fit fund (livesOf n groups q i d e) c →
-    (first : First) (lambda₀ : ℕ) → lambda₀ ≡ lambda (fund .frequency) (livesOf n groups q i d e) → Started lambda₀ n groups q i first →
-    (f f′ : List ℤ) (r r′ : List ℕ) → f′ ≡ set f 0 (toZ w64 (ofZ w64 (first .cell))) → r′ ≡ set r 0 (first .bound) → 0 < length f → 0 < length r →
-    FirstIn fund (livesOf n groups q i d e) f′ r′
+pub first-in : (ms : List Life) → Members ms → (fund : Fund) (c : Lengths) → HeaderIn fund → Fit fund ms c → (t : Totals) → Summed fund ms t →
+    (f f′ : List ℤ) (r r′ : List ℕ) → f′ ≡ set f 0 (toZ w64 (ofZ w64 (t .cell))) → r′ ≡ set r 0 (t .bound) → 0 < length f → 0 < length r → FirstIn fund ms f′ r′
 unfolding fundStart
-first-in n groups q i d e l fund c h fit first lambda₀ is s f f′ r r′ f-is r-is f-long r-long =
+first-in ms l fund c h fit t s f f′ r r′ f-is r-is f-long r-long =
     record { is = same ∙ start-is; limited = subst LimitedCell (sym same) first-limited }
   where
-    ms : List Life
-    ms = livesOf n groups q i d e
-
     y : Cell
-    y = record { f = first .cell; R = first .bound }
+    y = record { f = t .cell; R = t .bound }
 
     start-is : y ≡ fundStart fund ms
-    start-is = ap₂ (λ x z. record { f = x; R = z }) (s .cell-is d e ∙ ap (λ k. start k ms) is) (s .bound-is d e ∙ ap (λ k. startBound k ms) is)
+    start-is = ap₂ (λ x z. record { f = x; R = z }) (s .cell-is (fit .load-within)) (s .bound-is (fit .load-within))
 
     first-limited : LimitedCell y
-    first-limited = start-limited n groups q i d e l fund c h fit y start-is (s .bound-within)
+    first-limited = start-limited ms l fund c h fit y start-is (s .bound-within (fit .load-within))
 
     same : cellIn f′ r′ 0 ≡ y
     same =
         ap₂ (λ x z. record { f = x; R = z })
-        (ap (λ t. getD t 0 (pos 0)) f-is ∙ getD-set-same f 0 (toZ w64 (ofZ w64 (first .cell))) (pos 0) f-long ∙ toZ-ofZ (level-fits (first .cell) (first-limited .level)))
-        (ap (λ t. getD t 0 0) r-is ∙ getD-set-same r 0 (first .bound) 0 r-long)
+        (ap (λ t. getD t 0 (pos 0)) f-is ∙ getD-set-same f 0 (toZ w64 (ofZ w64 (t .cell))) (pos 0) f-long ∙ toZ-ofZ (level-fits (t .cell) (first-limited .level)))
+        (ap (λ t. getD t 0 0) r-is ∙ getD-set-same r 0 (t .bound) 0 r-long)
+
+-- ---- what is ready
+module _ (fund : Fund) (ms : List Life) (t : Totals) (d : List ℤ) (h : List ℕ) (f : List ℤ) (e : List ℕ) (k : ReadyOf fund ms t d h f e) where
+  pub inside : Members ms × HeaderIn fund
+  inside = k .known .totals .tells .yes (k .fits .inside-is)
+
+  pub summed : Summed fund ms t
+  summed = k .known .totals .sums (k .fits .inside-is)
+
+  pub fit : Fit fund ms (lengths d h f e)
+  fit = fits fund ms (lengths d h f e) (t .load) (t .truncation) (summed .load-is) (k .fits .load-within) (summed .truncation-is) (k .fits .truncation-within) (k .fits .d-long) (k .fits .h-long) (k .fits .f-long) (k .fits .r-long)
 
 -- ---- the recursion's cells are the fund's
 pub cells-same : (fund : Fund) (ms : List Life) (td : List ℤ) (th : List ℕ) (rd : List ℤ) (rh : List ℕ) (f : List ℤ) (r : List ℕ) →

@@ -1,7 +1,10 @@
 pub mod Sums
+pub mod Table
 pub mod Lent
 pub mod Recursion
 pub mod Start
+pub mod Filling
 pub mod Premium
 pub mod Inside
 pub mod Valued
+pub mod Totals

@@ -1,26 +1,22 @@
 -- What the valuation of a fund's lives answers: the refusals 7 to 10 or the fund's figures, with the four result slices.
 use mathlib.Core.Path.{_≡_}
 use mathlib.Core.Bool.{Bool, true, false}
-use mathlib.Core.List.{List, [], _++_}
-use Prim.Native.Nat.{ℕ, suc, _<_, _≤_}
+use mathlib.Core.List.{List, []}
+use Prim.Native.Nat.{ℕ, _<_, _≤_}
 use lib.IntN.{ℤ, pos}
-use lib.ListN.{length, replicate, drop}
+use lib.ListN.{length, replicate}
 use Rattle.fund.specs.declared.Fund.{Fund}
 use Rattle.fund.specs.declared.Life.{Life}
 use Rattle.fund.specs.declared.Verdict.{Verdict}
 use Rattle.fund.specs.declared.Verdict.the-variants.{Accepted, Refused}
-use Rattle.fund.specs.Base.{table}
 use Rattle.fund.specs.Limits.{most-load, most-truncation}
 use Rattle.fund.specs.Transform.{D, H, load}
 use Rattle.fund.specs.Refusals.{Lengths, valued}
-use Rattle.fund.specs.Answer.{empty, Answer, refused, accepted, fundTerms, fundCells, fundTruncation}
-use Rattle.laws.specs.Answer.{fundCell}
+use Rattle.fund.specs.Answer.{empty, Answer, refused, accepted, fundCells, fundTruncation}
 use Rattle.valuation.specs.declared.Valued.{Valued}
-use Rattle.valuation.specs.declared.recursion.Recursed.{Recursed}
-use Rattle.widths.specs.Lives.{Lives, livesOf}
 use Rattle.laws.specs.Tells.{Tells}
 use Rattle.valuation.specs.Inside.{HeaderIn}
-use Rattle.valuation.specs.Recursion.{Recurs}
+use Rattle.valuation.specs.Table.{Members}
 
 -- The answer that a call leaves: what it returns, and the slices.
 abbrev pub left : Valued → List ℤ → List ℕ → List ℤ → List ℕ → Answer
@@ -62,9 +58,9 @@ abbrev pub Answered : Fund → List Life → Lengths → Bool → Answer → Typ
 Answered fund ms n true a = a ≡ outcome fund ms n (valued fund ms n (fundCells fund ms))
 Answered fund ms n false a = a ≡ refused [] n Accepted
 
-pub record ValuedAs (fund : Fund) (count : ℕ) (groups q i d e : List ℕ) (n : Lengths) (v : Valued) (a : Answer) : Type 0 where
-  pub inside : Tells (v .inside) (Lives count groups q i d e × HeaderIn fund)
-  pub answered : Answered fund (livesOf count groups q i d e) n (v .inside) a
+pub record ValuedAs (fund : Fund) (ms : List Life) (n : Lengths) (v : Valued) (a : Answer) : Type 0 where
+  pub inside : Tells (v .inside) (Members ms × HeaderIn fund)
+  pub answered : Answered fund ms n (v .inside) a
 
 -- What refusals 7 to 9 leave: a load, a truncation figure and slices that fit.
 pub record Fit (fund : Fund) (ms : List Life) (n : Lengths) : Type 0 where
@@ -74,9 +70,3 @@ pub record Fit (fund : Fund) (ms : List Life) (n : Lengths) : Type 0 where
   pub h-long : fund .horizon < n .H
   pub f-long : fund .horizon < n .f
   pub r-long : fund .horizon < n .R
-
--- The transform in its slices, and what the recursion says of the cells.
-pub record Stepped (fund : Fund) (ms : List Life) (d d′ : List ℤ) (h h′ : List ℕ) (f f′ : List ℤ) (r r′ : List ℕ) (s : Recursed) : Type 0 where
-  pub d-is : d′ ≡ table (suc (fund .horizon)) (D (fundTerms fund ms)) ++ drop (suc (fund .horizon)) d
-  pub h-is : h′ ≡ table (suc (fund .horizon)) (H (fundTerms fund ms)) ++ drop (suc (fund .horizon)) h
-  pub recurs : Recurs (fund .horizon) (fundCell fund ms) f f′ r r′ s

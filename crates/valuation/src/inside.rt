@@ -1,14 +1,39 @@
-// Whether a header and lives are in the ranges that reading and refusal 6 leave.
-use super::lives::life;
+// Whether a header and the lives of a table are in the ranges that reading and refusal 6 leave.
 use fund::Fund;
 use fund::Life;
 ghost use mathlib.Core.Path.{_≡_};
+ghost use mathlib.Core.Bool.{true};
 ghost use Prim.Native.Nat.{_≤_};
-ghost use lib.ListN.{length};
+ghost use Rattle.fund.specs.Limits.{most-members};
 ghost use Rattle.laws.specs.Accepted.{All, Limited};
-ghost use Rattle.widths.specs.Lives.{InRange, Lives, livesOf};
+ghost use Rattle.widths.specs.Lives.{InRange};
 ghost use Rattle.laws.specs.Tells.{Tells};
 ghost use Rattle.valuation.specs.Inside.{HeaderIn};
+
+fn header_inside(fund: Fund) -> bool
+    ensures { λ r. ⌜ Tells r (HeaderIn fund) ⌝ }
+{
+    if Fund::MOST_HORIZON < fund.horizon {
+        return false;
+    }
+    if Fund::MOST_ORDER < fund.order {
+        return false;
+    }
+    if Fund::MOST_FREQUENCY < fund.frequency {
+        return false;
+    }
+    fund.deductible <= fund.horizon + 1
+}
+
+// Whether a table of n lives is not too long, and the header in its ranges.
+pub(crate) fn headed(fund: Fund, n: usize) -> bool
+    ensures { λ r. ⌜ Tells r ((n ≤ most-members) × HeaderIn fund) ⌝ }
+{
+    if Fund::MOST_MEMBERS < n as u64 {
+        return false;
+    }
+    header_inside(fund)
+}
 
 // Refusal 6.
 fn limited(m: Life) -> bool
@@ -64,63 +89,25 @@ fn life_inside(m: Life) -> bool
     folded(m.i, m.e)
 }
 
-fn all_inside(groups: &[u64], q: &[u64], i: &[u64], d: &[u64], e: &[u64], n: usize) -> bool
-    requires { ⌜ (n ≤ length (now groups)) × (n ≤ length (now q)) × (n ≤ length (now i)) × (n ≤ length (now d)) × (n ≤ length (now e)) ⌝ }
-    ensures { λ r. ⌜ Tells r (All InRange (livesOf n (now (groups .entry)) (now (q .entry)) (now (i .entry)) (now (d .entry)) (now (e .entry)))) ⌝ }
+// Whether all lives so far are in range, and one more.
+fn inside_step(inside: bool, m: Life) -> bool
+    ensures { λ r. ⌜ Tells r ((inside ≡ true) × InRange m) ⌝ }
 {
+    if inside {
+        return life_inside(m);
+    }
+    false
+}
+
+// Whether the header and all lives are in their ranges, where `header` says whether the header is.
+pub(crate) fn all_inside(members: &[Life], header: bool) -> bool
+    ensures { λ r. ⌜ Tells r ((header ≡ true) × All InRange (now (members .entry))) ⌝ }
+{
+    let mut inside = header;
     let mut k: usize = 0;
-    while k < n {
-        if life_inside(life(groups, q, i, d, e, k)) {
-            k += 1;
-        } else {
-            return false;
-        }
+    while k < members.len() {
+        inside = inside_step(inside, members[k]);
+        k += 1;
     }
-    true
-}
-
-pub(crate) fn lives_inside(
-    groups: &[u64],
-    q: &[u64],
-    i: &[u64],
-    d: &[u64],
-    e: &[u64],
-    n: usize,
-) -> bool
-    ensures { λ r. ⌜ Tells r (Lives n (now (groups .entry)) (now (q .entry)) (now (i .entry)) (now (d .entry)) (now (e .entry))) ⌝ }
-{
-    if Fund::MOST_MEMBERS < n as u64 {
-        return false;
-    }
-    if groups.len() < n {
-        return false;
-    }
-    if q.len() < n {
-        return false;
-    }
-    if i.len() < n {
-        return false;
-    }
-    if d.len() < n {
-        return false;
-    }
-    if e.len() < n {
-        return false;
-    }
-    all_inside(groups, q, i, d, e, n)
-}
-
-pub(crate) fn header_inside(fund: Fund) -> bool
-    ensures { λ r. ⌜ Tells r (HeaderIn fund) ⌝ }
-{
-    if Fund::MOST_HORIZON < fund.horizon {
-        return false;
-    }
-    if Fund::MOST_ORDER < fund.order {
-        return false;
-    }
-    if Fund::MOST_FREQUENCY < fund.frequency {
-        return false;
-    }
-    fund.deductible <= fund.horizon + 1
+    inside
 }

@@ -1,8 +1,8 @@
 // The valuation of a fund: from its lives to the transform, the start, the recursion, the premium and their bounds, or the first of
 // the refusals 7 to 10.
 mod cells;
+mod figures;
 mod inside;
-mod lives;
 mod places;
 mod premium;
 mod products;
@@ -15,17 +15,19 @@ mod whole;
 pub use cells::clear;
 pub use cells::clear_signed;
 use fund::Fund;
+use fund::Life;
 use fund::Refusal;
 use fund::Verdict;
 use recursion::Recursed;
+use totals::Totals;
+use transform::Filling;
 ghost use mathlib.Core.Path.{_≡_};
 ghost use Prim.Native.Nat.{_<_};
 ghost use lib.IntN.{pos};
 ghost use lib.ListN.{length, set};
-ghost use Rattle.fund.specs.Answer.{fundTruncation};
-ghost use Rattle.widths.specs.Lives.{Lives, livesOf};
-ghost use Rattle.valuation.specs.Inside.{HeaderIn};
-ghost use Rattle.valuation.specs.Valued.{left, lengths, Zeros, Answers, ValuedAs, Fit, Stepped};
+ghost use Rattle.laws.specs.Tells.{Tells};
+ghost use Rattle.valuation.specs.Valued.{left, lengths, Zeros, ValuedAs};
+ghost use Rattle.valuation.specs.Totals.{Cleared, Fits, Ready, RecursOf, FinishedOf, KnownSome, AnsweredOf};
 
 // What a valuation answers beside the result slices: whether the header and the lives are in their ranges, the verdict, and the
 // figures.
@@ -61,121 +63,50 @@ fn clear_all(transform: &mut [i64], h: &mut [u64], f: &mut [i64], r: &mut [u64])
     clear(r);
 }
 
-// The valuation of n lives that stand in five slices, one for each field, into four result slices.
-pub fn value(
+// Refusals 7 to 9.
+fn fits(fund: Fund, t: Totals, d: usize, h: usize, f: usize, r: usize) -> bool
+    ensures { λ go. ⌜ Tells go (Fits fund t d h f r) ⌝ }
+{
+    if !t.inside {
+        return false;
+    }
+    if t.load > Fund::MOST_LOAD {
+        return false;
+    }
+    if t.truncation > Fund::MOST_TRUNCATION {
+        return false;
+    }
+    let limit = fund.horizon;
+    if d as u64 <= limit {
+        return false;
+    }
+    if h as u64 <= limit {
+        return false;
+    }
+    if f as u64 <= limit {
+        return false;
+    }
+    limit < r as u64
+}
+
+// The slices are cleared, and it is told how they are to be filled.
+fn cleared(
     fund: Fund,
-    groups: &[u64],
-    q: &[u64],
-    i: &[u64],
-    d: &[u64],
-    e: &[u64],
-    n: usize,
+    t: Totals,
     transform: &mut [i64],
     h: &mut [u64],
     f: &mut [i64],
     r: &mut [u64],
-) -> Valued
-    ensures { λ v. ⌜ ValuedAs fund n (now (groups .entry)) (now (q .entry)) (now (i .entry)) (now (d .entry)) (now (e .entry))
-        (lengths (now (transform .entry)) (now (h .entry)) (now (f .entry)) (now (r .entry))) v
-        (left v (now (transform .exit)) (now (h .exit)) (now (f .exit)) (now (r .exit))) ⌝ }
+) -> Filling
+    ensures { λ x. ⌜ Cleared fund t (lengths (now (transform .entry)) (now (h .entry)) (now (f .entry)) (now (r .entry))) x (now (transform .exit)) (now (h .exit)) (now (f .exit)) (now (r .exit)) ⌝ }
 {
     clear_all(transform, h, f, r);
-    if !inside::header_inside(fund) {
-        return refused(false, Verdict::Accepted);
-    }
-    if !inside::lives_inside(groups, q, i, d, e, n) {
-        return refused(false, Verdict::Accepted);
-    }
-    tested(fund, groups, q, i, d, e, n, transform, h, f, r)
-}
-
-// Refusals 7 to 9, then the cells.
-fn tested(
-    fund: Fund,
-    groups: &[u64],
-    q: &[u64],
-    i: &[u64],
-    d: &[u64],
-    e: &[u64],
-    n: usize,
-    transform: &mut [i64],
-    h: &mut [u64],
-    f: &mut [i64],
-    r: &mut [u64],
-) -> Valued
-    requires { ⌜ Lives n (now groups) (now q) (now i) (now d) (now e) × HeaderIn fund ⌝ }
-    requires { ⌜ Zeros (lengths (now transform) (now h) (now f) (now r)) (now transform) (now h) (now f) (now r) ⌝ }
-    ensures { λ v. ⌜ Answers fund (livesOf n (now (groups .entry)) (now (q .entry)) (now (i .entry)) (now (d .entry)) (now (e .entry)))
-        (lengths (now (transform .entry)) (now (h .entry)) (now (f .entry)) (now (r .entry))) v
-        (left v (now (transform .exit)) (now (h .exit)) (now (f .exit)) (now (r .exit))) ⌝ }
-{
-    let all = totals::load(groups, q, i, d, e, n, fund.frequency);
-    if Fund::MOST_LOAD < all {
-        return refused(true, Verdict::Refused(Refusal::Load, 0));
-    }
-    let figure = totals::truncation(groups, q, i, d, e, n, fund.order);
-    if Fund::MOST_TRUNCATION < figure {
-        return refused(true, Verdict::Refused(Refusal::Order, 0));
-    }
-    let limit = fund.horizon as usize;
-    if transform.len() <= limit {
-        return refused(true, Verdict::Refused(Refusal::Short, 0));
-    }
-    if h.len() <= limit {
-        return refused(true, Verdict::Refused(Refusal::Short, 0));
-    }
-    if f.len() <= limit {
-        return refused(true, Verdict::Refused(Refusal::Short, 0));
-    }
-    if r.len() <= limit {
-        return refused(true, Verdict::Refused(Refusal::Short, 0));
-    }
-    completed(fund, groups, q, i, d, e, n, figure, transform, h, f, r)
-}
-
-// Refusal 10, or the figures of a fund that is accepted.
-fn completed(
-    fund: Fund,
-    groups: &[u64],
-    q: &[u64],
-    i: &[u64],
-    d: &[u64],
-    e: &[u64],
-    n: usize,
-    figure: u64,
-    transform: &mut [i64],
-    h: &mut [u64],
-    f: &mut [i64],
-    r: &mut [u64],
-) -> Valued
-    requires { ⌜ Lives n (now groups) (now q) (now i) (now d) (now e) × HeaderIn fund ⌝ }
-    requires { ⌜ Zeros (lengths (now transform) (now h) (now f) (now r)) (now transform) (now h) (now f) (now r) ⌝ }
-    requires { ⌜ Fit fund (livesOf n (now groups) (now q) (now i) (now d) (now e)) (lengths (now transform) (now h) (now f) (now r)) ⌝ }
-    requires { ⌜ figure ≡ fundTruncation fund (livesOf n (now groups) (now q) (now i) (now d) (now e)) ⌝ }
-    ensures { λ v. ⌜ Answers fund (livesOf n (now (groups .entry)) (now (q .entry)) (now (i .entry)) (now (d .entry)) (now (e .entry)))
-        (lengths (now (transform .entry)) (now (h .entry)) (now (f .entry)) (now (r .entry))) v
-        (left v (now (transform .exit)) (now (h .exit)) (now (f .exit)) (now (r .exit))) ⌝ }
-{
-    match stepped(fund, groups, q, i, d, e, n, transform, h, f, r) {
-        Recursed::Wide(x) => {
-            clear_all(transform, h, f, r);
-            return refused(true, Verdict::Refused(Refusal::Wide, x));
-        }
-        Recursed::Large(x) => {
-            clear_all(transform, h, f, r);
-            return refused(true, Verdict::Refused(Refusal::Wide, x));
-        }
-        Recursed::Done => {}
-    }
-    let mean = totals::mean(groups, q, i, d, e, n, fund.frequency);
-    let priced = premium::price(fund.deductible as usize, mean, figure, &f[..], &r[..]);
-    Valued {
-        inside: true,
-        verdict: Verdict::Accepted,
-        truncation: figure,
-        mean,
-        premium: priced.premium,
-        within: priced.within,
+    let go = fits(fund, t, transform.len(), h.len(), f.len(), r.len());
+    Filling {
+        go,
+        horizon: fund.horizon,
+        order: fund.order,
+        frequency: fund.frequency,
     }
 }
 
@@ -188,41 +119,106 @@ fn put_start(f: &mut [i64], r: &mut [u64], cell: i64, bound: u64)
     r[0] = bound;
 }
 
-// The transform, the start and the recursion.
-fn stepped(
+// The start and the recursion, for cells that are filled.
+fn recursed(
     fund: Fund,
-    groups: &[u64],
-    q: &[u64],
-    i: &[u64],
-    d: &[u64],
-    e: &[u64],
-    n: usize,
+    t: Totals,
+    transform: &[i64],
+    h: &[u64],
+    f: &mut [i64],
+    r: &mut [u64],
+) -> Recursed
+    requires { ⌜ Ready fund t (now transform) (now h) (now f) (now r) ⌝ }
+    ensures { λ s. ⌜ RecursOf fund t (now (transform .entry)) (now (h .entry)) (now (f .entry)) (now (r .entry)) (now (f .exit)) (now (r .exit)) s ⌝ }
+{
+    put_start(f, r, t.cell, t.bound);
+    recursion::recursion(fund.horizon as usize, transform, h, f, r)
+}
+
+// Refusal 10, or the figures of a fund that is accepted.
+fn finished(
+    fund: Fund,
+    t: Totals,
     transform: &mut [i64],
     h: &mut [u64],
     f: &mut [i64],
     r: &mut [u64],
-) -> Recursed
-    requires { ⌜ Lives n (now groups) (now q) (now i) (now d) (now e) × HeaderIn fund ⌝ }
-    requires { ⌜ Zeros (lengths (now transform) (now h) (now f) (now r)) (now transform) (now h) (now f) (now r) ⌝ }
-    requires { ⌜ Fit fund (livesOf n (now groups) (now q) (now i) (now d) (now e)) (lengths (now transform) (now h) (now f) (now r)) ⌝ }
-    ensures { λ s. ⌜ Stepped fund (livesOf n (now (groups .entry)) (now (q .entry)) (now (i .entry)) (now (d .entry)) (now (e .entry)))
-        (now (transform .entry)) (now (transform .exit)) (now (h .entry)) (now (h .exit)) (now (f .entry)) (now (f .exit)) (now (r .entry)) (now (r .exit)) s ⌝ }
+) -> Valued
+    requires { ⌜ Ready fund t (now transform) (now h) (now f) (now r) ⌝ }
+    ensures { λ v. ⌜ FinishedOf fund t (now (transform .entry)) (now (h .entry)) (now (f .entry)) (now (r .entry)) v
+        (left v (now (transform .exit)) (now (h .exit)) (now (f .exit)) (now (r .exit))) ⌝ }
 {
-    transform::fill(
-        groups,
-        q,
-        i,
-        d,
-        e,
-        n,
-        fund.horizon,
-        fund.order,
-        fund.frequency,
-        transform,
-        h,
+    match recursed(fund, t, &transform[..], &h[..], f, r) {
+        Recursed::Wide(x) => {
+            clear_all(transform, h, f, r);
+            return refused(true, Verdict::Refused(Refusal::Wide, x));
+        }
+        Recursed::Large(x) => {
+            clear_all(transform, h, f, r);
+            return refused(true, Verdict::Refused(Refusal::Wide, x));
+        }
+        Recursed::Done => {}
+    }
+    let priced = premium::price(
+        fund.deductible as usize,
+        t.mean,
+        t.truncation,
+        &f[..],
+        &r[..],
     );
-    let lambda = totals::lambda(groups, q, i, d, e, n, fund.frequency);
-    let first = start::start(groups, q, i, n, lambda);
-    put_start(f, r, first.cell, first.bound);
-    recursion::recursion(fund.horizon as usize, &transform[..], &h[..], f, r)
+    Valued {
+        inside: true,
+        verdict: Verdict::Accepted,
+        truncation: t.truncation,
+        mean: t.mean,
+        premium: priced.premium,
+        within: priced.within,
+    }
+}
+
+// Refusals 7 to 9, or the rest of the valuation.
+fn completed(
+    fund: Fund,
+    t: Totals,
+    transform: &mut [i64],
+    h: &mut [u64],
+    f: &mut [i64],
+    r: &mut [u64],
+) -> Valued
+    requires { ⌜ KnownSome fund t (now transform) (now h) (now f) (now r) ⌝ }
+    ensures { λ v. ⌜ AnsweredOf fund t (now (transform .entry)) (now (h .entry)) (now (f .entry)) (now (r .entry)) v
+        (left v (now (transform .exit)) (now (h .exit)) (now (f .exit)) (now (r .exit))) ⌝ }
+{
+    if !t.inside {
+        return refused(false, Verdict::Accepted);
+    }
+    if Fund::MOST_LOAD < t.load {
+        return refused(true, Verdict::Refused(Refusal::Load, 0));
+    }
+    if Fund::MOST_TRUNCATION < t.truncation {
+        return refused(true, Verdict::Refused(Refusal::Order, 0));
+    }
+    if !fits(fund, t, transform.len(), h.len(), f.len(), r.len()) {
+        return refused(true, Verdict::Refused(Refusal::Short, 0));
+    }
+    finished(fund, t, transform, h, f, r)
+}
+
+// The valuation of a lent table of lives, into four result slices.
+pub fn value(
+    fund: Fund,
+    members: &[Life],
+    transform: &mut [i64],
+    h: &mut [u64],
+    f: &mut [i64],
+    r: &mut [u64],
+) -> Valued
+    ensures { λ v. ⌜ ValuedAs fund (now (members .entry))
+        (lengths (now (transform .entry)) (now (h .entry)) (now (f .entry)) (now (r .entry))) v
+        (left v (now (transform .exit)) (now (h .exit)) (now (f .exit)) (now (r .exit))) ⌝ }
+{
+    let totals = totals::totalled(fund, members);
+    let x = cleared(fund, totals, transform, h, f, r);
+    transform::fill(members, x, transform, h);
+    completed(fund, totals, transform, h, f, r)
 }

@@ -1,240 +1,110 @@
-// The figures of a fund that add up over its lives: lambda, load, truncation figure, mean, and the number of group 1 members.
-use super::lives::MILLION;
-use super::lives::UNIT;
-use super::lives::life;
+// What a table of lives adds up to: the load, the truncation figure, the mean, and the start.
+use super::figures;
+use super::inside;
+use super::start;
+use super::start::Product;
+use super::whole;
+use super::whole::Signed;
 use fund::Fund;
 use fund::Life;
 ghost use mathlib.Core.Path.{_≡_};
-ghost use Prim.Native.Nat.{min, _+_, _-_, _*_, _^_, _<_, _≤_};
-ghost use Rattle.rounding.specs.Rounding.{up as upOf};
-ghost use Rattle.fund.specs.Base.{total};
-ghost use Rattle.fund.specs.Limits.{most-frequency, most-order, most-load, most-truncation, half-rate};
-ghost use Rattle.fund.specs.Folding.{claim, stay};
-ghost use Rattle.fund.specs.Transform.{lambda as lambdaOf, load as loadOf, truncation as truncationOf, mean as meanOf, unit, w};
-ghost use Rattle.widths.specs.Lives.{livesOf, Lives, InRange};
-ghost use Rattle.widths.specs.Parts.{lambdaPart, singlePart, truncationPart, meanPart, onePart};
+ghost use mathlib.Core.Bool.{true, false};
+ghost use Prim.Native.Nat.{_+_, _*_, _≤_};
+ghost use Rattle.fund.specs.Limits.{most-members};
+ghost use Rattle.valuation.specs.Table.{Members};
+ghost use Rattle.valuation.specs.Inside.{HeaderIn};
+ghost use Rattle.valuation.specs.Start.{most-t};
+ghost use Rattle.valuation.specs.Totals.{StartSums, MadeOf, Summed, Totalled};
 
-// a / b, up.
-fn up(a: u64, b: u64) -> u64
-    requires { ⌜ (0 < b) × (a + b ≤ 2 ^ 63) ⌝ }
-    ensures { λ r. ⌜ r ≡ upOf a b ⌝ }
-{
-    (a + (b - 1)) / b
+// What a table adds up to, or that it or the header is outside its ranges.
+pub(crate) struct Totals {
+    pub(crate) inside: bool,
+    pub(crate) load: u64,
+    pub(crate) truncation: u64,
+    pub(crate) mean: u64,
+    pub(crate) cell: i64,
+    pub(crate) bound: u64,
 }
 
-// What a life adds to lambda.
-fn lambda_part(m: Life, a: u64) -> u64
-    requires { ⌜ InRange m × (a ≤ most-frequency) ⌝ }
-    ensures { λ r. ⌜ r ≡ lambdaPart a m ⌝ }
+// The sum that f(0) starts from, and the sum of its bounds.
+pub(crate) struct StartSum {
+    pub(crate) negative: bool,
+    pub(crate) size: u64,
+    pub(crate) bound: u64,
+}
+
+fn outside() -> Totals
+    ensures { λ r. ⌜ r .inside ≡ false ⌝ }
 {
-    if m.group == 1 {
-        return 0;
+    Totals {
+        inside: false,
+        load: 0,
+        truncation: 0,
+        mean: 0,
+        cell: 0,
+        bound: 0,
     }
-    (m.q + m.i) * a * 1000
 }
 
-// Lambda, in units: at most 5,000,000 × 10^6 for each life.
-pub(crate) fn lambda(
-    groups: &[u64],
-    q: &[u64],
-    i: &[u64],
-    d: &[u64],
-    e: &[u64],
-    n: usize,
-    a: u64,
-) -> u64
-    requires { ⌜ Lives n (now groups) (now q) (now i) (now d) (now e) × (a ≤ most-frequency) ⌝ }
-    ensures { λ r. ⌜ r ≡ lambdaOf a
-        (livesOf n (now (groups .entry)) (now (q .entry)) (now (i .entry)) (now (d .entry)) (now (e .entry))) ⌝ }
+// The sums of t and c, where the load is not refused.
+fn first_sums(lambda: u64, load: u64) -> StartSum
+    requires { ⌜ lambda ≤ load ⌝ }
+    ensures { λ r. ⌜ StartSums lambda load r ⌝ }
 {
-    let mut sum: u64 = 0;
-    let mut k: usize = 0;
-    while k < n {
-        sum += lambda_part(life(groups, q, i, d, e, k), a);
-        k += 1;
+    if Fund::MOST_LOAD < load {
+        return StartSum {
+            negative: false,
+            size: 0,
+            bound: 0,
+        };
     }
-    sum
-}
-
-// What a life of group 1 adds to the load.
-fn single_part(m: Life) -> u64
-    requires { ⌜ InRange m ⌝ }
-    ensures { λ r. ⌜ r ≡ singlePart m ⌝ }
-{
-    if m.group == 1 {
-        let claim = m.q + m.i;
-        return up(UNIT * claim, MILLION - claim);
+    let sums = start::terms(lambda);
+    let sum = whole::difference(sums.plus, sums.minus);
+    StartSum {
+        negative: sum.negative,
+        size: sum.size,
+        bound: sums.bound,
     }
-    0
 }
 
-// What group 1 adds to the load: at most a unit for each life.
-fn single_load(groups: &[u64], q: &[u64], i: &[u64], d: &[u64], e: &[u64], n: usize) -> u64
-    requires { ⌜ Lives n (now groups) (now q) (now i) (now d) (now e) ⌝ }
-    ensures { λ r. ⌜ r ≡ total singlePart
-        (livesOf n (now (groups .entry)) (now (q .entry)) (now (i .entry)) (now (d .entry)) (now (e .entry))) ⌝ }
+fn made(load: u64, truncation: u64, mean: u64, first: StartSum, product: Product) -> Totals
+    requires { ⌜ (product .size ≤ 200 * most-t) × (first .bound ≤ 64000) × (product .singles ≤ most-members) ⌝ }
+    ensures { λ r. ⌜ MadeOf load truncation mean first product r ⌝ }
 {
-    let mut sum: u64 = 0;
-    let mut k: usize = 0;
-    while k < n {
-        sum += single_part(life(groups, q, i, d, e, k));
-        k += 1;
+    let cell = whole::value(Signed {
+        negative: first.negative,
+        size: product.size,
+    });
+    Totals {
+        inside: true,
+        load,
+        truncation,
+        mean,
+        cell,
+        bound: first.bound + product.singles,
     }
-    sum
 }
 
-// The load, in units.
-pub(crate) fn load(
-    groups: &[u64],
-    q: &[u64],
-    i: &[u64],
-    d: &[u64],
-    e: &[u64],
-    n: usize,
-    a: u64,
-) -> u64
-    requires { ⌜ Lives n (now groups) (now q) (now i) (now d) (now e) × (a ≤ most-frequency) ⌝ }
-    ensures { λ r. ⌜ r ≡ loadOf a
-        (livesOf n (now (groups .entry)) (now (q .entry)) (now (i .entry)) (now (d .entry)) (now (e .entry))) ⌝ }
+// One walk for each sum, and one for the product, which starts from the sum of t.
+fn summed(fund: Fund, members: &[Life]) -> Totals
+    requires { ⌜ Members (now members) × HeaderIn fund ⌝ }
+    ensures { λ t. ⌜ Summed fund (now (members .entry)) t ⌝ }
 {
-    lambda(groups, q, i, d, e, n, a) + single_load(groups, q, i, d, e, n)
+    let lambda = figures::lambda(members, fund.frequency);
+    let load = figures::load(members, fund.frequency);
+    let truncation = figures::truncation(members, fund.order);
+    let mean = figures::mean(members, fund.frequency);
+    let first = first_sums(lambda, load);
+    let product = start::multiplied(members, first.size);
+    made(load, truncation, mean, first, product)
 }
 
-// w(n) from w(n-1).
-fn next_weight(m: Life, last: u64) -> u64
-    requires { ⌜ (claim m < half-rate) × (last ≤ unit) ⌝ }
-    ensures { λ r. ⌜ r ≡ upOf (last * claim m) (stay m) ⌝ }
+pub(crate) fn totalled(fund: Fund, members: &[Life]) -> Totals
+    ensures { λ t. ⌜ Totalled fund (now (members .entry)) t ⌝ }
 {
-    let claim = m.q + m.i;
-    up(last * claim, MILLION - claim)
-}
-
-// w(n), from w(0) = 10^12.
-fn weight(m: Life, n: u64) -> u64
-    requires { ⌜ claim m < half-rate ⌝ }
-    ensures { λ r. ⌜ r ≡ w m n ⌝ }
-{
-    let mut last = UNIT;
-    let mut k: u64 = 0;
-    while k < n {
-        last = next_weight(m, last);
-        k += 1;
+    let inside = inside::all_inside(members, inside::headed(fund, members.len()));
+    if inside {
+        return summed(fund, members);
     }
-    last
-}
-
-// What a life adds to the truncation figure of order r.
-fn truncation_part(m: Life, r: u64) -> u64
-    requires { ⌜ InRange m × (r ≤ most-order) ⌝ }
-    ensures { λ x. ⌜ x ≡ truncationPart r m ⌝ }
-{
-    if m.group == 1 {
-        let claim = m.q + m.i;
-        let stay = MILLION - claim;
-        return up(weight(m, r + 1) * stay, (stay - claim) * (r + 1));
-    }
-    0
-}
-
-// Sums above the largest truncation figure are not told apart.
-fn capped(x: u64) -> u64
-    ensures { λ r. ⌜ r ≡ min x (most-truncation + 1) ⌝ }
-{
-    if Fund::MOST_TRUNCATION < x {
-        return Fund::MOST_TRUNCATION + 1;
-    }
-    x
-}
-
-// The truncation figure of order r, or one more than its largest where it is larger: a thousand shares can pass a word.
-pub(crate) fn truncation(
-    groups: &[u64],
-    q: &[u64],
-    i: &[u64],
-    d: &[u64],
-    e: &[u64],
-    n: usize,
-    r: u64,
-) -> u64
-    requires { ⌜ Lives n (now groups) (now q) (now i) (now d) (now e) × (r ≤ most-order) ⌝ }
-    ensures { λ x. ⌜ x ≡ min
-        (truncationOf r (livesOf n (now (groups .entry)) (now (q .entry)) (now (i .entry)) (now (d .entry)) (now (e .entry))))
-        (most-truncation + 1) ⌝ }
-{
-    let mut sum: u64 = 0;
-    let mut k: usize = 0;
-    while k < n {
-        sum = capped(sum + truncation_part(life(groups, q, i, d, e, k), r));
-        k += 1;
-    }
-    sum
-}
-
-// An amount by its rate.
-fn weighed(rate: u64, amount: u64) -> u64
-    requires { ⌜ rate * amount ≤ 2 ^ 40 ⌝ }
-    ensures { λ r. ⌜ r ≡ rate * amount ⌝ }
-{
-    rate * amount
-}
-
-// What a life adds to the mean.
-fn mean_part(m: Life, a: u64) -> u64
-    requires { ⌜ InRange m × (a ≤ most-frequency) ⌝ }
-    ensures { λ r. ⌜ r ≡ meanPart a m ⌝ }
-{
-    let amount = weighed(m.q, m.d) + weighed(m.i, m.e);
-    if m.group == 1 {
-        return amount * MILLION;
-    }
-    amount * a * 1000
-}
-
-// The mean, in units: at most 65,535 times the load.
-pub(crate) fn mean(
-    groups: &[u64],
-    q: &[u64],
-    i: &[u64],
-    d: &[u64],
-    e: &[u64],
-    n: usize,
-    a: u64,
-) -> u64
-    requires { ⌜ Lives n (now groups) (now q) (now i) (now d) (now e) × (a ≤ most-frequency)
-        × (loadOf a (livesOf n (now groups) (now q) (now i) (now d) (now e)) ≤ most-load) ⌝ }
-    ensures { λ r. ⌜ r ≡ meanOf a
-        (livesOf n (now (groups .entry)) (now (q .entry)) (now (i .entry)) (now (d .entry)) (now (e .entry))) ⌝ }
-{
-    let mut sum: u64 = 0;
-    let mut k: usize = 0;
-    while k < n {
-        sum += mean_part(life(groups, q, i, d, e, k), a);
-        k += 1;
-    }
-    sum
-}
-
-// 1 for a life of group 1.
-fn one_part(m: Life) -> u64
-    ensures { λ r. ⌜ r ≡ onePart m ⌝ }
-{
-    if m.group == 1 {
-        return 1;
-    }
-    0
-}
-
-// The number of group 1 members.
-pub(crate) fn singles(groups: &[u64], q: &[u64], i: &[u64], d: &[u64], e: &[u64], n: usize) -> u64
-    requires { ⌜ Lives n (now groups) (now q) (now i) (now d) (now e) ⌝ }
-    ensures { λ r. ⌜ r ≡ total onePart
-        (livesOf n (now (groups .entry)) (now (q .entry)) (now (i .entry)) (now (d .entry)) (now (e .entry))) ⌝ }
-{
-    let mut sum: u64 = 0;
-    let mut k: usize = 0;
-    while k < n {
-        sum += one_part(life(groups, q, i, d, e, k));
-        k += 1;
-    }
-    sum
+    outside()
 }

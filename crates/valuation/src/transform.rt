@@ -1,24 +1,31 @@
 // The transform: each life's terms, added to D and H at their places.
-use super::lives::MILLION;
-use super::lives::UNIT;
-use super::lives::life;
+use super::figures::MILLION;
+use super::whole::UNIT;
 use fund::Life;
 ghost use mathlib.Core.Path.{_≡_};
 ghost use mathlib.Core.Bool.{true, _||_};
-ghost use mathlib.Core.List.{_++_};
 ghost use Prim.Native.Nat.{suc, _+_, _*_, _-_, _^_, _<_, _≤_};
 ghost use lib.Dec.{ltb, eqb};
 ghost use lib.IntN.{pos, natAbs, _+ℤ_};
-ghost use lib.ListN.{length, getD, set, drop};
+ghost use lib.ListN.{length, getD, set};
 ghost use Rattle.rounding.specs.Rounding.{near};
-ghost use Rattle.fund.specs.Base.{table, alternate};
-ghost use Rattle.fund.specs.Limits.{half-rate, most-rate, most-order, most-frequency, most-load};
+ghost use Rattle.fund.specs.Base.{alternate};
+ghost use Rattle.fund.specs.Limits.{half-rate, most-rate, most-order, most-frequency};
 ghost use Rattle.fund.specs.Folding.{claim, stay, single};
-ghost use Rattle.fund.specs.Transform.{D as dOf, H as hOf, load, nextRow, placeOf, placed as placedOf, replacedTerm, replacedTerms, row as rowOf, rowTerms, singleTerms, terms, unit, weight};
+ghost use Rattle.fund.specs.Transform.{nextRow, placeOf, placed as placedOf, replacedTerm, replacedTerms, row as rowOf, rowTerms, singleTerms, unit, weight};
 ghost use Rattle.laws.specs.Accepted.{All};
-ghost use Rattle.widths.specs.Lives.{livesOf, Lives, InRange};
-ghost use Rattle.widths.specs.Adding.{addD, addH, Room, RoomD, Row, TermRoom, termsAt, lifeTerms, Cleared};
+ghost use Rattle.widths.specs.Lives.{InRange};
+ghost use Rattle.widths.specs.Adding.{addD, addH, Room, RoomD, Row, TermRoom, termsAt, lifeTerms};
 ghost use Rattle.widths.specs.Sign.{signed};
+ghost use Rattle.valuation.specs.Filling.{StepAsks, StepGives, FillAsks, FillGives};
+
+// How the cells are filled: whether they are, up to which horizon, by which order and at which frequency.
+pub(crate) struct Filling {
+    pub(crate) go: bool,
+    pub(crate) horizon: u64,
+    pub(crate) order: u64,
+    pub(crate) frequency: u64,
+}
 
 // a / b to the nearest, halves up.
 fn nearest(a: u64, b: u64) -> u64
@@ -28,12 +35,16 @@ fn nearest(a: u64, b: u64) -> u64
     (2 * a + b) / (2 * b)
 }
 
-// A number of a row, from the two above it.
+// A number of a row, from the two above it. Most are 0, and are not divided.
 fn entry(m: Life, left: u64, v: u64) -> u64
     requires { ⌜ (claim m < half-rate) × (left ≤ unit) × (v ≤ unit) ⌝ }
     ensures { λ r. ⌜ r ≡ near (m .q * left + m .i * v) (stay m) ⌝ }
 {
-    nearest(m.q * left + m.i * v, MILLION - (m.q + m.i))
+    let sum = m.q * left + m.i * v;
+    if sum == 0 {
+        return 0;
+    }
+    nearest(sum, MILLION - (m.q + m.i))
 }
 
 // The row after `row`: v(n,l) comes from v(n-1,l-1) by q and from v(n-1,l) by i.
@@ -205,32 +216,24 @@ fn add_life(d: &mut [i64], h: &mut [u64], horizon: u64, m: Life, order: u64, a: 
     add_replaced(d, horizon, m, a);
 }
 
+// The terms of one life more, where the cells are filled.
+fn fill_step(d: &mut [i64], h: &mut [u64], m: Life, x: Filling)
+    requires { ⌜ StepAsks (now d) (now h) m x ⌝ }
+    ensures { λ _. ⌜ StepGives (now (d .entry)) (now (h .entry)) m x (now (d .exit)) (now (h .exit)) ⌝ }
+{
+    if x.go {
+        add_life(d, h, x.horizon, m, x.order, x.frequency);
+    }
+}
+
 // D and H of all lives, into slices that are 0 up to the horizon. Cells beyond it stay as they are.
-pub(crate) fn fill(
-    groups: &[u64],
-    q: &[u64],
-    i: &[u64],
-    d: &[u64],
-    e: &[u64],
-    n: usize,
-    horizon: u64,
-    order: u64,
-    a: u64,
-    transform: &mut [i64],
-    h: &mut [u64],
-)
-    requires { ⌜ Lives n (now groups) (now q) (now i) (now d) (now e) × (order ≤ most-order) × (a ≤ most-frequency)
-        × (load a (livesOf n (now groups) (now q) (now i) (now d) (now e)) ≤ most-load) × Cleared horizon (now transform) (now h) ⌝ }
-    ensures { λ r. ⌜ now (transform .exit) ≡
-        table (suc horizon) (dOf (terms horizon order a (livesOf n (now (groups .entry)) (now (q .entry)) (now (i .entry)) (now (d .entry)) (now (e .entry)))))
-        ++ drop (suc horizon) (now (transform .entry)) ⌝ }
-    ensures { λ r. ⌜ now (h .exit) ≡
-        table (suc horizon) (hOf (terms horizon order a (livesOf n (now (groups .entry)) (now (q .entry)) (now (i .entry)) (now (d .entry)) (now (e .entry)))))
-        ++ drop (suc horizon) (now (h .entry)) ⌝ }
+pub(crate) fn fill(members: &[Life], x: Filling, transform: &mut [i64], h: &mut [u64])
+    requires { ⌜ FillAsks (now members) x (now transform) (now h) ⌝ }
+    ensures { λ _. ⌜ FillGives (now (members .entry)) x (now (transform .entry)) (now (h .entry)) (now (transform .exit)) (now (h .exit)) ⌝ }
 {
     let mut k: usize = 0;
-    while k < n {
-        add_life(transform, h, horizon, life(groups, q, i, d, e, k), order, a);
+    while k < members.len() {
+        fill_step(transform, h, members[k], x);
         k += 1;
     }
 }

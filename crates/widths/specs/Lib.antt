@@ -6,8 +6,6 @@ pub mod Sums
 pub mod Signed
 pub mod PartBounds
 pub mod AddingLaws
-pub mod Loops
-pub mod Bounds
 pub mod Triangle
 pub mod Placing
 pub mod Filling

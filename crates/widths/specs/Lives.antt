@@ -1,14 +1,13 @@
 -- A fund's lives as the code has them: one slice for each field, and a life at each place of the slices.
--- `Lives` is what the functions of this crate ask of the slices.
 use mathlib.Core.Path.{_≡_}
 use mathlib.Core.List.{List}
 use Prim.Native.Nat.{ℕ, _≤_}
-use lib.ListN.{length, getD}
+use lib.ListN.{getD}
 use Rattle.fund.specs.declared.Life.{Life}
 use Rattle.fund.specs.Base.{table}
-use Rattle.fund.specs.Limits.{least-group, most-group, most-rate, most-amount, most-members}
+use Rattle.fund.specs.Limits.{least-group, most-group, most-rate, most-amount}
 use Rattle.fund.specs.Folding.{claim}
-use Rattle.laws.specs.Accepted.{All, Limited}
+use Rattle.laws.specs.Accepted.{Limited}
 
 abbrev pub lifeAt : List ℕ → List ℕ → List ℕ → List ℕ → List ℕ → ℕ → Life
 lifeAt groups q i d e k =
@@ -27,12 +26,3 @@ pub record InRange (m : Life) : Type 0 where
   pub disability : m .e ≤ most-amount
   pub no-death : m .d ≡ 0 → m .q ≡ 0
   pub no-disability : m .e ≡ 0 → m .i ≡ 0
-
-pub record Lives (n : ℕ) (groups q i d e : List ℕ) : Type 0 where
-  pub few : n ≤ most-members
-  pub groups-long : n ≤ length groups
-  pub q-long : n ≤ length q
-  pub i-long : n ≤ length i
-  pub d-long : n ≤ length d
-  pub e-long : n ≤ length e
-  pub in-range : All InRange (livesOf n groups q i d e)

@@ -13,7 +13,7 @@ use Rattle.fund.specs.Base.{if_then_else_, total}
 use Rattle.fund.specs.Folding.{claim, stay, single}
 use Rattle.fund.specs.Transform.{unit, weight, w, lambda, load}
 use Rattle.widths.specs.Lives.{InRange}
-use Rattle.widths.specs.Parts.{lambdaPart, singlePart, loadPart, truncationPart, meanPart, onePart}
+use Rattle.widths.specs.Parts.{lambdaPart, singlePart, loadPart, truncationPart, meanPart}
 
 -- a bound of either group's value, by what each asks
 pub by-group : (m : Life) (x y b : ℕ) → (single m ≡ true → x ≤ b) → y ≤ b → (if single m then x else y) ≤ b
@@ -33,9 +33,6 @@ single-le m r =
     by-group m (up (unit * claim m) (stay m)) 0 1000000000000
     (λ e. let c = r .limited e in up-least (unit * claim m) (stay m) 1000000000000 (omega arith) (omega arith))
     (omega arith)
-
-pub one-le : (m : Life) → InRange m → onePart m ≤ 1
-one-le m r = by-group m 1 0 1 (λ e. omega arith) (omega arith)
 
 pub w-first : (m : Life) → 1000000000000 ≡ w m 0
 unfolding unit w

@@ -1,4 +1,4 @@
--- What one life adds to lambda, to the load, to the truncation figure, to the mean and to the number of group 1 members:
+-- What one life adds to lambda, to the load, to the truncation figure and to the mean:
 -- the summands of fund's definitions, by name.
 use Prim.Native.Nat.{ℕ, suc, _+_, _-_, _*_, _^_}
 use Rattle.rounding.specs.Rounding.{up}
@@ -21,6 +21,3 @@ truncationPart r m = if single m then up (w m (suc r) * stay m) ((stay m - claim
 
 abbrev pub meanPart : ℕ → Life → ℕ
 meanPart a m = if single m then (m .q * m .d + m .i * m .e) * 10 ^ 6 else weight a (m .q * m .d + m .i * m .e)
-
-abbrev pub onePart : Life → ℕ
-onePart m = if single m then 1 else 0

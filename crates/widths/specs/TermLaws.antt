@@ -1,8 +1,8 @@
--- The terms of all lives: life by life (`terms-goes`), each of them at a place up to the horizon and 0 at place 0 (`terms-sound`);
--- so cells that were 0 hold D and H after the terms are added (`filled-d`, `filled-h`).
+-- The terms of all lives: each of them at a place up to the horizon and 0 at place 0 (`terms-sound`); so cells that were 0 hold D
+-- and H after the terms are added (`filled-d`, `filled-h`).
 use mathlib.Core.Path.{_≡_, refl, sym, _∙_, ap, ap₂}
 use mathlib.Core.Bool.{Bool, true, false, _&&_}
-use mathlib.Core.List.{List, [], _∷_, _++_, append-assoc, append-nil}
+use mathlib.Core.List.{List, [], _∷_, _++_}
 use Prim.Native.Nat.{ℕ, zero, suc, _+_, _*_, _≤_, _<_}
 use native.Mathlib.Nat as N
 use native.Mathlib.Omega.{arith}
@@ -20,24 +20,6 @@ use Rattle.laws.specs.Tables.{length-table, getD-table}
 use Rattle.widths.specs.Adding.{addD, addH, sizeD, sizeH, Room, termsAt, lifeTerms, Cleared}
 use Rattle.widths.specs.AddingLaws.{addD-at, addH-at, addD-beyond, addH-beyond, length-addD, length-addH}
 use Rattle.widths.specs.Placing.{placed-within, term-zero}
-use Rattle.widths.specs.Filling.{Filling, turn-room, turn}
-
--- ---- life by life
-terms-append : (X r a : ℕ) (xs ys : List Life) → terms X r a (xs ++ ys) ≡ terms X r a xs ++ terms X r a ys
-unfolding terms
-terms-append X r a [] ys = refl
-terms-append X r a (m ∷ xs) ys =
-    ap (λ ts. lifeTerms X r a m ++ ts) (terms-append X r a xs ys)
-    ∙ sym (append-assoc (lifeTerms X r a m) (terms X r a xs) (terms X r a ys))
-
-pub terms-start : (X r a : ℕ) (g : ℕ → Life) → terms X r a (table 0 g) ≡ []
-unfolding terms table
-terms-start X r a g = refl
-
-pub terms-goes : (X r a : ℕ) (g : ℕ → Life) (k : ℕ) → terms X r a (table (suc k) g) ≡ terms X r a (table k g) ++ lifeTerms X r a (g k)
-unfolding terms table
-terms-goes X r a g k =
-    terms-append X r a (table k g) (g k ∷ []) ∙ ap (λ ts. terms X r a (table k g) ++ ts) (append-nil (lifeTerms X r a (g k)))
 
 -- ---- places
 pub record Sound (X : ℕ) (t : Term) : Type 0 where
@@ -161,20 +143,10 @@ module _ {X : ℕ} {d : List ℤ} {h : List ℕ} (c : Cleared X d h) (ts : List 
       ∙ H-is X ts a k)
       (addH-beyond X h ts places)
 
--- ---- the loop over the lives
+-- ---- room in cleared slices
 pub cleared-room : {X : ℕ} {d : List ℤ} {h : List ℕ} → Cleared X d h → (ts : List Term) → sizeD ts ≤ 400000000000000000 → sizeH ts ≤ 1000000000 → Room X d h ts
 cleared-room c ts wide tall =
     record {
       inD = record { horizon = c .horizon; long = c .d-long; room = λ k l. omega (arith, ap natAbs (c .d-zero k l)) };
       inH = record { long = c .h-long; room = λ k l. omega (arith, c .h-zero k l) };
     }
-
-module _ (X r a : ℕ) (g : ℕ → Life) {L k : ℕ} {d₀ d : List ℤ} {h₀ h : List ℕ} {m : Life} (f : Filling X d₀ h₀ (λ k. terms X r a (table k g)) L k d h) (l : k < L) (e : m ≡ g k) where
-  pub life-room : Room X d h (lifeTerms X r a m)
-  life-room = rw e (turn-room (λ k. terms X r a (table k g)) (λ k. lifeTerms X r a (g k)) (terms-goes X r a g) f l)
-
-  pub life-turn : {d′ : List ℤ} {h′ : List ℕ} → d′ ≡ addD d (lifeTerms X r a m) → h′ ≡ addH h (lifeTerms X r a m) → Filling X d₀ h₀ (λ k. terms X r a (table k g)) L (k + 1) d′ h′
-  life-turn p q =
-      turn (λ k. terms X r a (table k g)) (λ k. lifeTerms X r a (g k)) (terms-goes X r a g) f l
-      (p ∙ ap (λ m. addD d (lifeTerms X r a m)) e)
-      (q ∙ ap (λ m. addH h (lifeTerms X r a m)) e)

@@ -2,11 +2,12 @@
 use mathlib.Core.Path.{sym, _∙_}
 use native.Mathlib.Omega.{arith}
 use borrow.Author.Needs.{needs, sfits-of}
+use lib.ListN.{take}
 use mir.Syntax.{w64}
 use mir.Facts.{toZ-ofZ}
 use Rattle.fund.specs.Answer.{answer}
 use Rattle.valuation.specs.Valued.{lengths}
-use Rattle.pricing.proofs.Valuing.{blank, blank-long, room-there, verdict-matched, handed-answers, matched-answers, valued-answers}
+use Rattle.pricing.proofs.Valuing.{blank, blank-long, room-there, verdict-matched, handed-answers, matched-answers, valued-answers, few-taken}
 use Rattle.pricing.proofs.valued.Statement.{statement}
 use Rattle.pricing.proofs.valued.Tie as tie
 
@@ -31,14 +32,17 @@ stopped-requires c κs = search needs
 enum-told : tie.Need-enum-told
 enum-told c = search needs
 
-slice-aggregate-value : tie.Need-slice-aggregate-value
-slice-aggregate-value c = search needs
+slice-aggregate-gathered : tie.Need-slice-aggregate-gathered
+slice-aggregate-gathered c = search needs
 
-slice-aggregate-value-2 : tie.Need-slice-aggregate-value-2
-slice-aggregate-value-2 c = search needs
+slice-aggregate-gathered-2 : tie.Need-slice-aggregate-gathered-2
+slice-aggregate-gathered-2 c = search needs
 
-value-requires : tie.Need-value-requires
-value-requires c κs = search needs
+gathered-requires : tie.Need-gathered-requires
+gathered-requires c κs = search needs
+
+lent-requires : tie.Need-lent-requires
+lent-requires c κs = omega (arith, c .before .before .before .before .before .before .before .before .before .before .before .before .before .before .before .before .before .before .before .before .before .before .before .before .pre .members .few)
 
 horizon-of-requires : tie.Need-horizon-of-requires
 horizon-of-requires c κs = search needs
@@ -80,18 +84,18 @@ same-length-8 c = search needs
 
 returns-2 : tie.Need-returns-2
 returns-2 c =
-    let o = c .before .before .before .before .before .before .before .before .before .before .before .before .before .before .before .before .before .before .before .before .before .before .before .before .before .before .before .before .before .before .before .before in
+    let o = c .before .before .before .before .before .before .before .before .before .before .before .before .before .before .before .before .before .before .before .before .before .before .before .before .before .before .before .before .before .before .before .before .before in
     let a = o .args in
     let k = o .pre in
-    let m = c .before .before .before .before .before .before .before .before .before .before .before .before .before .before .before .before .before .before .before .matched in
-    let v = c .before .before .before .before .before .before .before .before .value in
+    let m = c .before .before .before .before .before .before .before .before .before .before .before .before .before .before .before .before .before .before .before .before .matched in
+    let g = c .before .before .before .before .before .before .before .before .before .before .before .before .before .gathered in
+    let v = c .before .before .before .before .before .before .before .before .lent in
     let n = lengths (a .transform .now) (a .h .now) (a .f .now) (a .r .now) in
     let l = blank-long (a .members) (k .members .few) in
     let room = room-there _ n _ (k .is) _ _ (a .members) blank blank (k .rates) (k .members) l l in
     let e = verdict-matched _ n _ (k .is) _ _ _ room (m .ensures) in
     handed-answers _ n _ (k .is) (answer (a .file .now) n) (v .result) _ _ _ _ _ _ (c .before .horizon-of .ensures) (toZ-ofZ (sfits-of {w = w64} (v .ok .1 .1 .1 .1 .1 .1 .0 .1)))
-    (valued-answers _ n _ (k .is) _ _ _ _ _ (a .members) (sym e ∙ c .before .before .before .before .before .before .before .before .before .before .before .before .before .before .before .enum-told .given .1) (m .ensures .lives (m .ensures .room .no room)) _ _ (k .members .few) (k .members .groups-long)
-    (omega (arith, l, m .kept .1 .1 .1 .1 .1 .1 .1 .1 .1 .1 .0)) (omega (arith, l, m .kept .1 .1 .1 .1 .1 .1 .1 .1 .1 .1 .1 .0)) (k .members .d-long) (k .members .e-long) (v .ensures))
+    (valued-answers _ n _ (k .is) (take (a .members) (g .result)) (sym e ∙ c .before .before .before .before .before .before .before .before .before .before .before .before .before .before .before .before .enum-told .given .1) (g .ensures ∙ m .ensures .lives (m .ensures .room .no room)) _ _ (few-taken (a .members) (g .result) (k .members .few)) (v .ensures))
 
 pub valued-spec : {M : Type 1} → statement M
 valued-spec =
@@ -104,9 +108,10 @@ valued-spec =
     part-of-requires
     stopped-requires
     enum-told
-    slice-aggregate-value
-    slice-aggregate-value-2
-    value-requires
+    slice-aggregate-gathered
+    slice-aggregate-gathered-2
+    gathered-requires
+    lent-requires
     horizon-of-requires
     same-length
     same-length-2

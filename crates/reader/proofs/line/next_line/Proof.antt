@@ -13,7 +13,7 @@ use prog.Wp.{Heap, WpFn}
 use contract.Monad.{Fun, factI}
 use contract.Running.{Running, GhostRules, givenOf, tables}
 use types.Kit.{Given, _$_, _∵_, !, qed, by, move, fjoin}
-use types.Run.{look, init, forget, stop, from, load, and-then, no-more, land, returns, enter, alloc1, alloc0, params1, pass1, pass0, free1, free0}
+use types.Run.{look, init, stop, from, and-then, no-more, land, returns, enter, alloc1, alloc0, params1, pass1, pass0, free0}
 use denote.Laws.{Is}
 use denote.Plain.{uint-vals, uint-tells}
 use denote.Builtin.{u8}
@@ -28,7 +28,8 @@ use denote.Triple.Walked.{needs}
 use Rattle.reader.specs.Lines.{NextLine}
 use Rattle.reader.specs.declared.line.Line.{Line}
 use Rattle.reader.specs.declared.line.LineReader.{LineReader}
-use Rattle.reader.proofs.Walks.{Stated, tokens, passed, Walk, starts, calls-for, ends}
+use Rattle.walks.specs.Freeing.{frees-cell}
+use Rattle.walks.specs.Walks.{Stated, tokens, passed, Walk, starts, calls-for, ends, cell}
 use Rattle.reader.proofs.line.LineReader as T
 use Rattle.reader.proofs.line.LineReader.Laws as T′
 use Rattle.reader.proofs.line.Line as S
@@ -83,16 +84,15 @@ module _ {M : Type 1} (𝓤 : URA M) (H : Heap 𝓤) (𝓜 : Model 𝓤 H) (𝓖
         -- [room for _3; …; _2; …; _1; …; room for _0; …; the token; what the file and the position own]
         move ! (8 ∷ 9 ∷ []) $
         calls-for W reader-at.ended reader-asked y ! (framed 𝓤 H 𝓜 (tables 𝓤 H 𝓜 𝓡 code.env)) (reader-at-thm.met 𝓤 H 𝓜 𝓖 𝓡) (id⊢ 𝓤 _)
-        (λ (r : LineReader). r ≡ made) (λ r e. id⊢ 𝓤 _) (and-then ! (load ! (from ! (stop !)) (look ! 5 refl)) (and-then ! (load ! (from ! (stop !)) (look ! 3 refl)) (no-more !))) (λ u r e is-r.
+        (λ (r : LineReader). r ≡ made) (λ r e. id⊢ 𝓤 _) (and-then ! (cell ! 5 refl) (and-then ! (cell ! 3 refl) (no-more !))) (λ u r e is-r.
         -- [what the reader owns; the token; room for _3; …; _2; …; _1; …; room for _0; …]
         land ! (from ! (stop !)) (init ! 2 refl (LL.lawful (T.the-type α) (T′.the-laws α) 𝓤 H (𝓖 .A) W .typed r _ is-r .0)) $
         nothing ! $ move ! (1 ∷ 0 ∷ []) $ fjoin ! $ move ! (1 ∷ 0 ∷ []) $
         calls-for W take-line.ended line-asked (((κ, tt), (q, tt), tt, (r, tt), (u ∷ [], tt)), tt) ! (framed 𝓤 H 𝓜 (tables 𝓤 H 𝓜 𝓡 code.env)) (take-line-thm.met 𝓤 H 𝓜 𝓖 𝓡)
-        (factI 𝓤 _ (emp 𝓤) (subst (λ (x : LineReader). x .at < length (now (x .file))) (sym e) inside)) (Took r) (λ l e. id⊢ 𝓤 _) (and-then ! (load ! (from ! (stop !)) (look ! 1 refl)) (no-more !)) (λ u′ l took is-l.
+        (factI 𝓤 _ (emp 𝓤) (subst (λ (x : LineReader). x .at < length (now (x .file))) (sym e) inside)) (Took r) (λ l e. id⊢ 𝓤 _) (and-then ! (cell ! 1 refl) (no-more !)) (λ u′ l took is-l.
         -- [what the line owns; the token; _3; …; _2; …; _1; …; room for _0; …]
         land ! (from ! (stop !)) (init ! 8 refl (LL.lawful S.the-type S′.the-laws 𝓤 H (𝓖 .A) W .typed l _ is-l .0)) $
-        returns ! (look ! 8 refl) $ forget ! 2 refl $ forget ! 4 refl $ forget ! 6 refl $ forget ! 8 refl $
-        move ! (8 ∷ 9 ∷ []) $ free1 ! $ move ! (6 ∷ 7 ∷ []) $ free1 ! $ move ! (4 ∷ 5 ∷ []) $ free1 ! $ move ! (2 ∷ 3 ∷ []) $ free1 ! $ free0 ! $
+        returns ! (look ! 8 refl) $ frees-cell ! 8 8 refl refl $ frees-cell ! 6 6 refl refl $ frees-cell ! 4 4 refl refl $ frees-cell ! 2 2 refl refl $ free0 ! $
         by ! (ends W next-line.ended c y u′ l (tt, (tt, tt)) (via 𝓤 _ (emp∗ 𝓤 _) (emp∗ 𝓤 _)) (factI 𝓤 _ (emp 𝓤) (subst (λ (x : LineReader). Took x l) e took)))))))))
 
   meets : Triple 𝓤 Run (Stated W next-line.ended c)

@@ -14,7 +14,7 @@ use contract.Monad.{Fun, factI}
 use contract.Running.{Running, GhostRules, givenOf, tables}
 use types.Kit.{Given, ‵, _$_, _∵_, !, qed, by, move, use1}
 use types.Part.{agg}
-use types.Run.{look, init, forget, stop, from, load, and-then, no-more, assigns, returns, enter, alloc1, alloc0, params1, pass1, pass0, free1, free0}
+use types.Run.{look, init, stop, from, and-then, no-more, assigns, returns, enter, alloc1, alloc0, params1, pass1, pass0, free0}
 use denote.Laws.{Is}
 use denote.Plain.{uint-vals, uint-tells}
 use denote.Builtin.{u8}
@@ -26,7 +26,8 @@ use denote.Triple.Clauses.{Clauses}
 use denote.Triple.Statement.{Triple}
 use denote.Triple.Table.{entered}
 use Rattle.reader.specs.declared.line.LineReader.{LineReader}
-use Rattle.reader.proofs.Walks.{Stated, tokens, passed, Walk, starts, ends}
+use Rattle.walks.specs.Freeing.{frees-cell}
+use Rattle.walks.specs.Walks.{Stated, tokens, passed, Walk, starts, ends, cell}
 use Rattle.reader.proofs.line.LineReader as T
 use Rattle.reader.proofs.line.LineReader.Laws as T′
 use Rattle.reader.proofs.line.reader_at.Key.{name as #reader-at}
@@ -63,8 +64,8 @@ module _ {M : Type 1} (𝓤 : URA M) (H : Heap 𝓤) (𝓜 : Model 𝓤 H) (𝓖
         qed W (tokens W reader-at.ended c y ∷ passed W reader-at.ended c y ∷ []) ∵ enter ! _ _ _ _ _ $
         alloc1 ! (λ l₀. alloc1 ! (λ l₁. alloc1 ! (λ l₂. alloc0 ! $ params1 ! $ pass1 ! (init ! 2 refl typed) $ pass1 ! (init ! 0 refl (tt, record { fits = fits })) $ pass0 ! $
         -- [_2; …; _1; …; room for _0; …; the token; what the file and the position own]
-        assigns ! (agg ! (and-then ! (load ! (from ! (stop !)) (look ! 2 refl)) (and-then ! (load ! (from ! (stop !)) (look ! 0 refl)) (no-more !)))) (from ! (stop !)) (init ! 4 refl (tt, (typed .1, (record { fits = fits }, tt)))) $
-        returns ! (look ! 4 refl) $ forget ! 0 refl $ forget ! 2 refl $ forget ! 4 refl $ move ! (4 ∷ 5 ∷ []) $ free1 ! $ move ! (2 ∷ 3 ∷ []) $ free1 ! $ free1 ! $ free0 ! $
+        assigns ! (agg ! (and-then ! (cell ! 2 refl) (and-then ! (cell ! 0 refl) (no-more !)))) (from ! (stop !)) (init ! 4 refl (tt, (typed .1, (record { fits = fits }, tt)))) $
+        returns ! (look ! 4 refl) $ frees-cell ! 4 4 refl refl $ frees-cell ! 2 2 refl refl $ frees-cell ! 0 0 refl refl $ free0 ! $
         -- [the token; what the file and the position own]: that is what the reader owns
         move ! (1 ∷ 0 ∷ []) $ use1 W (‵ (T.the-row α .own made (T′.lowered made ∷ []))) (own-shut 𝓤 H (𝓖 .A) W (T.the-type α) (T′.the-laws α) (file, (at, tt))) $
         by ! (ends W reader-at.ended c y (T′.lowered made) made (tt, (tt, tt)) (via 𝓤 _ (emp∗ 𝓤 _) (emp∗ 𝓤 _)) (factI 𝓤 _ (emp 𝓤) refl)))))

@@ -16,7 +16,7 @@ use contract.Monad.{Fun, factI}
 use contract.Running.{Running, GhostRules, givenOf, tables}
 use types.Kit.{Given, ‵, given, _$_, _∵_, !, qed, by, move, drop, use1, learn, fsplit}
 use types.Part.{whole, sub, look-in}
-use types.Run.{look, init, forget, stop, fld, from, load, of-opd, and-then, no-more, assigns, land, returns, enter, alloc1, alloc0, params1, pass1, pass0, free1, free0}
+use types.Run.{look, init, stop, fld, from, load, of-opd, and-then, no-more, assigns, land, returns, enter, alloc1, alloc0, params1, pass1, pass0, free0}
 use denote.Ref.{now}
 use denote.Signature.{namedLft}
 use denote.Slice.{sliceVal}
@@ -30,7 +30,8 @@ use denote.Triple.Table.{entered, framed}
 use denote.Triple.Walked.{needs}
 use Rattle.reader.specs.Lines.{NextLine}
 use Rattle.reader.specs.declared.line.LineReader.{LineReader}
-use Rattle.reader.proofs.Walks.{Stated, tokens, passed, Walk, starts, calls-for, ends}
+use Rattle.walks.specs.Freeing.{frees-cell}
+use Rattle.walks.specs.Walks.{Stated, tokens, passed, Walk, starts, calls-for, ends, cell}
 use Rattle.reader.proofs.line.LineReader as T
 use Rattle.reader.proofs.line.LineReader.Laws as T′
 use Rattle.reader.proofs.line.Line as S
@@ -86,11 +87,10 @@ module _ {M : Type 1} (𝓤 : URA M) (H : Heap 𝓤) (𝓜 : Model 𝓤 H) (𝓖
         use1 W (given (mach ∷ [] ≡ mach ∷ []) (‵ (all-own (D (κ, tt) .parts) (L (κ, tt)) fields))) (own-open 𝓤 H (𝓖 .A) W (D (κ, tt)) (L (κ, tt)) fields mach) $
         learn ! (λ _. move ! (1 ∷ []) $ drop ! $ move ! (9 ∷ 0 ∷ []) $
         calls-for W line-from.ended asked to ! (framed 𝓤 H 𝓜 (tables 𝓤 H 𝓜 𝓡 code.env)) (line-from-thm.met 𝓤 H 𝓜 𝓖 𝓡) (factI 𝓤 _ (emp 𝓤) inside)
-        (NextLine (now (d .file)) (d .at)) (λ l e. id⊢ 𝓤 _) (and-then ! (load ! (from ! (stop !)) (look ! 3 refl)) (and-then ! (load ! (from ! (stop !)) (look ! 1 refl)) (no-more !))) (λ v l found is.
+        (NextLine (now (d .file)) (d .at)) (λ l e. id⊢ 𝓤 _) (and-then ! (cell ! 3 refl) (and-then ! (cell ! 1 refl) (no-more !))) (λ v l found is.
         -- [what the line owns; the token; _3; …; _2; …; _1; …; room for _0; …]
         land ! (from ! (stop !)) (init ! 8 refl (LL.lawful S.the-type S′.the-laws 𝓤 H (𝓖 .A) W .typed l _ is .0)) $
-        returns ! (look ! 8 refl) $ forget ! 2 refl $ forget ! 4 refl $ forget ! 6 refl $ forget ! 8 refl $
-        move ! (8 ∷ 9 ∷ []) $ free1 ! $ move ! (6 ∷ 7 ∷ []) $ free1 ! $ move ! (4 ∷ 5 ∷ []) $ free1 ! $ move ! (2 ∷ 3 ∷ []) $ free1 ! $ free0 ! $
+        returns ! (look ! 8 refl) $ frees-cell ! 8 8 refl refl $ frees-cell ! 6 6 refl refl $ frees-cell ! 4 4 refl refl $ frees-cell ! 2 2 refl refl $ free0 ! $
         by ! (ends W take-line.ended c y v l (tt, tt) (emp∗ 𝓤 _) (factI 𝓤 _ (emp 𝓤) found))))))))
 
   meets : Triple 𝓤 Run (Stated W take-line.ended c)

@@ -1,73 +1,67 @@
--- The first k lives are in range. A life that is not contradicts that all are.
-use mathlib.Core.Path.{_≡_, sym, subst}
-use Prim.Native.Nat.{_-_, _≤_}
-use native.Mathlib.Omega.{arith}
-use Rattle.fund.specs.Base.{table}
+-- `valuation::inside::all_inside`: a walk that tells whether the header and the lives so far are in their ranges.
+use mathlib.Core.Path.{_≡_}
+use mathlib.Core.Bool.{Bool, true, false}
+use mathlib.Core.List.{List, [], _∷_}
+use mir.Syntax.{Rv as RValue, tyBool, copy, place, rvOpd}
+use mir.Val.{vbool}
+use base.Logic.{id⊢}
+use types.Kit.{ ! }
+use types.Run.{of-opd}
+use denote.Builtin.{bool}
+use denote.Plain.{bool-lawful, bool-makes, bool-copy, bool-tells}
+use Rattle.fund.specs.declared.Life.{Life}
 use Rattle.laws.specs.Accepted.{All}
-use Rattle.widths.specs.Lives.{InRange, lifeAt, livesOf}
-use Rattle.laws.specs.Tells.{tells-yes, tells-no, tells-not}
-use Rattle.valuation.proofs.Entries.{all-table-suc, all-table-at}
+use Rattle.widths.specs.Lives.{InRange}
+use Rattle.laws.specs.Tells.{Tells}
+use Rattle.walks.specs.WalkTable.{Says, Extra, First, Facts, meets}
+use Rattle.valuation.proofs.inside.inside_step.Symbol.{name as #step}
+use Rattle.valuation.proofs.inside.inside_step.Met as step-thm
+use Rattle.valuation.proofs.inside.all_inside.Key.{name as #all-inside}
 use Rattle.valuation.proofs.inside.all_inside.Statement.{statement}
-use Rattle.valuation.proofs.inside.all_inside.Tie as tie
+use Rattle.valuation.proofs.inside.all_inside.Code as code
 
-abbrev Inv-loop : tie.InvT-loop
-Inv-loop groups q i d e n k₀ k = (k ≤ n) × All InRange (livesOf k groups q i d e)
+bool-local : Extra bool tyBool
+bool-local = record {
+  val = vbool;
+  tells = bool-tells;
+  typed = λ 𝓤 H A W x v is. bool-lawful 𝓤 H A W .typed x (v ∷ []) is .0;
+  copies = λ 𝓤 H A W. bool-copy 𝓤 H A W;
+  makes = λ 𝓤 H A W. bool-makes 𝓤 H A W;
+  last = λ x. tt;
+  silent = λ 𝓤 H A x. id⊢ 𝓤 _;
+}
 
-abbrev μ-loop : tie.MeasureT-loop
-μ-loop groups q i d e n k₀ k = n - k
+abbrev given : RValue
+given = rvOpd (copy (place 2 []))
 
-loop-holds : tie.Need-loop-holds Inv-loop μ-loop
-unfolding table
-loop-holds c = (omega arith, tt)
+from-x : First bool bool (bool-local .val) given
+unfolding bool-local
+from-x = record { start = λ x. x; val = vbool; is = λ x is. is; runs = λ W Γ E x o. of-opd ! o }
 
-life-requires : tie.Need-life-requires Inv-loop μ-loop
-life-requires c κs = omega arith
+abbrev says : Says bool bool false false
+says = record {
+  asks = λ r m x. Unit {0};
+  gives = λ r m x r′. Tells r′ ((r ≡ true) × InRange m);
+  needs = λ ms x. Unit {0};
+  ends = λ ms x r. Tells r ((x ≡ true) × All InRange ms);
+}
 
-life-inside-requires : tie.Need-life-inside-requires Inv-loop μ-loop
-life-inside-requires c κs = tt
+-- the test so far, and the lives to come, tell of all
+record So-far (r : Bool) (rest : List Life) (P : Type 0) : Type 0 where
+  yes : (r ≡ true) × All InRange rest → P
+  no : P → (r ≡ true) × All InRange rest
 
-add-k : tie.Need-add-k Inv-loop μ-loop
-add-k c = omega arith
-
-loop-less : tie.Need-loop-less Inv-loop μ-loop
-loop-less c = omega arith
-
-loop-again : tie.Need-loop-again Inv-loop μ-loop
-loop-again c =
-    let a = c .before .before .before .before .before .before .before .before .before .before .args in
-    let l = c .before .before .before .before .loop in (
-      omega arith,
-      all-table-suc InRange (l .k) (lifeAt (a .groups .now) (a .q .now) (a .i .now) (a .d .now) (a .e .now)) (l .inv .1)
-          (subst (λ m. InRange m) (c .before .before .life .ensures) (c .before .life-inside .ensures .yes (c .if1 .taken))),
-    )
-
-returns : tie.Need-returns Inv-loop μ-loop
-returns c =
-    let a = c .before .before .before .before .before .before .before .before .before .before .args in
-    let l = c .before .before .before .before .loop in
-    tells-no
-    (λ h.
-    tells-not (c .before .life-inside .ensures) (c .if1 .left)
-    (subst (λ m. InRange m) (sym (c .before .before .life .ensures))
-    (all-table-at InRange (a .n) (l .k) (lifeAt (a .groups .now) (a .q .now) (a .i .now) (a .d .now) (a .e .now)) (omega arith) h)))
-
-returns-2 : tie.Need-returns-2 Inv-loop μ-loop
-returns-2 c =
-    let l = c .before .loop in
-    let e : l .k ≡ c .before .before .before .before .before .before .before .args .n = omega arith in
-    tells-yes (rw e at (l .inv .1))
+facts : Facts bool bool false false says (λ x. x)
+facts = record {
+  free = λ e ms x. tt;
+  Inv = λ ms x rest r. So-far r rest ((x ≡ true) × All InRange ms);
+  none = λ ms x n. record { yes = λ h. h; no = λ h. h };
+  asked = λ ms x m rest r i. tt;
+  more = λ ms x m rest r i r′ g. record { yes = λ h. let s = g .yes (h .0) in i .yes (s .0, (s .1, h .1)); no = λ h. let s = i .no h in (g .no (s .0, s .1 .0), s .1 .1) };
+  all = λ ms x r i. record { yes = λ e. i .yes (e, tt); no = λ h. i .no h .0 };
+}
 
 pub all-inside-spec : {M : Type 1} → statement M
-all-inside-spec =
-    tie.close
-    (tie.spec
-    Inv-loop
-    μ-loop
-    loop-holds
-    life-requires
-    life-inside-requires
-    add-k
-    loop-less
-    loop-again
-    returns
-    returns-2)
+unfolding code.routine bool-local from-x
+all-inside-spec 𝓤 H 𝓜 𝓖 𝓡 =
+    meets 𝓤 H 𝓜 𝓖 𝓡 bool bool tyBool tyBool given bool-local bool-local from-x false false says facts code.env #all-inside #step (code.unfolded 𝓤 H 𝓜 𝓡) (step-thm.met 𝓤 H 𝓜 𝓖 𝓡)

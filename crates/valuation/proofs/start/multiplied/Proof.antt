@@ -1,110 +1,129 @@
--- `multiplied` meets its contract. The loop's invariant: the product and the count are those of the first k members.
-use mathlib.Core.Path.{_≡_}
-use mathlib.Core.Logic.{⊎-elim}
-use Prim.Native.Nat.{_+_, _-_, _≤_}
-use native.Mathlib.Numerals.{add-one}
+-- `valuation::start::multiplied`: a walk that multiplies by p of each group 1 member. What is multiplied so far, multiplied on by the lives to
+-- come, is the whole product.
+use mathlib.Core.Path.{_≡_, refl, sym, _∙_, ap}
+use mathlib.Core.Bool.{Bool, true, false, true≢false}
+use mathlib.Core.List.{List, [], _∷_}
+use Prim.Native.Nat.{ℕ, _+_, _*_, _^_, _≤_, _<_}
+use native.Mathlib.Nat as N
 use native.Mathlib.Omega.{arith}
-use lib.ListN.{getD}
-use Rattle.fund.specs.Limits.{most-rate}
-use Rattle.valuation.specs.Start.{Multiplied}
-use Rattle.valuation.proofs.Members.{members-none, members-single, members-other}
+use lib.Dec.{lit<}
+use lib.IntN.{pos, negℤ, _*ℤ_}
+use lib.ListN.{length}
+use mir.Syntax.{Rv as RValue, w64, copy, int, place, aggregate}
+use base.Logic.{id⊢}
+use types.Kit.{ ! }
+use types.Part.{agg}
+use types.Run.{lit, and-then, no-more}
+use denote.Builtin.{u64}
+use denote.Struct.Laws as LL
+use Rattle.algebra.specs.Integer.{negℤ-*ℤ}
+use Rattle.rounding.specs.Rounding.{near, nearest}
+use Rattle.rounding.proofs.Laws.{near-below, nearest-pos, nearest-neg}
+use Rattle.fund.specs.declared.Life.{Life}
+use Rattle.fund.specs.Base.{if_then_else_, total}
+use Rattle.fund.specs.Folding.{stay, single}
+use Rattle.fund.specs.Limits.{most-members}
+use Rattle.fund.specs.Recursion.{multiplied}
+use Rattle.laws.specs.Accepted.{All}
+use Rattle.widths.specs.Lives.{InRange}
+use Rattle.widths.specs.Sign.{signed}
+use Rattle.valuation.specs.declared.start.Product.{Product}
+use Rattle.valuation.specs.Table.{Members}
+use Rattle.valuation.specs.Start.{most-t, one, Times, Multiplied}
+use Rattle.walks.specs.WalkTable.{word, Says, Extra, First, Facts, meets}
+use Rattle.valuation.proofs.LifeSums.{u64-local}
+use Rattle.valuation.proofs.start.Product as P
+use Rattle.valuation.proofs.start.Product.Laws as P′
+use Rattle.valuation.proofs.start.product_step.Symbol.{name as #step}
+use Rattle.valuation.proofs.start.product_step.Met as step-thm
+use Rattle.valuation.proofs.start.multiplied.Key.{name as #multiplied}
 use Rattle.valuation.proofs.start.multiplied.Statement.{statement}
-use Rattle.valuation.proofs.start.multiplied.Tie as tie
+use Rattle.valuation.proofs.start.multiplied.Code as code
 
-abbrev Inv-loop : tie.InvT-loop
-Inv-loop groups q i n size p₀ k₀ p k = (k ≤ n) × Multiplied groups q i size k p
+-- ---- the product's sign
+nearest-signed : (s : Bool) (m n : ℕ) → 0 < n → nearest (signed s m) n ≡ signed s (near m n)
+nearest-signed true m n h = nearest-neg (pos m) n h ∙ ap negℤ (nearest-pos m n)
+nearest-signed false m n h = nearest-pos m n
 
-abbrev μ-loop : tie.MeasureT-loop
-μ-loop groups q i n size p₀ k₀ p k = n - k
+nearest-times : (s : Bool) (m p n : ℕ) → 0 < n → nearest (signed s m *ℤ pos p) n ≡ signed s (near (m * p) n)
+nearest-times true m p n h = ap (λ z. nearest z n) (negℤ-*ℤ (pos m) (pos p)) ∙ nearest-signed true (m * p) n h
+nearest-times false m p n h = nearest-signed false (m * p) n h
 
-loop-holds : tie.Need-loop-holds Inv-loop μ-loop
-loop-holds c =
-    let a = c .before .before .before .args in
-    (omega arith, members-none (a .groups .now) (a .q .now) (a .i .now) (a .size))
+factor : (s b : Bool) (size k : ℕ) → (if b then nearest (signed s size *ℤ pos k) (10 ^ 6) else signed s size) ≡ signed s (if b then near (size * k) 1000000 else size)
+factor s true size k = nearest-times s size k (10 ^ 6) (omega arith)
+factor s false size k = refl
 
-mul-if1 : tie.Need-mul-if1 Inv-loop μ-loop
-mul-if1 c = omega arith
+no-larger : (b : Bool) (size k : ℕ) → k ≤ 1000000 → (if b then near (size * k) 1000000 else size) ≤ size
+no-larger true size k h = let w : size * k ≤ size * 1000000 = N.mul-le-mul-left size h in near-below (size * k) 1000000 size (omega arith) (omega arith)
+no-larger false size k h = N.le-refl size
 
-shared-slice-read-if1 : tie.Need-shared-slice-read-if1 Inv-loop μ-loop
-shared-slice-read-if1 c = omega arith
+one-most : (b : Bool) → (if b then 1 else 0) ≤ 1
+one-most true = omega arith
+one-most false = omega arith
 
-mul-times : tie.Need-mul-times Inv-loop μ-loop
-mul-times c = omega arith
+-- ---- the walk
+product-local : Extra P.the-row P′.mir
+product-local = record {
+  val = P′.lowered;
+  tells = LL.tells P.the-type P′.the-laws;
+  typed = λ 𝓤 H A W x v is. LL.lawful P.the-type P′.the-laws 𝓤 H A W .typed x (v ∷ []) is .0;
+  copies = λ 𝓤 H A W. LL.copy P.the-type P′.the-copy 𝓤 H A W;
+  makes = λ 𝓤 H A W. LL.makes P.the-type P′.the-plain 𝓤 H A;
+  last = λ x. tt;
+  silent = λ 𝓤 H A x. id⊢ 𝓤 _;
+}
 
-shared-slice-read-times : tie.Need-shared-slice-read-times Inv-loop μ-loop
-shared-slice-read-times c = omega arith
+abbrev first-product : RValue
+first-product = aggregate (copy (place 2 []) ∷ int w64 0 ∷ [])
 
--- the member's rates, in a turn
-rate : (c : tie.Then1 Inv-loop μ-loop) →
-    let a = c .before .before .before .before .before .before .before .args in
-    let k = c .before .before .before .loop .k in
-    getD (a .q .now) k 0 + getD (a .i .now) k 0 ≤ most-rate
-rate c =
-    let s = c .before .before .before .before .before .before .before in
-    s .pre .0 .rates (c .before .before .before .loop .k) (omega arith)
+from-size : First P.the-row u64 (u64-local .val) first-product
+unfolding u64-local
+from-size = record {
+  start = λ x. record { size = x; singles = 0 };
+  val = λ x. P′.lowered (record { size = x; singles = 0 });
+  is = λ x is. LL.owes P.the-type P′.the-laws (record { size = x; singles = 0 }) (is, ((refl, lit< tt), tt));
+  runs = λ W Γ E x o. agg ! (and-then ! o (and-then ! (lit ! tt) (no-more !)));
+}
 
-sub-times : tie.Need-sub-times Inv-loop μ-loop
-sub-times c = omega (arith, rate (c .before))
+abbrev says : Says P.the-row u64 false true
+says = record {
+  asks = λ p m x. InRange m × (p .size ≤ 200 * most-t) × (p .singles ≤ most-members);
+  gives = λ p m x r. Times m p r;
+  needs = λ ms x. Members ms × (x ≤ 200 * most-t);
+  ends = λ ms x r. Multiplied ms x r;
+}
 
-mul-times-2 : tie.Need-mul-times-2 Inv-loop μ-loop
-mul-times-2 c = omega arith
+record So-far (ms : List Life) (x : ℕ) (rest : List Life) (p : Product) : Type 0 where
+  needed : Members ms × (x ≤ 200 * most-t)
+  rest-in : All InRange rest
+  product : (s : Bool) → multiplied (signed s (p .size)) rest ≡ multiplied (signed s x) ms
+  count : p .singles + total one rest ≡ total one ms
+  size-within : p .size ≤ x
+  count-within : p .singles + length rest ≤ length ms
 
-shared-slice-read-times-2 : tie.Need-shared-slice-read-times-2 Inv-loop μ-loop
-shared-slice-read-times-2 c = omega arith
+more : (ms : List Life) (x : ℕ) (m : Life) (rest : List Life) (p : Product) → So-far ms x (m ∷ rest) p → (r : Product) → Times m p r → So-far ms x rest r
+unfolding multiplied total
+more ms x m rest p i r g = record {
+  needed = i .needed;
+  rest-in = i .rest-in .1;
+  product = λ s. ap (λ z. multiplied (signed s z) rest) (g .size-is) ∙ ap (λ z. multiplied z rest) (sym (factor s (single m) (p .size) (stay m))) ∙ i .product s;
+  count = omega (arith, i .count, g .count-is);
+  size-within = omega (arith, g .size-is, no-larger (single m) (p .size) (stay m) (omega arith), i .size-within);
+  count-within = omega (arith, i .count-within, g .count-is, one-most (single m));
+}
 
-sub-times-2 : tie.Need-sub-times-2 Inv-loop μ-loop
-sub-times-2 c = omega (arith, rate (c .before .before))
-
-times-requires : tie.Need-times-requires Inv-loop μ-loop
-times-requires c κs =
-    let m = c .before .before .before .before .before .loop .inv .1 in
-    let p = c .before .before .before .before .before .before .before .before .before .pre in
-    (omega (arith, m .size-within, p .1), omega (arith, m .count-within, p .0 .few), omega arith)
-
-add-k : tie.Need-add-k Inv-loop μ-loop
-add-k c = omega arith
-
-loop-less : tie.Need-loop-less Inv-loop μ-loop
-loop-less c = omega arith
-
-loop-again : tie.Need-loop-again Inv-loop μ-loop
-loop-again c =
-    let s = c .before .before .before .before .before .before .before in
-    let a = s .args in
-    let l = c .before .before .before .loop in (
-      omega arith,
-      rw add-one
-          (⊎-elim
-          (λ w. rw (w .4)
-          (members-single (a .groups .now) (a .q .now) (a .i .now) (a .size) (l .k) (l .p) (l .inv .1) (w .3 .result)
-          (w .0 .taken) (s .pre .0 .rates (l .k) (omega arith)) (w .3 .ensures .0) (w .3 .ensures .1)))
-          (λ w. rw (w .1)
-          (members-other (a .groups .now) (a .q .now) (a .i .now) (a .size) (l .k) (l .p) (l .inv .1) (w .0 .left)))
-          (c .if1 .came)),
-    )
-
-returns : tie.Need-returns Inv-loop μ-loop
-returns c =
-    let e : c .before .before .before .before .before .args .n ≡ c .before .loop .k = omega arith in
-    rw e (c .before .loop .inv .1)
+facts : Facts P.the-row u64 false true says (λ x. record { size = x; singles = 0 })
+unfolding multiplied total
+facts = record {
+  free = λ e. absurd (true≢false e);
+  Inv = So-far;
+  none = λ ms x n. record { needed = n; rest-in = n .0 .in-range; product = λ s. refl; count = N.zero-add (total one ms); size-within = N.le-refl x; count-within = omega arith };
+  asked = λ ms x m rest p i. (i .rest-in .0, omega (arith, i .size-within, i .needed .1), omega (arith, i .count-within, i .needed .0 .few));
+  more = more;
+  all = λ ms x p i. record { product = λ s. sym (i .product s); count = omega (arith, i .count); size-within = i .size-within; count-within = omega (arith, i .count-within) };
+}
 
 pub multiplied-spec : {M : Type 1} → statement M
-multiplied-spec =
-    tie.close
-    (tie.spec
-    Inv-loop
-    μ-loop
-    loop-holds
-    mul-if1
-    shared-slice-read-if1
-    mul-times
-    shared-slice-read-times
-    sub-times
-    mul-times-2
-    shared-slice-read-times-2
-    sub-times-2
-    times-requires
-    add-k
-    loop-less
-    loop-again
-    returns)
+unfolding code.routine product-local u64-local from-size
+multiplied-spec 𝓤 H 𝓜 𝓖 𝓡 =
+    meets 𝓤 H 𝓜 𝓖 𝓡 P.the-row u64 P′.mir word first-product product-local u64-local from-size false true says facts code.env #multiplied #step (code.unfolded 𝓤 H 𝓜 𝓡) (step-thm.met 𝓤 H 𝓜 𝓖 𝓡)

@@ -4,7 +4,6 @@ use Prim.Native.Nat.{_+_, _-_, _*_, _^_, _≤_}
 use native.Mathlib.Numerals.{add-one}
 use native.Mathlib.Omega.{arith}
 use Rattle.rounding.specs.Rounding.{near}
-use Rattle.rounding.proofs.Word.{near-rounds, per-units-is}
 use Rattle.fund.specs.Recursion as R
 use Rattle.valuation.specs.Start.{most-t, most-c, nextC, TermsTo}
 use Rattle.valuation.proofs.Terms.{t-first, t-next, t-within, c-first, c-next, c-within, terms-none, terms-more}
@@ -43,11 +42,11 @@ with-part-requires c κs =
 add-n : tie.Need-add-n Inv-loop μ-loop
 add-n c = omega arith
 
-nearest-per-units-requires : tie.Need-nearest-per-units-requires Inv-loop μ-loop
-nearest-per-units-requires c κs = tt
+next-term-requires : tie.Need-next-term-requires Inv-loop μ-loop
+next-term-requires c κs = (t-is (c .before), c .before .before .before .pre, omega arith)
 
 next-bound-requires : tie.Need-next-bound-requires Inv-loop μ-loop
-next-bound-requires c κs = (c-is (c .before .before), c .before .before .before .before .pre, omega arith)
+next-bound-requires c κs = (c-is (c .before .before), c .before .before .before .before .pre, omega arith, omega arith)
 
 loop-less : tie.Need-loop-less Inv-loop μ-loop
 loop-less c = omega arith
@@ -57,11 +56,9 @@ loop-again c =
     let start = c .before .before .before .before .before in
     let lambda = start .args .lambda in
     let l = c .before .before .before .before .loop in
-    let few = t-is (c .before .before .before) in
     let load = start .pre in (
       omega arith,
-      c .before .nearest-per-units .ensures
-          ∙ per-units-is near-rounds (l .t) lambda (omega (arith, few)) (l .n + 1) (omega (arith, load))
+      c .before .next-term .ensures
           ∙ ap₂ (λ t n. near (t * lambda) (n * 10 ^ 12)) (l .inv .1) (add-one (l .n))
           ∙ sym (t-next lambda (l .n))
           ∙ ap (R.t lambda) (sym (add-one (l .n))),
@@ -88,7 +85,7 @@ terms-spec =
     loop-holds
     with-part-requires
     add-n
-    nearest-per-units-requires
+    next-term-requires
     next-bound-requires
     loop-less
     loop-again

@@ -1,7 +1,11 @@
 -- The two products are at most 10^6 × 10^12 together.
 use borrow.Author.Needs.{needs}
-use Prim.Native.Nat.{_+_, _*_, _≤_}
+use mathlib.Core.Path.{sym, _∙_, ap}
+use Prim.Native.Nat.{ℕ, _+_, _*_, _≤_}
 use native.Mathlib.Omega.{arith}
+use Rattle.rounding.specs.Rounding.{near}
+use Rattle.rounding.proofs.Laws.{near-zero}
+use Rattle.fund.specs.Folding.{stay}
 use Rattle.fund.specs.Transform.{unit}
 use Rattle.widths.specs.Triangle.{weighted}
 use Rattle.valuation.proofs.transform.entry.Statement.{statement}
@@ -11,35 +15,33 @@ products : (c : tie.Start) → c .args .m .q * c .args .left + c .args .m .i * c
 unfolding unit
 products c = weighted _ _ 500000 1000000000000 _ _ (omega arith) (c .pre .1) (c .pre .2)
 
-mul-nearest : tie.Need-mul-nearest
-mul-nearest c = omega (arith, products (c .before))
+mul-sum : tie.Need-mul-sum
+mul-sum c = omega (arith, products (c .before))
 
-mul-nearest-2 : tie.Need-mul-nearest-2
-mul-nearest-2 c = omega (arith, products (c .before .before))
+mul-sum-2 : tie.Need-mul-sum-2
+mul-sum-2 c = omega (arith, products (c .before .before))
+
+add-sum : tie.Need-add-sum
+add-sum c = omega (arith, products (c .before .before))
+
+returns : tie.Need-returns
+returns c =
+    let m = c .before .before .before .args .m in
+    sym (ap (λ (k : ℕ). near k (stay m)) (c .if1 .taken) ∙ near-zero (stay m) (omega (arith, c .before .before .before .pre .0)))
 
 add-nearest : tie.Need-add-nearest
-add-nearest c = omega (arith, products (c .before .before))
-
-add-nearest-2 : tie.Need-add-nearest-2
-add-nearest-2 c = search needs
+add-nearest c = search needs
 
 sub-nearest : tie.Need-sub-nearest
 sub-nearest c = search needs
 
 nearest-requires : tie.Need-nearest-requires
-nearest-requires c κs = omega (arith, products (c .before .before .before))
+nearest-requires c κs = omega (arith, products (c .before .before .before .before))
 
-returns : tie.Need-returns
-returns c = search needs
+returns-2 : tie.Need-returns-2
+returns-2 c = search needs
 
 pub entry-spec : {M : Type 1} → statement M
 entry-spec =
     tie.close
-    (tie.spec
-    mul-nearest
-    mul-nearest-2
-    add-nearest
-    add-nearest-2
-    sub-nearest
-    nearest-requires
-    returns)
+    (tie.spec mul-sum mul-sum-2 add-sum returns add-nearest sub-nearest nearest-requires returns-2)
