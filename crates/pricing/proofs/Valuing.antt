@@ -62,7 +62,7 @@ blank-long count few = let e : length blank ≡ 1000 = length-replicate {A = ℕ
 
 -- what the valuation answers, as the answer of the call
 abbrev pub handed : Valued → ℕ → ℤ → Priced
-handed v X premium = record { verdict = v .verdict; start = 0; end = 0; horizon = X; truncation = v .truncation; mean = v .mean; premium = premium; within = v .within }
+handed v X premium = record { verdict = v .verdict; start = 0; end = 0; horizon = X; figures = record { truncation = v .truncation; mean = v .mean; premium = premium; within = v .within } }
 
 module _ (file : List ℕ) (n : Lengths) (fund : FundFile) (is : reading file ≡ read fund) where
   pub room-there : (Rates Members : Type 0) (count : ℕ) (q i : List ℕ) → Rates → Members → count ≤ length q → count ≤ length i → Room (fund .header) Rates Members count q i

@@ -17,6 +17,9 @@ clear-signed-requires-2 c κs = search needs
 clear-requires-2 : tie.Need-clear-requires-2
 clear-requires-2 c κs = search needs
 
+no-figures-requires : tie.Need-no-figures-requires
+no-figures-requires c κs = search needs
+
 same-length : tie.Need-same-length
 same-length c = search needs
 
@@ -31,14 +34,19 @@ same-length-4 c = search needs
 
 returns : tie.Need-returns
 returns c =
-    let o = c .before .before .before .before .before .before .before .before .before .before .before .before .before .before .before .before .before in
-    let a = o .args in
+    let r = c .before .before .before in
+    let f = r .before .before .before in
+    let h = f .before .before .before .before in
+    let t = h .before .before .before in
+    let s = t .before .before .before .before .before in
+    let a = s .args in
     let n = lengths (a .transform .now) (a .h .now) (a .f .now) (a .r .now) in
-    stopped-answers (a .file .now) (a .why) (a .place) (a .line) n _ _ _ _ (o .pre)
-    (c .before .before .before .before .before .before .before .before .before .before .before .before .clear-signed .ensures)
-    (c .before .before .before .before .before .before .before .before .before .clear .ensures)
-    (c .before .before .before .before .before .clear-signed2 .ensures)
-    (c .before .before .clear2 .ensures)
+    stopped-answers (a .file .now) (a .why) (a .place) (a .line) _ n _ _ _ _ (s .pre)
+    (t .clear-signed .ensures)
+    (h .clear .ensures)
+    (f .clear-signed2 .ensures)
+    (r .clear2 .ensures)
+    (c .no-figures .ensures)
 
 pub stopped-spec : {M : Type 1} → statement M
 stopped-spec =
@@ -48,6 +56,7 @@ stopped-spec =
     clear-requires
     clear-signed-requires-2
     clear-requires-2
+    no-figures-requires
     same-length
     same-length-2
     same-length-3
