@@ -29,22 +29,35 @@ pub data Reading : Type 0 where
 unfoldable pub between : ℕ → ℕ → ℕ → Bool
 between least most n = leb least n && leb n most
 
--- The header lines, in their order, each with one number and its range.
-pub record HeaderLine : Type 0 where
-  pub key : List ℕ
+-- The range of a number.
+pub record NumberRange : Type 0 where
   pub least : ℕ
   pub most : ℕ
 
+-- A header line: its key, and the range of each of its numbers.
+pub record HeaderLine : Type 0 where
+  pub key : List ℕ
+  pub ranges : List NumberRange
+
+-- The header lines, in their order.
 unfoldable pub headerLines : List HeaderLine
 headerLines =
-    record { key = bytes "rates="; least = least-edition; most = most-edition }
-    ∷ record { key = bytes "members="; least = least-edition; most = most-edition }
-    ∷ record { key = bytes "horizon="; least = 0; most = most-horizon }
-    ∷ record { key = bytes "order="; least = least-order; most = most-order }
-    ∷ record { key = bytes "frequency="; least = 0; most = most-frequency }
-    ∷ record { key = bytes "deductible="; least = 0; most = most-deductible }
+    record { key = bytes "rates="; ranges = record { least = least-edition; most = most-edition } ∷ [] }
+    ∷ record { key = bytes "members="; ranges = record { least = least-edition; most = most-edition } ∷ [] }
+    ∷ record { key = bytes "horizon="; ranges = record { least = 0; most = most-horizon } ∷ [] }
+    ∷ record { key = bytes "order="; ranges = record { least = least-order; most = most-order } ∷ [] }
+    ∷ record { key = bytes "frequency="; ranges = record { least = 0; most = most-frequency } ∷ [] }
+    ∷ record { key = bytes "deductible="; ranges = record { least = 0; most = most-deductible } ∷ [] }
     ∷ []
 
+-- The numbers are as many as the ranges, and each is in its own.
+unfoldable pub inRanges : List NumberRange → List ℕ → Bool
+inRanges [] [] = true
+inRanges [] (n ∷ ns) = false
+inRanges (r ∷ rs) [] = false
+inRanges (r ∷ rs) (n ∷ ns) = between (r .least) (r .most) n && inRanges rs ns
+
+-- The header's figures, from the numbers of its lines.
 unfoldable pub headerOf : List ℕ → Fund
 headerOf ns =
     record {
@@ -133,9 +146,9 @@ unfoldable pub readHeader : List HeaderLine → ℕ → List ℕ → List Line �
 readHeader [] n ns ls = readRows n (headerOf ns) [] [] ls
 readHeader (h ∷ hs) n ns [] = stopped Form n
 readHeader (h ∷ hs) n ns (l ∷ ls) =
-    elim (spelled (h .key) 1 l) [
+    elim (spelled (h .key) (length (h .ranges)) l) [
       | none ↦ stopped Form n
-      | some v ↦ elim (between (h .least) (h .most) (getD v 0 0)) [ false ↦ stopped Range n | true ↦ readHeader hs (suc n) (ns ++ v) ls ]
+      | some v ↦ elim (inRanges (h .ranges) v) [ false ↦ stopped Range n | true ↦ readHeader hs (suc n) (ns ++ v) ls ]
     ]
 
 unfoldable pub reading : List ℕ → Reading

@@ -15,7 +15,7 @@ use Rattle.fund.specs.declared.Verdict.{Verdict}
 use Rattle.fund.specs.declared.Verdict.the-variants.{Accepted, Refused}
 use Rattle.fund.specs.Limits.{half-rate, most-load, most-truncation, most-bound}
 use Rattle.fund.specs.Base.{if_then_else_}
-use Rattle.fund.specs.Reading.{FundFile}
+use Rattle.fund.specs.Reading.{FundFile, headerLines}
 use Rattle.fund.specs.Folding.{rateAt, lives, claim, single}
 use Rattle.fund.specs.Transform.{load, truncation}
 use Rattle.fund.specs.Recursion.{Cell}
@@ -80,9 +80,9 @@ refuse why (some place) after = Refused why place
 unfoldable pub at0 : Bool → Option ℕ
 at0 holds = if holds then some 0 else none
 
--- The line of the first member: six header lines and the rate lines stand before it.
+-- The line of the first member: the header lines and the rate lines stand before it.
 unfoldable pub firstMember : FundFile → ℕ
-firstMember file = 7 + length (file .rates)
+firstMember file = suc (length headerLines) + length (file .rates)
 
 -- 7 to 10, of the header's figures, the lives and the cells of 0, 1, .. to X.
 unfoldable pub valued : Fund → List Life → Lengths → List Cell → Verdict

@@ -1,7 +1,9 @@
 // The types of document 01: a fund file's header, rate and member rows, and what a pricing call answers. Their meaning is
 // in specs/, in the document's order; the code here ties the limits and the refusals' numbers to it.
 ghost use mathlib.Core.Path.{_≡_};
+ghost use lib.ListN.{length};
 ghost use Rattle.fund.specs.Limits.{limits};
+ghost use Rattle.fund.specs.Reading.{headerLines};
 ghost use Rattle.fund.specs.Refusals.{numberOf};
 ghost use Rattle.fund.specs.Answer.{noFigures};
 
@@ -125,6 +127,20 @@ impl Fund {
     pub const MOST_TRUNCATION: u64 = 100000000;
 
     pub const MOST_BOUND: u64 = 250000;
+
+    // The lengths of a table of rate rows and of a table of member rows.
+    pub const RATE_ROWS: usize = Fund::MOST_RATES as usize;
+
+    pub const MEMBER_ROWS: usize = Fund::MOST_MEMBERS as usize;
+
+    pub const HEADER_LINES: usize = 6;
+
+    // The header lines of the definition are as many.
+    pub fn header_lines() -> usize
+        ensures { λ r. ⌜ r ≡ length headerLines ⌝ }
+    {
+        Fund::HEADER_LINES
+    }
 
     // The constants are the limits that the definitions use.
     pub fn limits() -> Limits

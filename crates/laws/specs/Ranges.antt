@@ -18,7 +18,7 @@ use Rattle.fund.specs.Limits.{least-edition, most-edition, most-horizon, least-
 use Rattle.fund.specs.Base.{if_then_else_}
 use Rattle.fund.specs.Lines.{Line, lines}
 use Rattle.fund.specs.Spelling.{value, fields, allNumbers, numbers, behind, spelled}
-use Rattle.fund.specs.Reading.{FundFile, Reading, read, stopped, between, HeaderLine, headerLines, headerOf, Row, rateRow, memberRow, endRow, otherRow, rowOf, rising, rateInRange, memberInRange, noMember, atEnd, readRows, readHeader, reading}
+use Rattle.fund.specs.Reading.{FundFile, Reading, read, stopped, between, NumberRange, inRanges, HeaderLine, headerLines, headerOf, Row, rateRow, memberRow, endRow, otherRow, rowOf, rising, rateInRange, memberInRange, noMember, atEnd, readRows, readHeader, reading}
 use Rattle.laws.specs.Accepted.{All}
 
 pub record RateOk (r : Rate) : Type 0 where
@@ -168,16 +168,36 @@ spelled-length key count l v e = go (l .ended) e
     go true h = text (behind key (l .text)) h
     go false h = none-some h
 
--- numbers in the ranges of header lines
-abbrev pub Within : List HeaderLine → List ℕ → Type 0
-Within [] [] = Unit {0}
-Within [] (v ∷ vs) = ⊥
-Within (h ∷ hs) [] = ⊥
-Within (h ∷ hs) (v ∷ vs) = ((h .least ≤ v) × (v ≤ h .most)) × Within hs vs
+-- numbers in their ranges
+abbrev pub InRanges : List NumberRange → List ℕ → Type 0
+InRanges [] [] = Unit {0}
+InRanges [] (v ∷ vs) = ⊥
+InRanges (r ∷ rs) [] = ⊥
+InRanges (r ∷ rs) (v ∷ vs) = ((r .least ≤ v) × (v ≤ r .most)) × InRanges rs vs
+
+in-ranges : (rs : List NumberRange) (vs : List ℕ) → inRanges rs vs ≡ true → InRanges rs vs
+unfolding inRanges
+in-ranges [] [] e = tt
+in-ranges [] (v ∷ vs) e = let z : _≡_ {A = ℕ} 0 1 = cc in absurd (omega arith)
+in-ranges (r ∷ rs) [] e = let z : _≡_ {A = ℕ} 0 1 = cc in absurd (omega arith)
+in-ranges (r ∷ rs) (v ∷ vs) e =
+    let h = and-true (between (r .least) (r .most) v) (inRanges rs vs) e in
+    (between-true (r .least) (r .most) v (h .0), in-ranges rs vs (h .1))
+
+in-ranges-append : (rs ss : List NumberRange) (vs ws : List ℕ) → InRanges rs vs → InRanges ss ws → InRanges (rs ++ ss) (vs ++ ws)
+in-ranges-append [] ss [] ws h k = k
+in-ranges-append [] ss (v ∷ vs) ws h k = absurd h
+in-ranges-append (r ∷ rs) ss [] ws h k = absurd h
+in-ranges-append (r ∷ rs) ss (v ∷ vs) ws h k = (h .0, in-ranges-append rs ss vs ws (h .1) k)
+
+-- the ranges of header lines, one after the other
+abbrev pub rangesOf : List HeaderLine → List NumberRange
+rangesOf [] = []
+rangesOf (h ∷ hs) = h .ranges ++ rangesOf hs
 
 pub record ReadsHeader (hs : List HeaderLine) (ns : List ℕ) (fund : FundFile) : Type 0 where
   pub values : List ℕ
-  pub values-within : Within hs values
+  pub values-within : InRanges (rangesOf hs) values
   pub reads : Reads (headerOf (ns ++ values)) fund
 
 header-ranges : (hs : List HeaderLine) (n : ℕ) (ns : List ℕ) (ls : List Line) (fund : FundFile) → readHeader hs n ns ls ≡ read fund → ReadsHeader hs ns fund
@@ -185,20 +205,18 @@ unfolding readHeader
 header-ranges [] n ns ls fund e =
     record { values = []; values-within = tt; reads = rw append-nil (rows-ranges ls n (headerOf ns) [] [] fund (record { rates = tt; members = tt; few-rates = omega arith; few-members = omega arith }) e) }
 header-ranges (h ∷ hs) n ns [] fund e = absurd (never Form n fund e)
-header-ranges (h ∷ hs) n ns (l ∷ ls) fund e = go (spelled (h .key) 1 l) refl e (λ ms. header-ranges hs (suc n) ms ls fund)
+header-ranges (h ∷ hs) n ns (l ∷ ls) fund e = go (spelled (h .key) (length (h .ranges)) l) refl e (λ ms. header-ranges hs (suc n) ms ls fund)
   where
-    go : (o : Option (List ℕ)) → spelled (h .key) 1 l ≡ o → readHeader (h ∷ hs) n ns (l ∷ ls) ≡ read fund →
+    go : (o : Option (List ℕ)) → spelled (h .key) (length (h .ranges)) l ≡ o → readHeader (h ∷ hs) n ns (l ∷ ls) ≡ read fund →
         ((ms : List ℕ) → readHeader hs (suc n) ms ls ≡ read fund → ReadsHeader hs ms fund) → ReadsHeader (h ∷ hs) ns fund
     go none s k ih = absurd (never Form n fund (rw (s, readHeader) at k))
-    go (some []) s k ih = let z = spelled-length (h .key) 1 l [] s in absurd (omega arith)
-    go (some (v ∷ w ∷ vs)) s k ih = let z = spelled-length (h .key) 1 l (v ∷ w ∷ vs) s in absurd (omega arith)
-    go (some (v ∷ [])) s k ih =
-        let h2 = pass (between (h .least) (h .most) v) Range n (readHeader hs (suc n) (ns ++ (v ∷ [])) ls) fund (rw (s, readHeader) at k) in
-        let r = ih (ns ++ (v ∷ [])) (h2 .1) in
+    go (some vs) s k ih =
+        let h2 = pass (inRanges (h .ranges) vs) Range n (readHeader hs (suc n) (ns ++ vs) ls) fund (rw (s, readHeader) at k) in
+        let r = ih (ns ++ vs) (h2 .1) in
         record {
-          values = v ∷ r .values;
-          values-within = (between-true (h .least) (h .most) v (h2 .0), r .values-within);
-          reads = subst (λ ms. Reads (headerOf ms) fund) (append-assoc ns (v ∷ []) (r .values)) (r .reads);
+          values = vs ++ r .values;
+          values-within = in-ranges-append (h .ranges) (rangesOf hs) vs (r .values) (in-ranges (h .ranges) vs (h2 .0)) (r .values-within);
+          reads = subst (λ ms. Reads (headerOf ms) fund) (append-assoc ns vs (r .values)) (r .reads);
         }
 
 pub record HeaderOk (f : Fund) : Type 0 where
@@ -216,7 +234,7 @@ pub record FundOk (fund : FundFile) : Type 0 where
   pub header : HeaderOk (fund .header)
   pub rows : RowsOk (fund .rates) (fund .members)
 
-header-ok : (vs : List ℕ) → Within headerLines vs → HeaderOk (headerOf vs)
+header-ok : (vs : List ℕ) → InRanges (rangesOf headerLines) vs → HeaderOk (headerOf vs)
 unfolding headerLines headerOf
 header-ok (a ∷ b ∷ c ∷ d ∷ e ∷ f ∷ []) w =
     record {

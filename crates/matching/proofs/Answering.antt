@@ -14,6 +14,7 @@ use Rattle.fund.specs.declared.Refusal.the-variants.{Edition, Deductible, Unmat
 use Rattle.fund.specs.declared.Verdict.the-variants.{Accepted}
 use Rattle.fund.specs.Base.{table}
 use Rattle.fund.specs.Limits.{half-rate}
+use Rattle.fund.specs.Reading.{headerLines}
 use Rattle.fund.specs.Folding.{lives}
 use Rattle.fund.specs.Refusals.{first, unmatched, half, refuse, at0, firstMember, matched}
 use Rattle.laws.specs.Tables.{length-table}
@@ -31,7 +32,7 @@ first-placed met at n r g f = go (ltb r n) refl
 
 module _ (fund : Fund) (rates members missing halved : ℕ) (rate : ℕ → Rate) (member : ℕ → Member) (m : ℕ → Life) where
   pub answer-is : table members m ≡ lives (fileOf fund (table rates rate) (table members member)) → First (λ k. unmatched (table rates rate) (member k)) members missing → First (λ k. half (m k)) members halved → answer fund (7 + rates) members missing halved ≡ matched (fileOf fund (table rates rate) (table members member)) Accepted
-  unfolding answer matched firstMember
+  unfolding answer matched firstMember headerLines
   answer-is l u h =
       ap₂
       (λ a b.

@@ -3,7 +3,7 @@ use mathlib.Core.Path.{_≡_, refl, _∙_, ap}
 use mathlib.Core.List.{List, []}
 use Prim.Native.Nat.{ℕ, _+_, _≤_}
 use native.Mathlib.Omega.{arith}
-use lib.ListN.{take}
+use lib.ListN.{length, take}
 use Rattle.fund.specs.declared.Verdict.{Verdict}
 use Rattle.fund.specs.declared.Verdict.the-variants.{Accepted, Refused}
 use Rattle.fund.specs.Limits.{most-rates, most-members}
@@ -20,10 +20,10 @@ keys-short : KeysShort headerLines
 unfolding headerLines bytes
 keys-short = omega arith
 
--- Reading passes at most six header lines, the rows and the `end=` line: 43,993 bytes are enough.
-pub reading-first : (n : ℕ) (file : List ℕ) → bytes-for (6 + most-rates + most-members) ≤ n → reading (take n file) ≡ reading file
-unfolding reading headerLines
-reading-first n file h = header-same headerLines 1 [] keys-short (lines-cut n file) (omega arith)
+-- Reading passes at most the header lines, the rows and the `end=` line: 43,993 bytes are enough.
+pub reading-first : (n : ℕ) (file : List ℕ) → bytes-for (length headerLines + most-rates + most-members) ≤ n → reading (take n file) ≡ reading file
+unfolding reading
+reading-first n file h = header-same headerLines 1 [] keys-short (lines-cut n file) h
 
 -- The listing does not show the part of the bytes that is handed back with a refusal.
 printed-of : (f g : List ℕ) (n : Lengths) (fund : FundFile) (X : ℕ) (v : Verdict) →
@@ -44,6 +44,7 @@ listing-of-reading f g e =
     ap (λ r. printed (answerTo f enough r) (horizonIn r) (answerTo f enough r .verdict)) e ∙ printed-to f g enough (reading g)
 
 pub reading-prefix : (file : List ℕ) → reading (take 65536 file) ≡ reading file
+unfolding headerLines
 reading-prefix file = reading-first 65536 file (omega arith)
 
 pub listing-prefix : (file : List ℕ) → listing (take 65536 file) ≡ listing file

@@ -8,7 +8,7 @@ use Prim.Native.Nat.{ℕ, suc, _+_, _*_, _≤_, _<_}
 use native.Mathlib.Omega.{arith}
 use borrow.Author.Tests.{ltb-true, leb-true, leb-false}
 use lib.Dec.{eqb, leb, ltb}
-use lib.ListN.{length, getD, length-append}
+use lib.ListN.{length, length-append}
 use Rattle.fund.specs.declared.Fund.{Fund}
 use Rattle.fund.specs.declared.Rate.{Rate}
 use Rattle.fund.specs.declared.Member.{Member}
@@ -17,7 +17,7 @@ use Rattle.fund.specs.Limits.{most-rates, most-members}
 use Rattle.fund.specs.Base.{bytes}
 use Rattle.fund.specs.Lines.{Line}
 use Rattle.fund.specs.Spelling.{spelled}
-use Rattle.fund.specs.Reading.{FundFile, Reading, stopped, between, HeaderLine, headerOf, Row, rateRow, memberRow, endRow, otherRow, rowOf, rateInRange, memberInRange, noMember, atEnd, readRows, readHeader}
+use Rattle.fund.specs.Reading.{FundFile, Reading, stopped, inRanges, HeaderLine, headerOf, Row, rateRow, memberRow, endRow, otherRow, rowOf, rateInRange, memberInRange, noMember, atEnd, readRows, readHeader}
 use Rattle.laws.specs.Accepted.{All}
 use Rattle.prefix.specs.Lines.{Cut, over, spent, same, inside}
 use Rattle.prefix.specs.Spelling.{most-line, Unspelled, open-line, long-line}
@@ -111,11 +111,11 @@ rows-same k header rates members (same {n} {m} {xs} {ys} l h c) room =
 
 -- ---- the header
 abbrev pub KeysShort : List HeaderLine → Type 0
-KeysShort hs = All (λ (h : HeaderLine). length (h .key) + 8 ≤ most-line) hs
+KeysShort hs = All (λ (h : HeaderLine). length (h .key) + 8 * length (h .ranges) ≤ most-line) hs
 
-header-stop : (h : HeaderLine) (hs : List HeaderLine) (k : ℕ) (ns : List ℕ) (l : Line) (ls : List Line) → length (h .key) + 8 ≤ most-line → Unspelled l → readHeader (h ∷ hs) k ns (l ∷ ls) ≡ stopped Form k
+header-stop : (h : HeaderLine) (hs : List HeaderLine) (k : ℕ) (ns : List ℕ) (l : Line) (ls : List Line) → length (h .key) + 8 * length (h .ranges) ≤ most-line → Unspelled l → readHeader (h ∷ hs) k ns (l ∷ ls) ≡ stopped Form k
 unfolding readHeader
-header-stop h hs k ns l ls short u = rw (u (h .key) 1 short, readHeader)
+header-stop h hs k ns l ls short u = rw (u (h .key) (length (h .ranges)) short, readHeader)
 
 pub header-same : (hs : List HeaderLine) (k : ℕ) (ns : List ℕ) {n : ℕ} {xs ys : List Line} → KeysShort hs → Cut n xs ys →
     bytes-for (length hs + most-rates + most-members) ≤ n → readHeader hs k ns xs ≡ readHeader hs k ns ys
@@ -126,9 +126,9 @@ header-same (h ∷ hs) k ns keys (spent e) room = absurd (omega arith)
 header-same (h ∷ hs) k ns keys (inside {n} {x} {y} {ys} e g) room =
     header-stop h hs k ns x [] (keys .0) (open-line x e) ∙ sym (header-stop h hs k ns y ys (keys .0) (long-line y (omega arith)))
 header-same (h ∷ hs) k ns keys (same {n} {m} {xs} {ys} l g c) room =
-    by-length l (λ short. go (spelled (h .key) 1 l) refl (λ vs. header-same hs (suc k) vs (keys .1) c (omega arith)))
+    by-length l (λ short. go (spelled (h .key) (length (h .ranges)) l) refl (λ vs. header-same hs (suc k) vs (keys .1) c (omega arith)))
     (λ u. header-stop h hs k ns l xs (keys .0) u ∙ sym (header-stop h hs k ns l ys (keys .0) u))
   where
-    go : (o : Option (List ℕ)) → spelled (h .key) 1 l ≡ o → ((vs : List ℕ) → readHeader hs (suc k) vs xs ≡ readHeader hs (suc k) vs ys) → readHeader (h ∷ hs) k ns (l ∷ xs) ≡ readHeader (h ∷ hs) k ns (l ∷ ys)
+    go : (o : Option (List ℕ)) → spelled (h .key) (length (h .ranges)) l ≡ o → ((vs : List ℕ) → readHeader hs (suc k) vs xs ≡ readHeader hs (suc k) vs ys) → readHeader (h ∷ hs) k ns (l ∷ xs) ≡ readHeader (h ∷ hs) k ns (l ∷ ys)
     go none s ih = rw (s, readHeader)
-    go (some v) s ih = rw (s, readHeader) (on-pass (between (h .least) (h .most) (getD v 0 0)) (stopped Range k) _ _ (λ _. ih (ns ++ v)))
+    go (some v) s ih = rw (s, readHeader) (on-pass (inRanges (h .ranges) v) (stopped Range k) _ _ (λ _. ih (ns ++ v)))

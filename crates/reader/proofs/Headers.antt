@@ -1,56 +1,41 @@
 -- Laws of the header lines: each step of the definition `readHeader`, at a line of a file and at the file's end.
 use mathlib.Core.Path.{_≡_, refl, sym, ap, _∙_}
-use mathlib.Core.Bool.{Bool, true, false, _&&_}
-use mathlib.Core.List.{List, [], _∷_, _++_, map}
-use mathlib.Core.Option.{Option, none, some}
-use Prim.Native.Nat.{ℕ, suc, _+_, _-_, _≤_, _<_}
+use mathlib.Core.Bool.{true, false}
+use mathlib.Core.List.{List, [], _∷_, _++_}
+use mathlib.Core.Option.{none, some}
+use Prim.Native.Nat.{ℕ, zero, suc, _+_, _-_, _≤_, _<_}
 use native.Mathlib.Numerals.{add-one}
 use native.Mathlib.Omega.{arith}
-use borrow.Author.Tests.{eqb-true}
-use lib.Dec.{eqb}
-use lib.ListN.{length, take, drop, getD, length-map, drop-of-length-le}
+use lib.ListN.{length, take, drop, getD, drop-of-length-le}
 use lib.Seq.{drop-cons, take-all}
 use Rattle.fund.specs.declared.Refusal.the-variants.{Form, Range}
-use Rattle.fund.specs.Base.{if_then_else_}
 use Rattle.fund.specs.Lines.{Line as FundLine, linesFrom, lines}
-use Rattle.fund.specs.Spelling.{value, fields, allNumbers, numbers, behind, spelled}
-use Rattle.fund.specs.Reading.{stopped, between, headerLines, headerOf, readHeader, readRows, reading}
+use Rattle.fund.specs.Spelling.{spelled}
+use Rattle.fund.specs.Reading.{stopped, inRanges, HeaderLine, headerLines, headerOf, readHeader, readRows, reading}
+use Rattle.laws.specs.Accepted.{All}
+use Rattle.laws.specs.Ranges.{spelled-length}
 use Rattle.reader.specs.declared.line.Line.{Line}
 use Rattle.reader.specs.declared.line.Stop.{Stop}
 use Rattle.reader.specs.declared.text.Numbers.{Numbers}
 use Rattle.reader.specs.Text.{numbersIn}
 use Rattle.reader.specs.Lines.{linesAt, lineOf, NextLine, Passed, stopAt}
-use Rattle.reader.specs.Header.{noLine, headerLine, headerFrom, HeaderNext, HeaderStop}
+use Rattle.reader.specs.Header.{noLine, headerLine, numbersOf, headerFrom, HeaderNext, HeaderStop}
 use Rattle.reader.proofs.Texts.{numbers-none, numbers-some}
 use Rattle.reader.proofs.Lines.{hands-line, hands-none, passed-next}
-
--- A text that is spelled so has just as many numbers.
-numbers-length : (count : ℕ) (s ns : List ℕ) → numbers count s ≡ some ns → length ns ≡ count
-unfolding numbers
-numbers-length count s ns e = go (eqb (length (fields s)) count) (allNumbers (fields s)) refl e
-  where
-    go : (t u : Bool) → eqb (length (fields s)) count ≡ t → (if t && u then some (map value (fields s)) else none) ≡ some ns → length ns ≡ count
-    go true true w e′ =
-        let z : map value (fields s) ≡ ns = cc in
-        ap length (sym z) ∙ length-map (fields s) value ∙ eqb-true (length (fields s)) count w
-    go true false w e′ = let z : _≡_ {A = ℕ} 0 1 = cc in absurd (omega arith)
-    go false u w e′ = let z : _≡_ {A = ℕ} 0 1 = cc in absurd (omega arith)
-
-pub spelled-length : (key : List ℕ) (count : ℕ) (l : FundLine) (ns : List ℕ) → spelled key count l ≡ some ns → length ns ≡ count
-unfolding spelled
-spelled-length key count l ns e = go (l .ended) (behind key (l .text)) e
-  where
-    go
-        : (t : Bool) (o : Option (List ℕ))
-        → elim t [ true ↦ elim o [ none ↦ none | some text ↦ numbers count text ] | false ↦ none ] ≡ some ns
-        → length ns ≡ count
-    go true none e′ = let z : _≡_ {A = ℕ} 0 1 = cc in absurd (omega arith)
-    go true (some text) e′ = numbers-length count text ns e′
-    go false o e′ = let z : _≡_ {A = ℕ} 0 1 = cc in absurd (omega arith)
 
 one-number : (ns : List ℕ) → length (take 1 ns) ≡ 1 → take 1 ns ≡ getD ns 0 0 ∷ []
 one-number [] e = absurd (omega arith)
 one-number (n ∷ ns) e = refl
+
+-- What holds of each header line holds of the line k.
+each : (P : HeaderLine → Type 0) (hs : List HeaderLine) (k : ℕ) → k < length hs → All P hs → P (getD hs k noLine)
+each P [] k h a = absurd (omega arith)
+each P (x ∷ hs) zero h a = a .0
+each P (x ∷ hs) (suc k) h a = each P hs k (omega arith) (a .1)
+
+one-range : (k : ℕ) → k < 6 → numbersOf k ≡ 1
+unfolding headerLine headerLines
+one-range k h = each (λ (l : HeaderLine). length (l .ranges) ≡ 1) headerLines k h (refl, (refl, (refl, (refl, (refl, (refl, tt))))))
 
 split : (k : ℕ) → k < 6 → drop k headerLines ≡ headerLine k ∷ drop (suc k) headerLines
 unfolding headerLines headerLine
@@ -62,19 +47,21 @@ module _ (file : List ℕ) (k at : ℕ) (h : k < 6) (ns : List ℕ) where
   header-missing g = rw (split k h, drop-of-length-le file g)
 
   module _ (l : Line) (n : NextLine file at l) where
-    pub header-form : spelled (headerLine k .key) 1 (lineOf file l) ≡ none → headerFrom file k ns at ≡ stopped Form (k + 1)
+    pub header-form : spelled (headerLine k .key) (numbersOf k) (lineOf file l) ≡ none → headerFrom file k ns at ≡ stopped Form (k + 1)
     unfolding readHeader
     header-form e = rw (split k h, n .first) (rw (e, readHeader))
 
-    module _ (v : List ℕ) (e : spelled (headerLine k .key) 1 (lineOf file l) ≡ some (take 1 v)) where
-      one : spelled (headerLine k .key) 1 (lineOf file l) ≡ some (getD v 0 0 ∷ [])
-      one = e ∙ ap some (one-number v (spelled-length (headerLine k .key) 1 (lineOf file l) (take 1 v) e))
+    module _ (v : List ℕ) (e : spelled (headerLine k .key) (numbersOf k) (lineOf file l) ≡ some (take (numbersOf k) v)) where
+      one : spelled (headerLine k .key) (numbersOf k) (lineOf file l) ≡ some (getD v 0 0 ∷ [])
+      one =
+          let z = one-range k h in
+          e ∙ rw z (ap some (one-number v (rw z at (spelled-length (headerLine k .key) (numbersOf k) (lineOf file l) (take (numbersOf k) v) e))))
 
-      pub header-range : between (headerLine k .least) (headerLine k .most) (getD v 0 0) ≡ false → headerFrom file k ns at ≡ stopped Range (k + 1)
+      pub header-range : inRanges (headerLine k .ranges) (getD v 0 0 ∷ []) ≡ false → headerFrom file k ns at ≡ stopped Range (k + 1)
       unfolding readHeader
       header-range f = rw (split k h, n .first) (rw (one, readHeader) (rw (f, readHeader)))
 
-      pub header-next : between (headerLine k .least) (headerLine k .most) (getD v 0 0) ≡ true → headerFrom file k ns at ≡ headerFrom file (k + 1) (ns ++ (getD v 0 0 ∷ [])) (l .next)
+      pub header-next : inRanges (headerLine k .ranges) (getD v 0 0 ∷ []) ≡ true → headerFrom file k ns at ≡ headerFrom file (k + 1) (ns ++ (getD v 0 0 ∷ [])) (l .next)
       unfolding readHeader
       header-next f = rw (split k h, n .first, add-one k) (rw (one, readHeader) (rw (f, readHeader) (rw (add-one (suc k)))))
 
@@ -84,20 +71,20 @@ module _ (file : List ℕ) (k at : ℕ) (p : Passed file k at) (h : k < 6) where
   step-missing l s g e f =
       rw (f, e) (record { hands = hands-none file k at p Form refl g; same = λ ns. header-missing file k at h ns g })
 
-  module _ (l : Line) (n : NextLine file at l) (r : Numbers) (e : numbersIn 1 r ≡ spelled (headerLine k .key) 1 (lineOf file l)) where
+  module _ (l : Line) (n : NextLine file at l) (r : Numbers) (e : numbersIn (numbersOf k) r ≡ spelled (headerLine k .key) (numbersOf k) (lineOf file l)) where
     pub step-form : (s : Stop) → r .spelled ≡ false → s ≡ stopAt Form k l → HeaderStop file k at s
     step-form s g f =
         rw f
         (record {
           hands = hands-line file k at p Form l refl n;
-          same = λ ns. header-form file k at h ns l n (sym e ∙ numbers-none 1 r g);
+          same = λ ns. header-form file k at h ns l n (sym e ∙ numbers-none (numbersOf k) r g);
         })
 
     module _ (g : r .spelled ≡ true) where
-      is : spelled (headerLine k .key) 1 (lineOf file l) ≡ some (take 1 (r .values))
-      is = sym e ∙ numbers-some 1 r g
+      is : spelled (headerLine k .key) (numbersOf k) (lineOf file l) ≡ some (take (numbersOf k) (r .values))
+      is = sym e ∙ numbers-some (numbersOf k) r g
 
-      pub step-range : (s : Stop) → between (headerLine k .least) (headerLine k .most) (getD (r .values) 0 0) ≡ false → s ≡ stopAt Range k l → HeaderStop file k at s
+      pub step-range : (s : Stop) → inRanges (headerLine k .ranges) (getD (r .values) 0 0 ∷ []) ≡ false → s ≡ stopAt Range k l → HeaderStop file k at s
       step-range s b f =
           rw f
           (record {
@@ -105,7 +92,7 @@ module _ (file : List ℕ) (k at : ℕ) (p : Passed file k at) (h : k < 6) where
             same = λ ns. header-range file k at h ns l n (r .values) is b;
           })
 
-      pub step-next : between (headerLine k .least) (headerLine k .most) (getD (r .values) 0 0) ≡ true → HeaderNext file k at (getD (r .values) 0 0) (l .next)
+      pub step-next : inRanges (headerLine k .ranges) (getD (r .values) 0 0 ∷ []) ≡ true → HeaderNext file k at (getD (r .values) 0 0) (l .next)
       step-next b =
           record {
             later = n .later;

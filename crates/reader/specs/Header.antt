@@ -2,7 +2,7 @@
 use mathlib.Core.Path.{_≡_}
 use mathlib.Core.List.{List, [], _∷_, _++_}
 use Prim.Native.Nat.{ℕ, _+_, _<_}
-use lib.ListN.{drop, getD}
+use lib.ListN.{length, drop, getD}
 use Rattle.fund.specs.Reading.{Reading, stopped, HeaderLine, headerLines, readHeader, readRows, reading}
 use Rattle.reader.specs.declared.line.Stop.{Stop}
 use Rattle.reader.specs.declared.header.HeaderStep.{HeaderStep}
@@ -12,10 +12,14 @@ use Rattle.reader.specs.declared.header.Header.the-variants.{Whole, Stop
 use Rattle.reader.specs.Lines.{linesAt, Passed, HandsBack}
 
 abbrev pub noLine : HeaderLine
-noLine = record { key = []; least = 0; most = 0 }
+noLine = record { key = []; ranges = [] }
 
 unfoldable pub headerLine : ℕ → HeaderLine
 headerLine k = getD headerLines k noLine
+
+-- How many numbers the header line k has.
+abbrev pub numbersOf : ℕ → ℕ
+numbersOf k = length (headerLine k .ranges)
 
 -- The reading from the header line k on, after the numbers ns.
 abbrev pub headerFrom : List ℕ → ℕ → List ℕ → ℕ → Reading

@@ -1,4 +1,4 @@
-// The header lines, in their order, each with one number and its range.
+// The header lines, in their order.
 use crate::line;
 use crate::line::Line;
 use crate::line::Stop;
@@ -6,12 +6,13 @@ use crate::text::Numbers;
 use fund::Fund;
 use fund::Refusal;
 ghost use mathlib.Core.Path.{_≡_};
+ghost use mathlib.Core.List.{[], _∷_};
 ghost use Prim.Native.Nat.{_<_};
 ghost use Rattle.fund.specs.Spelling.{spelled};
-ghost use Rattle.fund.specs.Reading.{between};
+ghost use Rattle.fund.specs.Reading.{between, inRanges};
 ghost use Rattle.reader.specs.Text.{numbersIn};
 ghost use Rattle.reader.specs.Lines.{lineOf, Within, Passed};
-ghost use Rattle.reader.specs.Header.{headerLine, HeaderStepped, HeaderRead};
+ghost use Rattle.reader.specs.Header.{headerLine, numbersOf, HeaderStepped, HeaderRead};
 
 // What a header line gives: its number and the next line's start, or where reading stops.
 pub(crate) enum HeaderStep {
@@ -34,11 +35,11 @@ pub(crate) fn within(least: u64, most: u64, n: u64) -> bool
     n <= most
 }
 
-// The number of the header line k.
+// The numbers of the header line k.
 fn numbers_at(file: &[u8], line: Line, k: usize) -> Numbers
     requires { ⌜ Within (now file) line ⌝ }
     requires { ⌜ k < 6 ⌝ }
-    ensures { λ r. ⌜ numbersIn 1 r ≡ spelled (headerLine k .key) 1 (lineOf (now (file .entry)) line) ⌝ }
+    ensures { λ r. ⌜ numbersIn (numbersOf k) r ≡ spelled (headerLine k .key) (numbersOf k) (lineOf (now (file .entry)) line) ⌝ }
 {
     match k {
         0 => line::spelled(file, line, b"rates=", 1),
@@ -50,10 +51,10 @@ fn numbers_at(file: &[u8], line: Line, k: usize) -> Numbers
     }
 }
 
-// Whether n is in the range of the header line k.
+// Whether n is in the range of the header line k, which has one number.
 fn in_range(k: usize, n: u64) -> bool
     requires { ⌜ k < 6 ⌝ }
-    ensures { λ r. ⌜ r ≡ between (headerLine k .least) (headerLine k .most) n ⌝ }
+    ensures { λ r. ⌜ r ≡ inRanges (headerLine k .ranges) (n ∷ []) ⌝ }
 {
     match k {
         0 => within(Fund::LEAST_EDITION, Fund::MOST_EDITION, n),
@@ -90,10 +91,10 @@ fn step(file: &[u8], at: usize, k: usize) -> HeaderStep
 pub(crate) fn read_header(file: &[u8]) -> Header
     ensures { λ r. ⌜ HeaderRead (now (file .entry)) r ⌝ }
 {
-    let mut values = [0u64; 6];
+    let mut values = [0u64; Fund::HEADER_LINES];
     let mut at: usize = 0;
     let mut k: usize = 0;
-    while k < 6 {
+    while k < Fund::HEADER_LINES {
         match step(file, at, k) {
             HeaderStep::Stopped(s) => {
                 return Header::Stopped(s);
