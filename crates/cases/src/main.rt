@@ -28,6 +28,13 @@ fn size_of(head: [u8; 7]) -> usize {
     with_digit(size, head[5])
 }
 
+// Writes the listing of a file.
+fn write_listing(file: &[u8]) -> bool {
+    let mut text = [0u8; text::ROOM];
+    let size = printing::print(file, &mut text);
+    io::write_all(STDOUT_FILENO, &text[..size])
+}
+
 // Slices of one cell do for the line: the refusals that have one come before short.
 fn write_line(file: &[u8]) -> bool {
     let mut transform = [0i64; 1];
@@ -45,7 +52,7 @@ fn write_line(file: &[u8]) -> bool {
 }
 
 // The next file; whether there was one.
-fn next(file: &mut [u8]) -> bool {
+fn next_file(file: &mut [u8]) -> bool {
     let mut head = [0u8; 7];
     if io::read_full(STDIN_FILENO, &mut head) < 7 {
         return false;
@@ -57,7 +64,7 @@ fn next(file: &mut [u8]) -> bool {
     if io::read_full(STDIN_FILENO, &mut file[..size]) < size {
         return false;
     }
-    if !printing::write(&file[..size]) {
+    if !write_listing(&file[..size]) {
         return false;
     }
     write_line(&file[..size])
@@ -66,7 +73,7 @@ fn next(file: &mut [u8]) -> bool {
 fn main() {
     let mut file = [0u8; MOST];
     let mut turns = u64::MAX;
-    while turns > 0 && next(&mut file) {
+    while turns > 0 && next_file(&mut file) {
         turns -= 1;
     }
 }

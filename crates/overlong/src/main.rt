@@ -1,0 +1,15 @@
+// Prints the listing of the fund file on standard input, or the refusal's line.
+use libc::STDOUT_FILENO;
+
+fn main() {
+    let mut text = [0u8; text::ROOM];
+    let printed = printing::print_input(&mut text);
+    if printed.failed {
+        os::fail(b"standard input");
+        return;
+    }
+    let size = printed.size;
+    if !io::write_all(STDOUT_FILENO, &text[..size]) {
+        os::fail(b"standard output");
+    }
+}
