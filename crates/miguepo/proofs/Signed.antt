@@ -1,16 +1,17 @@
--- The two's complement of a word below 0 (flip) and of any other (keep).
+-- The two's complement of a word below 0 (flip) and of any other (keep), and the number back from it (bits-read).
 use mathlib.Core.Path.{_≡_, refl, sym, ap, _∙_}
 use mathlib.Core.Bool.{Bool, true, false}
 use Prim.Native.Nat.{ℕ, suc, _-_, _≤_, _<_, _^_}
 use native.Mathlib.Omega.{arith}
-use borrow.Author.Tests.{ltb-true}
+use borrow.Author.Tests.{ltb-true, lt-ltb, le-ltb}
 use lib.Dec.{T}
 use lib.IntN.{ℤ, pos, negsuc, natAbs, _-ℤ_, +ℤ-comm, -ℤ-one}
 use lib.Signed.{ltZ, nonNeg}
 use mir.Syntax.{w64}
 use mir.Val.{SFits, toZ, ofZ}
 use mir.Facts.{toZ-ofZ}
-use Rattle.miguepo.specs.Bits.{bitsOf}
+use Rattle.fund.specs.Base.{if_then_else_}
+use Rattle.miguepo.specs.Bits.{bitsOf, readSigned}
 
 sign : (z : ℤ) {b : Bool} → SFits w64 z → ltZ (toZ w64 (ofZ w64 z)) (pos 0) ≡ b → ltZ z (pos 0) ≡ b
 sign z f t = ap (λ k. ltZ k (pos 0)) (sym (toZ-ofZ f)) ∙ t
@@ -47,3 +48,12 @@ keep-at (negsuc n) f t = let z : _≡_ {A = ℕ} 0 1 = cc in absurd (omega arith
 
 pub keep : (z : ℤ) → SFits w64 z → ltZ (toZ w64 (ofZ w64 z)) (pos 0) ≡ false → Keep z
 keep z f t = keep-at z f (sign z f t)
+
+-- the number is read back from its bits
+pub bits-read : (z : ℤ) → SFits w64 z → readSigned (bitsOf z) ≡ z
+unfolding bitsOf readSigned
+bits-read (pos n) f = ap (λ (b : Bool). if b then pos n else negsuc (0xffff_ffff_ffff_ffff - n)) (lt-ltb n (2 ^ 63) (f .sfits))
+bits-read (negsuc n) f =
+    let m = 0xffff_ffff_ffff_ffff - n in
+    let h = f .sfits in
+    ap (λ (b : Bool). if b then pos m else negsuc (0xffff_ffff_ffff_ffff - m)) (le-ltb m (2 ^ 63) (omega (arith, h))) ∙ ap negsuc (omega (arith, h))
