@@ -6,3 +6,4 @@ pub mod Answer
 pub mod Valued
 pub mod Slices
 pub mod Tells
+pub mod Rows

@@ -1,3 +1,3 @@
-pub mod Rating
-pub mod Filling
+pub mod Searching
+pub mod Standing
 pub mod Answering
