@@ -6,10 +6,10 @@ use Prim.Native.Nat.{ℕ, _+_, _*_, _/_, _%_, _^_, _<_, _≤_, zero-le}
 use native.Mathlib.Nat as N
 use native.Mathlib.Omega.{arith}
 use Rattle.rounding.specs.Division.{Divided}
-use Rattle.rounding.specs.Rounding.{near, up}
+use Rattle.rounding.specs.Rounding.{near}
 use Rattle.rounding.specs.Word.{largest, word, scaled}
-use Rattle.rounding.proofs.Rest.{near-rest-low, near-rest-high, up-rest-zero, up-rest, by-units, rest-below, half-low, half-high}
-use Rattle.rounding.proofs.Word.{near-rounds, up-rounds, scaled-few, word-is}
+use Rattle.rounding.proofs.Rest.{near-rest-low, near-rest-high, by-units, rest-below, half-low, half-high}
+use Rattle.rounding.proofs.Word.{near-rounds, scaled-few, word-is}
 
 module _ {p unit q l : ℕ} {fits : Bool} (d : Divided p unit q l fits) (t : fits ≡ true) (n : ℕ) (k : 0 < n) (g : q ≤ largest) where
   positive : 0 < unit
@@ -30,9 +30,6 @@ module _ {p unit q l : ℕ} {fits : Bool} (d : Divided p unit q l fits) (t : fit
   near-few : scaled near p n unit ≡ word (near p (n * unit))
   near-few = scaled-few near-rounds p unit positive n few
 
-  up-few : scaled up p n unit ≡ word (up p (n * unit))
-  up-few = scaled-few up-rounds p unit positive n few
-
   pub near-units-low : (c : ℕ) → 2 * l < (c + 1) * unit → 2 * (q % n) + c < n → scaled near p n unit ≡ q / n
   near-units-low c s r =
       near-few
@@ -43,12 +40,3 @@ module _ {p unit q l : ℕ} {fits : Bool} (d : Divided p unit q l fits) (t : fit
   near-units-high c s r =
       near-few
       ∙ ap word (near-rest-high p (n * unit) (q / n) (q % n * unit + l) split (half-high (q % n) l n unit c s r) below)
-
-  pub up-units-zero : q % n ≡ 0 → l ≡ 0 → scaled up p n unit ≡ q / n
-  up-units-zero s r =
-      up-few
-      ∙ ap word (up-rest-zero p (n * unit) (q / n) (q % n * unit + l) split (rw (s, r, N.zero-mul)) (omega (arith, below)))
-      ∙ quotient-is
-
-  pub up-units : 0 < q % n * unit + l → scaled up p n unit ≡ word (q / n + 1)
-  up-units s = up-few ∙ ap word (up-rest p (n * unit) (q / n) (q % n * unit + l) split s (N.le-of-lt below))

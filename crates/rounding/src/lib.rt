@@ -9,9 +9,11 @@ ghost use Rattle.rounding.specs.Division.{Divided};
 ghost use Rattle.rounding.specs.Rounding.{near, up};
 ghost use Rattle.rounding.specs.Word.{word, scaled};
 
-const MILLION: u64 = 1000000;
+// A certain rate, in millionths.
+pub const MILLION: u64 = 1000000;
 
-const UNIT: u64 = 1000000000000;
+// 1, in units of 10^-12.
+pub const UNIT: u64 = 1000000000000;
 
 const LARGEST: u64 = 18446744073709551615;
 
@@ -66,25 +68,11 @@ pub fn nearest_per_million(a: u64, b: u64) -> u64
     nearest_of(by_million(a, b), MILLION)
 }
 
-// a * b / 10^6, up.
-pub fn up_per_million(a: u64, b: u64) -> u64
-    ensures { λ r. ⌜ r ≡ word (up (a * b) (10 ^ 6)) ⌝ }
-{
-    up_of(by_million(a, b), MILLION)
-}
-
 // a * b / (n * 10^12), to the nearest.
 pub fn nearest_per_units(a: u64, b: u64, n: u64) -> u64
     ensures { λ r. ⌜ r ≡ scaled near (a * b) n (10 ^ 12) ⌝ }
 {
     nearest_of_units(by_unit(a, b), n)
-}
-
-// a * b / (n * 10^12), up.
-pub fn up_per_units(a: u64, b: u64, n: u64) -> u64
-    ensures { λ r. ⌜ r ≡ scaled up (a * b) n (10 ^ 12) ⌝ }
-{
-    up_of_units(by_unit(a, b), n)
 }
 
 // The nearest of what was divided by the unit.
@@ -133,27 +121,6 @@ fn nearest_of_units(d: Division, n: u64) -> u64
         return whole;
     }
     next(whole)
-}
-
-// What was divided by 10^12, over n, up.
-fn up_of_units(d: Division, n: u64) -> u64
-    ensures { λ r. ⌜ ((p : ℕ) → Divided p (10 ^ 12) (d .quotient) (d .remainder) (d .fits) → r ≡ scaled up p n (10 ^ 12)) ⌝ }
-{
-    if n == 0 {
-        return 0;
-    }
-    if !d.fits {
-        return LARGEST;
-    }
-    let whole = d.quotient / n;
-    let left = d.quotient % n;
-    if 0 < left {
-        return next(whole);
-    }
-    if 0 < d.remainder {
-        return next(whole);
-    }
-    whole
 }
 
 // One more, as a word.

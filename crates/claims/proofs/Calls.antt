@@ -1,0 +1,73 @@
+-- The contracts of the pricing call and of the listing, in plain words (price-demands, line-bytes, prints).
+use mathlib.Core.Path.{_≡_, sym, _∙_, ap, subst}
+use mathlib.Core.Bool.{Bool, true, false, _&&_}
+use mathlib.Core.List.{List, []}
+use Prim.Native.Nat.{ℕ, _-_, _<_, _≤_}
+use native.Mathlib.Omega.{arith}
+use borrow.Author.Tests.{le-leb, lt-leb}
+use lib.Dec.{leb}
+use lib.IntN.{ℤ}
+use lib.ListN.{length, take, drop}
+use Rattle.fund.specs.declared.Verdict.{Verdict}
+use Rattle.fund.specs.Base.{if_then_else_}
+use Rattle.fund.specs.Reading.{reading}
+use Rattle.fund.specs.Refusals.{Lengths, numberIn, placeIn}
+use Rattle.fund.specs.Answer.{Answer, answer}
+use Rattle.fund.specs.Listing.{horizonIn, listing}
+use Rattle.fund.specs.Distance.{WithinBounds}
+use Rattle.text.specs.Shown.{room}
+use Rattle.text.specs.Writing.{Written}
+use Rattle.printing.specs.Printed.{shown}
+use Rattle.pricing.specs.declared.Priced.{Priced}
+use Rattle.pricing.specs.Priced.{left, horizonWith, Prices, lineOf}
+use Rattle.claims.specs.Demands.{bytesOf, Demands}
+use Rattle.claims.specs.Listing.{Listed, Kept, Prints}
+use Rattle.claims.specs.Calls.{priced}
+use Rattle.claims.proofs.Deriving.{Answered, demands}
+
+module _ (file : List ℕ) (n : Lengths) (p : Priced) (d : List ℤ) (h : List ℕ) (f : List ℤ) (r : List ℕ) (k : Prices file n p (left p d h f r)) where
+  is : left p d h f r ≡ answer file n
+  is = k .answers .answer
+
+  v : p .verdict ≡ answer file n .verdict
+  v = ap (λ (a : Answer). a .verdict) is
+
+  pub price-demands : Demands file n (priced file p d h f r)
+  price-demands =
+      demands file n (priced file p d h f r)
+      (record {
+        refuses = record { number = ap numberIn v; place = ap placeIn v; line = ap (λ (a : Answer). bytesOf file (a .part)) is };
+        horizon = k .answers .horizon ∙ ap (λ (x : Verdict). horizonWith x (horizonIn (reading file))) v;
+        method =
+          record {
+            truncation = ap (λ (a : Answer). a .truncation) is;
+            mean = ap (λ (a : Answer). a .mean) is;
+            premium = ap (λ (a : Answer). a .premium) is;
+            within = ap (λ (a : Answer). a .within) is;
+            D = ap (λ (a : Answer). a .D) is;
+            H = ap (λ (a : Answer). a .H) is;
+            f = ap (λ (a : Answer). a .f) is;
+            R = ap (λ (a : Answer). a .R) is;
+          };
+        distance = λ fund e a. subst (λ (x : Answer). WithinBounds fund x) is (k .distance fund e (v ∙ a));
+      })
+
+  pub line-bytes : (l : List ℕ) → l ≡ lineOf file p → l ≡ bytesOf file (answer file n .part)
+  unfolding lineOf
+  line-bytes l e =
+      e
+      ∙ ap (λ (b : Bool). if b then take (p .end - p .start) (drop (p .start) file) else []) both
+      ∙ ap (λ (a : Answer). bytesOf file (a .part)) is
+    where
+      both : (leb (p .start) (p .end) && leb (p .end) (length file)) ≡ true
+      both = rw (le-leb (p .start) (p .end) (k .answers .ordered), le-leb (p .end) (length file) (k .answers .inside))
+
+pub prints : (file before after : List ℕ) (size : ℕ) → Written (shown file (length before)) before after size → Prints file before after size
+prints file before after size w =
+    record {
+      listed = λ l. let e = ap (λ (b : Bool). if b then listing file else []) (le-leb room (length before) l) in record { start = w .start ∙ e; size-is = w .whole ∙ ap length e; beyond = w .beyond };
+      kept = λ l.
+        let e = ap (λ (b : Bool). if b then listing file else []) (lt-leb room (length before) l) in
+        let z : size ≡ 0 = w .whole ∙ ap length e in
+        record { none = z; same = subst (λ k. drop k after ≡ drop k before) z (w .beyond) };
+    }

@@ -1,0 +1,107 @@
+-- From an outcome that is the definitions' answer, with the distance of an accepted fund, to the three demands (demands). Only what
+-- acceptance and a refusal say of the definitions' answer is used.
+use mathlib.Core.Path.{_≡_, refl, sym, _∙_, ap, subst}
+use mathlib.Core.List.{List}
+use Prim.Native.Nat.{ℕ, _+_, _*_, _^_, _<_, _≤_}
+use native.Mathlib.Omega.{arith}
+use lib.IntN.{ℤ, pos, natAbs, _*ℤ_, _-ℤ_}
+use lib.ListN.{getD}
+use Rattle.fund.specs.declared.Refusal.{Refusal}
+use Rattle.fund.specs.declared.Refusal.the-variants.{Form, Range, Edition, Deductible, Unmatched, Half, Load, Order, Short, Wide}
+use Rattle.fund.specs.declared.Verdict.{Verdict}
+use Rattle.fund.specs.declared.Verdict.the-variants.{Accepted, Refused}
+use Rattle.fund.specs.Transform.{unit}
+use Rattle.fund.specs.Reading.{FundFile, Reading, read, stopped, reading}
+use Rattle.fund.specs.Folding.{lives}
+use Rattle.fund.specs.Refusals.{Lengths, numberOf, numberIn, verdict}
+use Rattle.fund.specs.Answer.{Answer, refused, fundCells, accepted, answerOf, answerTo, answer}
+use Rattle.fund.specs.Listing.{horizonIn}
+use Rattle.fund.specs.Distance.{fileDenominator, exactAt, exactPremiumAt, apart, WithinBounds}
+use Rattle.laws.specs.Answer.{accepted-read}
+use Rattle.pricing.specs.Priced.{horizonWith}
+use Rattle.claims.specs.Demands.{Outcome, Refuses, Zero, Method, Close, Demands}
+
+-- ---- a refusal
+-- An answer with a number above 0 is a refusal's.
+record RefusedAs (file : List ℕ) (n : Lengths) : Type 0 where
+  why : Refusal
+  place : ℕ
+  is : answer file n ≡ refused file n (Refused why place)
+
+refused-as : (file : List ℕ) (n : Lengths) → 0 < numberIn (answer file n .verdict) → RefusedAs file n
+unfolding answer answerTo answerOf accepted
+refused-as file n l = go (reading file) refl l
+  where
+    after : (fund : FundFile) → reading file ≡ read fund → (v : Verdict) → verdict fund n (fundCells (fund .header) (lives fund)) ≡ v → 0 < numberIn (answerOf file n fund v .verdict) → RefusedAs file n
+    after fund r Accepted e h = absurd (omega (arith, h))
+    after fund r (Refused why place) e h = record { why = why; place = place; is = ap (answerTo file n) r ∙ ap (answerOf file n fund) e }
+    go : (r : Reading) → reading file ≡ r → 0 < numberIn (answerTo file n r .verdict) → RefusedAs file n
+    go (read fund) e h = after fund e (verdict fund n (fundCells (fund .header) (lives fund))) refl h
+    go (stopped why place) e h = record { why = why; place = place; is = ap (answerTo file n) e }
+
+-- ---- acceptance
+number-above : (why : Refusal) → 1 ≤ numberOf why
+number-above Form = omega arith
+number-above Range = omega arith
+number-above Edition = omega arith
+number-above Deductible = omega arith
+number-above Unmatched = omega arith
+number-above Half = omega arith
+number-above Load = omega arith
+number-above Order = omega arith
+number-above Short = omega arith
+number-above Wide = omega arith
+
+zero-accepted : (v : Verdict) → numberIn v ≡ 0 → v ≡ Accepted
+zero-accepted Accepted e = refl
+zero-accepted (Refused why place) e = absurd (omega (arith, number-above why, e))
+
+-- ---- the demands
+-- What is left is the answer, and the distance holds of it.
+pub record Answered (file : List ℕ) (n : Lengths) (o : Outcome) : Type 0 where
+  pub refuses : Refuses file n o
+  pub horizon : o .horizon ≡ horizonWith (answer file n .verdict) (horizonIn (reading file))
+  pub method : Method file n o
+  pub distance : (fund : FundFile) → reading file ≡ read fund → answer file n .verdict ≡ Accepted → WithinBounds fund (answer file n)
+
+module _ (file : List ℕ) (n : Lengths) (o : Outcome) (k : Answered file n o) where
+  zero-of : RefusedAs file n → Zero n o
+  unfolding refused
+  zero-of s =
+      let m = k .method in
+      let e = s .is in
+      record {
+        horizon = k .horizon ∙ ap (λ (a : Answer). horizonWith (a .verdict) (horizonIn (reading file))) e;
+        truncation = m .truncation ∙ ap (λ (a : Answer). a .truncation) e;
+        mean = m .mean ∙ ap (λ (a : Answer). a .mean) e;
+        premium = m .premium ∙ ap (λ (a : Answer). a .premium) e;
+        within = m .within ∙ ap (λ (a : Answer). a .within) e;
+        D = m .D ∙ ap (λ (a : Answer). a .D) e;
+        H = m .H ∙ ap (λ (a : Answer). a .H) e;
+        f = m .f ∙ ap (λ (a : Answer). a .f) e;
+        R = m .R ∙ ap (λ (a : Answer). a .R) e;
+      }
+
+  close-of : answer file n .verdict ≡ Accepted → Close file o
+  unfolding apart unit horizonIn
+  close-of v =
+      let a = accepted-read file n v in
+      let m = k .method in
+      let w = k .distance (a .fund) (a .is-read) v in
+      let X : o .horizon ≡ a .fund .header .horizon = k .horizon ∙ ap (λ x. horizonWith x (horizonIn (reading file))) v ∙ ap horizonIn (a .is-read) in
+      record {
+        fund = a .fund;
+        is-read = a .is-read;
+        horizon = X;
+        cell = λ x l. rw (m .f, m .R, m .truncation) (w .cell x (omega (arith, l, X)));
+        premium = rw (m .premium, m .mean, m .within) (w .premium);
+      }
+
+  pub demands : Demands file n o
+  demands =
+      record {
+        refuses = k .refuses;
+        zero = λ l. zero-of (refused-as file n (subst (λ x. 0 < x) (k .refuses .number) l));
+        method = k .method;
+        close = λ z. close-of (zero-accepted (answer file n .verdict) (sym (k .refuses .number) ∙ z));
+      }

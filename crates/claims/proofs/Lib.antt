@@ -1,0 +1,2 @@
+mod Deriving
+mod Calls

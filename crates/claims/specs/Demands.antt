@@ -1,0 +1,74 @@
+-- The three demands on a call that prices a fund, in plain words: for any bytes and any four slices that are lent to it.
+use mathlib.Core.Path.{_≡_}
+use mathlib.Core.List.{List}
+use Prim.Native.Nat.{ℕ, _+_, _*_, _^_, _<_, _≤_}
+use lib.IntN.{ℤ, pos, natAbs, _*ℤ_, _-ℤ_}
+use lib.ListN.{getD, take, drop, replicate}
+use Rattle.fund.specs.Reading.{FundFile, read, reading}
+use Rattle.fund.specs.Refusals.{Lengths, numberIn, placeIn}
+use Rattle.fund.specs.Answer.{Part, answer}
+use Rattle.fund.specs.Distance.{fileDenominator, exactAt, exactPremiumAt}
+
+-- What a host has after a call: number and place, the line that it is handed, the horizon, the figures, and its four slices.
+pub record Outcome : Type 0 where
+  pub number : ℕ
+  pub place : ℕ
+  pub line : List ℕ
+  pub horizon : ℕ
+  pub truncation : ℕ
+  pub mean : ℕ
+  pub premium : ℤ
+  pub within : ℕ
+  pub D : List ℤ
+  pub H : List ℕ
+  pub f : List ℤ
+  pub R : List ℕ
+
+-- The bytes of a part of the file.
+abbrev pub bytesOf : List ℕ → Part → List ℕ
+bytesOf file p = take (p .size) (drop (p .start) file)
+
+-- Demand 1. Number, place and line are document 01's, whatever the bytes are.
+pub record Refuses (file : List ℕ) (n : Lengths) (o : Outcome) : Type 0 where
+  pub number : o .number ≡ numberIn (answer file n .verdict)
+  pub place : o .place ≡ placeIn (answer file n .verdict)
+  pub line : o .line ≡ bytesOf file (answer file n .part)
+
+-- "A refusal gives number and place, zero for every figure, and zero in every lent result cell."
+pub record Zero (n : Lengths) (o : Outcome) : Type 0 where
+  pub horizon : o .horizon ≡ 0
+  pub truncation : o .truncation ≡ 0
+  pub mean : o .mean ≡ 0
+  pub premium : o .premium ≡ pos 0
+  pub within : o .within ≡ 0
+  pub D : o .D ≡ replicate (n .D) (pos 0)
+  pub H : o .H ≡ replicate (n .H) 0
+  pub f : o .f ≡ replicate (n .f) (pos 0)
+  pub R : o .R ≡ replicate (n .R) 0
+
+-- Demand 2. Every figure and every lent cell is what document 01's steps define.
+pub record Method (file : List ℕ) (n : Lengths) (o : Outcome) : Type 0 where
+  pub truncation : o .truncation ≡ answer file n .truncation
+  pub mean : o .mean ≡ answer file n .mean
+  pub premium : o .premium ≡ answer file n .premium
+  pub within : o .within ≡ answer file n .within
+  pub D : o .D ≡ answer file n .D
+  pub H : o .H ≡ answer file n .H
+  pub f : o .f ≡ answer file n .f
+  pub R : o .R ≡ answer file n .R
+
+-- Demand 3, of a fund that is accepted: the file holds a fund; each f(x) that the host has is within R(x) + 2×E of 10^12 times the
+-- exact value at x, and the premium within its bound of the exact premium; all times document 01's denominator.
+pub record Close (file : List ℕ) (o : Outcome) : Type 0 where
+  pub fund : FundFile
+  pub is-read : reading file ≡ read fund
+  pub horizon : o .horizon ≡ fund .header .horizon
+  pub cell : (x : ℕ) → x ≤ o .horizon →
+      natAbs (pos (fileDenominator fund) *ℤ getD (o .f) x (pos 0) -ℤ pos (10 ^ 12) *ℤ exactAt fund x) ≤ fileDenominator fund * (getD (o .R) x 0 + 2 * o .truncation)
+  pub premium : natAbs (pos (fileDenominator fund) *ℤ o .premium -ℤ exactPremiumAt fund (o .mean)) ≤ fileDenominator fund * o .within
+
+pub record Demands (file : List ℕ) (n : Lengths) (o : Outcome) : Type 0 where
+  pub refuses : Refuses file n o
+  pub zero : 0 < o .number → Zero n o
+  pub method : Method file n o
+  pub close : o .number ≡ 0 → Close file o

@@ -1,0 +1,45 @@
+// What a customer may hold us to. Each function makes one public call and promises, in the plain words of specs/, what follows from
+// that call's contract alone. So a promise of a call that is weakened fails here.
+use pricing::Priced;
+ghost use mathlib.Core.Path.{_≡_};
+ghost use Rattle.fund.specs.Answer.{answer};
+ghost use Rattle.valuation.specs.Valued.{lengths};
+ghost use Rattle.claims.specs.Demands.{Demands, bytesOf};
+ghost use Rattle.claims.specs.Listing.{Prints};
+ghost use Rattle.claims.specs.Calls.{priced};
+
+// Demands 1, 2 and 3 of the pricing call.
+pub fn price(
+    file: &[u8],
+    transform: &mut [i64],
+    h: &mut [u64],
+    f: &mut [i64],
+    r: &mut [u64],
+) -> Priced
+    ensures { λ p. ⌜ Demands (now (file .entry)) (lengths (now (transform .entry)) (now (h .entry)) (now (f .entry)) (now (r .entry)))
+        (priced (now (file .entry)) p (now (transform .exit)) (now (h .exit)) (now (f .exit)) (now (r .exit))) ⌝ }
+{
+    pricing::price(file, transform, h, f, r)
+}
+
+// The line that the host is handed, as a part of its own bytes.
+pub fn line<'a>(
+    file: &'a [u8],
+    transform: &mut [i64],
+    h: &mut [u64],
+    f: &mut [i64],
+    r: &mut [u64],
+) -> &'a [u8]
+    ensures { λ l. ⌜ now l ≡ bytesOf (now (file .entry))
+        (answer (now (file .entry)) (lengths (now (transform .entry)) (now (h .entry)) (now (f .entry)) (now (r .entry))) .part) ⌝ }
+{
+    let p = pricing::price(file, transform, h, f, r);
+    pricing::line(file, p)
+}
+
+// The listing.
+pub fn print(file: &[u8], text: &mut [u8]) -> usize
+    ensures { λ size. ⌜ Prints (now (file .entry)) (now (text .entry)) (now (text .exit)) size ⌝ }
+{
+    printing::print(file, text)
+}

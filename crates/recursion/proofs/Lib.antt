@@ -1,0 +1,9 @@
+mod Growing
+mod Opposite
+mod Added
+mod SumsTo
+mod CellsFilled
+mod ListedPlaces
+mod SmallProduct
+mod Tested
+mod Outcomes

@@ -1,0 +1,33 @@
+-- The outcome of the tests and the steps, settled, is what the definition leaves.
+use borrow.Author.Needs.{needs}
+use mir.Facts.{toZ-ofZ}
+use Rattle.recursion.proofs.Outcomes.{outcome-left}
+use Rattle.recursion.proofs.recursion.Statement.{statement}
+use Rattle.recursion.proofs.recursion.Tie as tie
+
+carried-out-requires : tie.Need-carried-out-requires
+carried-out-requires c κs = search needs
+
+settled-requires : tie.Need-settled-requires
+settled-requires c κs = search needs
+
+same-length : tie.Need-same-length
+same-length c = search needs
+
+same-length-2 : tie.Need-same-length-2
+same-length-2 c = search needs
+
+returns : tie.Need-returns
+returns c =
+    let carried = c .before .before .before .before .before .before .before .before .before in
+    let s = carried .before .before .before .before .before in
+    let a = s .args in
+    let o = carried .carried-out in
+    let t = c .before .before .before .settled in
+    rw (t .ensures .0)
+    (outcome-left (a .horizon) (a .d .now) (a .h .now) (record { f = a .first; R = a .bound }) _ _ _ _ _ _ (o .result) (o .kept .1 .1 .1 .1 .1 .0) (o .kept .1 .1 .1 .1 .1 .1 .0)
+    (rw (toZ-ofZ (s .fits .first)) at (o .ensures)) (t .ensures .1))
+
+pub recursion-spec : {M : Type 1} → statement M
+recursion-spec =
+    tie.close (tie.spec carried-out-requires settled-requires same-length same-length-2 returns)

@@ -1,0 +1,33 @@
+-- Where the answer is not `Done` the cells are cleared.
+use mathlib.Core.Path.{refl, sym, subst}
+use borrow.Author.Needs.{needs}
+use Rattle.recursion.specs.Steps.{Settled}
+use Rattle.recursion.proofs.Outcomes.{settled-zeros}
+use Rattle.recursion.proofs.settled.Statement.{statement}
+use Rattle.recursion.proofs.settled.Tie as tie
+
+enum-told : tie.Need-enum-told
+enum-told c = search needs
+
+clear-cells-requires : tie.Need-clear-cells-requires
+clear-cells-requires c κs = search needs
+
+same-length : tie.Need-same-length
+same-length c = search needs
+
+same-length-2 : tie.Need-same-length-2
+same-length-2 c = search needs
+
+returns : tie.Need-returns
+returns c =
+    let a = c .before .before .before .before .before .before .before .before .args in
+    (refl, settled-zeros (a .f .now) _ (a .r .now) _ (a .answer) (c .before .before .before .before .before .before .match .keys2) (c .before .before .before .clear-cells .ensures))
+
+returns-2 : tie.Need-returns-2
+returns-2 c =
+    let a = c .before .before .before .args in
+    (refl, subst (λ b. Settled b (a .f .now) (a .r .now) (a .f .now) (a .r .now)) (sym (c .enum-told .given .1)) (refl, refl))
+
+pub settled-spec : {M : Type 1} → statement M
+settled-spec =
+    tie.close (tie.spec enum-told clear-cells-requires same-length same-length-2 returns returns-2)

@@ -1,0 +1,5 @@
+pub mod Slices
+pub mod Recursion
+pub mod Tests
+pub mod Places
+pub mod Steps

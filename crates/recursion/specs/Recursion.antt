@@ -1,0 +1,77 @@
+-- What a call of the recursion answers and leaves, for any transform, any start and any lengths of the slices for f and R.
+use mathlib.Core.Bool.{Bool, _||_}
+use mathlib.Core.List.{List, [], _∷_, map, reverse}
+use mathlib.Core.Option.{Option, none, some}
+use Prim.Native.Nat.{ℕ, suc}
+use lib.Dec.{ltb}
+use lib.IntN.{ℤ, pos, natAbs}
+use lib.ListN.{length, getD, replicate}
+use Rattle.fund.specs.Base.{if_then_else_, table}
+use Rattle.fund.specs.Limits.{most-horizon, most-bound}
+use Rattle.fund.specs.Recursion.{Cell, cells}
+use Rattle.fund.specs.Refusals.{first, wide, short}
+use Rattle.fund.specs.Answer.{lent}
+use Rattle.recursion.specs.declared.Recursed.{Recursed}
+use Rattle.recursion.specs.declared.Recursed.the-variants.{Done, Short, Outside, Wide, Large}
+use Rattle.recursion.specs.Slices.{entriesIn, sizes, most-transform, most-error, most-cell}
+
+-- |f(x)| is above its limit.
+unfoldable pub large : Cell → Bool
+large y = ltb most-cell (natAbs (y .f))
+
+-- The first k from 1 to X whose H(k) is above its limit.
+unfoldable pub errorAt : ℕ → List ℕ → Option ℕ
+errorAt X h = first (ltb most-error) 1 (table X (λ k. getD h (suc k) 0))
+
+-- The sum of |D(k)| or the start is above its limit.
+unfoldable pub sumOrStart : ℕ → List ℤ → Cell → Bool
+sumOrStart X d start = ltb most-transform (sizes d X) || large start || wide start
+
+-- The limits, in the order in which they are tested: X, the lengths of the slices, each H(k), then the sum and the start.
+unfoldable pub tested : ℕ → List ℤ → List ℕ → Cell → ℕ → ℕ → Recursed
+tested X d h start nf nr =
+    if ltb most-horizon X then Outside 0
+    else if short (record { D = length d; H = length h; f = nf; R = nr }) X then Short
+    else elim (errorAt X h) [ some k ↦ Outside k | none ↦ if sumOrStart X d start then Outside 0 else Done ]
+
+-- The first of the cells, from place x on, that is too wide or, where it is not, too large.
+unfoldable pub stopped : ℕ → List Cell → Recursed
+stopped x [] = Done
+stopped x (y ∷ rest) =
+    let after = stopped (suc x) rest in
+    if wide y then Wide x else if large y then Large x else after
+
+-- The cells of 0 to X.
+unfoldable pub cellsTo : ℕ → List ℤ → List ℕ → Cell → List Cell
+cellsTo X d h start = reverse (cells (entriesIn X d h) start X)
+
+-- What is answered, or what follows where it is done.
+abbrev pub after : Recursed → Recursed → Recursed
+after Done next = next
+after Short next = Short
+after (Outside k) next = Outside k
+after (Wide x) next = Wide x
+after (Large x) next = Large x
+
+unfoldable pub recursed : ℕ → List ℤ → List ℕ → Cell → ℕ → ℕ → Recursed
+recursed X d h start nf nr = after (tested X d h start nf nr) (stopped 0 (cellsTo X d h start))
+
+-- What a call leaves: its answer and the slices.
+pub record Left : Type 0 where
+  pub answer : Recursed
+  pub f : List ℤ
+  pub R : List ℕ
+
+abbrev pub left : Recursed → List ℤ → List ℕ → Left
+left a f r = record { answer = a; f = f; R = r }
+
+-- The cells with zeros beyond X, or zeros.
+unfoldable pub leaves : List Cell → ℕ → ℕ → Recursed → Left
+leaves ys nf nr Done = left Done (lent (pos 0) nf (map (λ (y : Cell). y .f) ys)) (lent 0 nr (map (λ (y : Cell). y .R) ys))
+leaves ys nf nr Short = left Short (replicate nf (pos 0)) (replicate nr 0)
+leaves ys nf nr (Outside k) = left (Outside k) (replicate nf (pos 0)) (replicate nr 0)
+leaves ys nf nr (Wide x) = left (Wide x) (replicate nf (pos 0)) (replicate nr 0)
+leaves ys nf nr (Large x) = left (Large x) (replicate nf (pos 0)) (replicate nr 0)
+
+unfoldable pub recursion : ℕ → List ℤ → List ℕ → Cell → ℕ → ℕ → Left
+recursion X d h start nf nr = leaves (cellsTo X d h start) nf nr (recursed X d h start nf nr)

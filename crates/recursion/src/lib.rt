@@ -1,0 +1,69 @@
+// The recursion of document 01 on a transform and a start from anywhere: each f(x) and R(x) from D, H and the cells before it. All
+// limits that keep its sums within a word are tested here.
+mod limits;
+mod places;
+mod products;
+mod steps;
+
+ghost use mathlib.Core.Path.{_≡_};
+ghost use lib.ListN.{length};
+ghost use Rattle.recursion.specs.Recursion.{left, recursion};
+ghost use Rattle.recursion.specs.Steps.{Outcome, Settled};
+
+// What the recursion answers: all cells up to the horizon stand, a slice has fewer than X + 1 cells, a limit of the transform or of
+// the start is broken (at k for an H(k), else at 0), or the first x whose bound or whose |f| is above its limit.
+pub enum Recursed {
+    Done,
+    Short,
+    Outside(u64),
+    Wide(u64),
+    Large(u64),
+}
+
+// The limits, and where they are kept the steps.
+fn carried_out(
+    horizon: usize,
+    d: &[i64],
+    h: &[u64],
+    first: i64,
+    bound: u64,
+    f: &mut [i64],
+    r: &mut [u64],
+) -> Recursed
+    ensures { λ a. ⌜ Outcome horizon (now (d .entry)) (now (h .entry)) (record { f = first; R = bound })
+        (length (now (f .entry))) (length (now (r .entry))) (now (f .exit)) (now (r .exit)) a ⌝ }
+{
+    let tested = limits::tested(horizon, d, h, first, bound, f.len(), r.len());
+    let Recursed::Done = tested else {
+        return tested;
+    };
+    steps::all_steps(horizon, d, h, first, bound, f, r)
+}
+
+// Cells that are not done are cleared.
+fn settled(answer: Recursed, f: &mut [i64], r: &mut [u64]) -> Recursed
+    ensures { λ a. ⌜ (a ≡ answer) × Settled answer (now (f .entry)) (now (r .entry)) (now (f .exit)) (now (r .exit)) ⌝ }
+{
+    let Recursed::Done = answer else {
+        steps::clear_cells(f, r);
+        return answer;
+    };
+    answer
+}
+
+// Leaves f and R from 0 to X and zeros beyond, or zeros. D(0), H(0) and what stands beyond X are not read.
+pub fn recursion(
+    horizon: usize,
+    d: &[i64],
+    h: &[u64],
+    first: i64,
+    bound: u64,
+    f: &mut [i64],
+    r: &mut [u64],
+) -> Recursed
+    ensures { λ a. ⌜ left a (now (f .exit)) (now (r .exit)) ≡
+        recursion horizon (now (d .entry)) (now (h .entry)) (record { f = first; R = bound }) (length (now (f .entry))) (length (now (r .entry))) ⌝ }
+{
+    let answer = carried_out(horizon, d, h, first, bound, f, r);
+    settled(answer, f, r)
+}

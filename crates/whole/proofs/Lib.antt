@@ -1,0 +1,3 @@
+mod Clearing
+mod Quotients
+pub mod Signs

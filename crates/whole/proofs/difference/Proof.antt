@@ -1,0 +1,18 @@
+-- `difference` meets its contract, by the larger of the two.
+use native.Mathlib.Omega.{arith}
+use borrow.Author.Needs.{needs}
+use Rattle.whole.proofs.Signs.{diff, diff-neg}
+use Rattle.whole.proofs.difference.Statement.{statement}
+use Rattle.whole.proofs.difference.Tie as tie
+
+sub-t4 : tie.Need-sub-t4
+sub-t4 c = search needs
+
+returns : tie.Need-returns
+returns c = (diff-neg (c .before .args .plus) (c .before .args .minus) (omega arith), omega arith)
+
+returns-2 : tie.Need-returns-2
+returns-2 c = (diff (c .before .args .plus) (c .before .args .minus) (omega arith), omega arith)
+
+pub difference-spec : {M : Type 1} → statement M
+difference-spec = tie.close (tie.spec sub-t4 returns returns-2)

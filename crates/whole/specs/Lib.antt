@@ -1,0 +1,2 @@
+pub mod Sign
+pub mod Sums
