@@ -1,13 +1,10 @@
 -- `matching::matched`: the counts, then 3 and 4, then the members.
-use mathlib.Core.Path.{_≡_, sym, _∙_}
-use Prim.Native.Nat.{_+_}
+use mathlib.Core.Path.{sym, _∙_}
 use native.Mathlib.Omega.{arith}
 use borrow.Author.Needs.{needs}
-use lib.ListN.{length, take}
 use lib.Seq.{length-take-le}
 use Rattle.fund.specs.Refusals.{firstMember}
 use Rattle.laws.specs.Ranges.{header-length}
-use Rattle.matching.specs.Matching.{fileOf}
 use Rattle.matching.proofs.Answering.{beyond-rates, beyond-members, three, four, then-members}
 use Rattle.matching.proofs.matched.Statement.{statement}
 use Rattle.matching.proofs.matched.Tie as tie
@@ -66,8 +63,7 @@ returns-5 c =
     let t = e .before .before in
     let a = t .before .before .args in
     let count = length-take-le (a .rated) (a .rates) (omega arith) in
-    let line : 6 + a .rated + 1 ≡ firstMember (fileOf (a .fund) (a .rates) (a .rated) (a .members) (a .enrolled)) = omega (arith, header-length, count) in
-    then-members (a .fund) (a .rates) (a .rated) (a .members) (a .enrolled) _ (t .before .if1 .left) (t .if2 .left) (e .if3 .left) _ (sym (c .before .before .is-above .ensures) ∙ c .before .if4 .left) line (c .by-member .ensures)
+    then-members (a .fund) (a .rates) (a .rated) (a .members) (a .enrolled) _ (t .before .if1 .left) (t .if2 .left) (e .if3 .left) _ (sym (c .before .before .is-above .ensures) ∙ c .before .if4 .left) (omega (arith, header-length, count)) (c .by-member .ensures)
 
 pub matched-spec : {M : Type 1} → statement M
 matched-spec =

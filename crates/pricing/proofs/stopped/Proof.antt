@@ -1,4 +1,4 @@
--- The four slices are cleared, and the figures are zero.
+-- `pricing::stopped`: the four slices are cleared, and the figures are zero.
 use borrow.Author.Needs.{needs}
 use Rattle.valuation.specs.Valued.{lengths}
 use Rattle.pricing.proofs.Stopping.{stopped-answers}
@@ -17,6 +17,9 @@ clear-signed-requires-2 c κs = search needs
 clear-requires-2 : tie.Need-clear-requires-2
 clear-requires-2 c κs = search needs
 
+part-of-requires : tie.Need-part-of-requires
+part-of-requires c κs = search needs
+
 same-length : tie.Need-same-length
 same-length c = search needs
 
@@ -31,14 +34,16 @@ same-length-4 c = search needs
 
 returns : tie.Need-returns
 returns c =
-    let o = c .before .before .before .before .before .before .before .before .before .before .before .before .before .before .before .before .before in
-    let a = o .args in
+    let clear-f = c .before .before .before .before .before .before in
+    let clear-h = clear-f .before .before .before .before in
+    let clear-d = clear-h .before .before .before in
+    let a = clear-d .before .before .before .before .before .args in
     let n = lengths (a .transform .now) (a .h .now) (a .f .now) (a .r .now) in
-    stopped-answers (a .file .now) (a .why) (a .place) (a .line) n _ _ _ _ (o .pre)
-    (c .before .before .before .before .before .before .before .before .before .before .before .before .clear-signed .ensures)
-    (c .before .before .before .before .before .before .before .before .before .clear .ensures)
-    (c .before .before .before .before .before .clear-signed2 .ensures)
-    (c .before .before .clear2 .ensures)
+    stopped-answers (a .file .now) (a .why) (a .place) (c .part-of .result) n _ _ _ _ (c .part-of .ensures)
+    (clear-d .clear-signed .ensures)
+    (clear-h .clear .ensures)
+    (clear-f .clear-signed2 .ensures)
+    (c .before .before .before .clear2 .ensures)
 
 pub stopped-spec : {M : Type 1} → statement M
 stopped-spec =
@@ -48,6 +53,7 @@ stopped-spec =
     clear-requires
     clear-signed-requires-2
     clear-requires-2
+    part-of-requires
     same-length
     same-length-2
     same-length-3
