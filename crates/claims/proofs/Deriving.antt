@@ -35,6 +35,7 @@ refused-as file n l = go (reading file) refl l
     after : (fund : FundFile) → reading file ≡ read fund → (v : Verdict) → verdict fund n (fundCells (fund .header) (lives fund)) ≡ v → 0 < numberIn (answerOf file n fund v .verdict) → RefusedAs file n
     after fund r Accepted e h = absurd (omega (arith, h))
     after fund r (Refused why place) e h = record { why = why; place = place; is = ap (answerTo file n) r ∙ ap (answerOf file n fund) e }
+
     go : (r : Reading) → reading file ≡ r → 0 < numberIn (answerTo file n r .verdict) → RefusedAs file n
     go (read fund) e h = after fund e (verdict fund n (fundCells (fund .header) (lives fund))) refl h
     go (stopped why place) e h = record { why = why; place = place; is = ap (answerTo file n) e }
@@ -72,10 +73,7 @@ module _ (file : List ℕ) (n : Lengths) (o : Outcome) (k : Answered file n o) w
       let e = s .is in
       record {
         horizon = k .horizon ∙ ap (λ (a : Answer). horizonWith (a .verdict) (horizonIn (reading file))) e;
-        truncation = m .truncation ∙ ap (λ (a : Answer). a .truncation) e;
-        mean = m .mean ∙ ap (λ (a : Answer). a .mean) e;
-        premium = m .premium ∙ ap (λ (a : Answer). a .premium) e;
-        within = m .within ∙ ap (λ (a : Answer). a .within) e;
+        figures = m .figures ∙ ap (λ (a : Answer). a .figures) e;
         D = m .D ∙ ap (λ (a : Answer). a .D) e;
         H = m .H ∙ ap (λ (a : Answer). a .H) e;
         f = m .f ∙ ap (λ (a : Answer). a .f) e;
@@ -93,8 +91,8 @@ module _ (file : List ℕ) (n : Lengths) (o : Outcome) (k : Answered file n o) w
         fund = a .fund;
         is-read = a .is-read;
         horizon = X;
-        cell = λ x l. rw (m .f, m .R, m .truncation) (w .cell x (omega (arith, l, X)));
-        premium = rw (m .premium, m .mean, m .within) (w .premium);
+        cell = λ x l. rw (m .f, m .R, m .figures) (w .cell x (omega (arith, l, X)));
+        premium = rw (m .figures) (w .premium);
       }
 
   pub demands : Demands file n o

@@ -15,7 +15,7 @@ use Rattle.fund.specs.Transform.{unit, lambda}
 use Rattle.fund.specs.Recursion.{Cell}
 use Rattle.fund.specs.Premium.{premium, within, printedBound}
 use Rattle.fund.specs.Refusals.{Lengths, verdict}
-use Rattle.fund.specs.Answer.{fundTerms, fundStart, fundCells, fundTruncation, fundMean, Answer, accepted, answer}
+use Rattle.fund.specs.Answer.{fundTerms, fundStart, fundCells, fundTruncation, fundMean, fundFigures, Answer, accepted, answer}
 use Rattle.fund.specs.Exact.{singles, outcomes, excess}
 use Rattle.fund.specs.Distance.{fileDenominator, exactAt, exactPremiumAt, apart, WithinBounds}
 use Rattle.laws.specs.Accepted.{Accepts, accepts}
@@ -48,12 +48,12 @@ module _ (fund : FundFile) (n : Lengths) (ok : FundOk fund) (a : Accepts fund n 
   unfolding apart
   gap-is x l = ap (λ z. natAbs (pos (fileDenominator fund) *ℤ z -ℤ pos unit *ℤ exactAt fund x)) (f-cell (fund .header) (lives fund) n x l)
 
-  close-cell : (x : ℕ) → x ≤ X → apart fund A x ≤ fileDenominator fund * printedBound (A .truncation) (getD (A .R) x 0)
-  unfolding fileDenominator exactAt fundTerms fundStart fundTruncation accepted
+  close-cell : (x : ℕ) → x ≤ X → apart fund A x ≤ fileDenominator fund * printedBound (A .figures .truncation) (getD (A .R) x 0)
+  unfolding fileDenominator exactAt fundTerms fundStart fundTruncation fundFigures accepted
   close-cell x l = rw (gap-is x l, R-cell (fund .header) (lives fund) n x l) (cell-distance X (fund .header .order) (fund .header .frequency) (lives fund) small p x l)
 
-  close-cells : (x : ℕ) → x ≤ X → sum (suc x) (apart fund A) ≤ fileDenominator fund * (sum (suc x) (λ y. getD (A .R) y 0) + 2 * A .truncation)
-  unfolding fileDenominator exactAt fundTerms fundStart fundTruncation accepted
+  close-cells : (x : ℕ) → x ≤ X → sum (suc x) (apart fund A) ≤ fileDenominator fund * (sum (suc x) (λ y. getD (A .R) y 0) + 2 * A .figures .truncation)
+  unfolding fileDenominator exactAt fundTerms fundStart fundTruncation fundFigures accepted
   close-cells x l =
       rw (
         sum-is (suc x) (apart fund A) ∙ sumN-ext (suc x) (apart fund A) (λ y. natAbs (pos (fileDenominator fund) *ℤ fundCell (fund .header) (lives fund) y .f -ℤ pos unit *ℤ exactAt fund y)) (λ y h. gap-is y (omega arith)),
@@ -61,8 +61,8 @@ module _ (fund : FundFile) (n : Lengths) (ok : FundOk fund) (a : Accepts fund n 
       )
       (cells-distance X (fund .header .order) (fund .header .frequency) (lives fund) small p x l)
 
-  close-premium : natAbs (pos (fileDenominator fund) *ℤ A .premium -ℤ exactPremiumAt fund (A .mean)) ≤ fileDenominator fund * A .within
-  unfolding fileDenominator exactPremiumAt fundTerms fundStart fundTruncation accepted
+  close-premium : natAbs (pos (fileDenominator fund) *ℤ A .figures .premium -ℤ exactPremiumAt fund (A .figures .mean)) ≤ fileDenominator fund * A .figures .within
+  unfolding fileDenominator exactPremiumAt fundTerms fundStart fundTruncation fundFigures accepted
   close-premium =
       subst (λ (ys : List Cell). natAbs (pos (fileDenominator fund) *ℤ premium (fund .header .deductible) (fundMean (fund .header) (lives fund)) ys -ℤ exactPremiumAt fund (fundMean (fund .header) (lives fund))) ≤ fileDenominator fund * within (fund .header .deductible) (fundTruncation (fund .header) (lives fund)) ys)
       (sym (fundCells-are (fund .header) (lives fund)))
@@ -77,10 +77,10 @@ distance file n fund r e =
     (record { cell = close-cell fund n ok a; cells = close-cells fund n ok a; premium = close-premium fund n ok a })
 
 pub average : (file : List ℕ) (n : Lengths) (fund : FundFile) → reading file ≡ read fund → answer file n .verdict ≡ Accepted → lambda (fund .header .frequency) (lives fund) ≡ 0 →
-    exactPremiumAt fund (answer file n .mean) *ℤ pos (10 ^ (6 * singles (lives fund))) ≡ pos (10 ^ 12 * excess (fund .header .deductible) (outcomes (lives fund)) * fileDenominator fund)
-unfolding exactPremiumAt fileDenominator fundMean accepted
+    exactPremiumAt fund (answer file n .figures .mean) *ℤ pos (10 ^ (6 * singles (lives fund))) ≡ pos (10 ^ 12 * excess (fund .header .deductible) (outcomes (lives fund)) * fileDenominator fund)
+unfolding exactPremiumAt fileDenominator fundMean fundFigures accepted
 average file n fund r e z =
     let c = answer-accepted file n fund r e in
     let a = accepts fund n (fundCells (fund .header) (lives fund)) (c .verdict-is) in
-    ap (λ (x : Answer). exactPremiumAt fund (x .mean) *ℤ pos (10 ^ (6 * singles (lives fund)))) (c .answer-is)
+    ap (λ (x : Answer). exactPremiumAt fund (x .figures .mean) *ℤ pos (10 ^ (6 * singles (lives fund)))) (c .answer-is)
     ∙ average-excess (fund .header .horizon) (fund .header .order) (fund .header .frequency) (lives fund) (a .limited-lives) (all-folded fund) z (fund .header .deductible) (a .deductible)

@@ -6,6 +6,7 @@ use lib.IntN.{ℤ, pos}
 use lib.ListN.{length, getD, replicate}
 use Rattle.fund.specs.declared.Fund.{Fund}
 use Rattle.fund.specs.declared.Life.{Life}
+use Rattle.fund.specs.declared.Figures.{Figures}
 use Rattle.fund.specs.declared.Refusal.{Refusal}
 use Rattle.fund.specs.declared.Refusal.the-variants.{Form, Range, Edition, Deductible, Unmatched, Half, Load, Order, Short, Wide}
 use Rattle.fund.specs.declared.Verdict.{Verdict}
@@ -37,6 +38,20 @@ fundTruncation fund ms = truncation (fund .order) ms
 
 unfoldable pub fundMean : Fund → List Life → ℕ
 fundMean fund ms = mean (fund .frequency) ms
+
+unfoldable pub fundFigures : Fund → List Life → Figures
+fundFigures fund ms =
+    let M = fund .deductible in
+    record {
+      truncation = fundTruncation fund ms;
+      mean = fundMean fund ms;
+      premium = premium M (fundMean fund ms) (fundCells fund ms);
+      within = within M (fundTruncation fund ms) (fundCells fund ms);
+    }
+
+-- "zero for every figure"
+abbrev pub noFigures : Figures
+noFigures = record { truncation = 0; mean = 0; premium = pos 0; within = 0 }
 
 -- A part of the host's bytes.
 pub record Part : Type 0 where
@@ -70,10 +85,7 @@ part file (Refused why place) = if namesLine why then lineAt file place else emp
 pub record Answer : Type 0 where
   pub verdict : Verdict
   pub part : Part
-  pub truncation : ℕ
-  pub mean : ℕ
-  pub premium : ℤ
-  pub within : ℕ
+  pub figures : Figures
   pub D : List ℤ
   pub H : List ℕ
   pub f : List ℤ
@@ -85,10 +97,7 @@ refused file n v =
     record {
       verdict = v;
       part = part file v;
-      truncation = 0;
-      mean = 0;
-      premium = pos 0;
-      within = 0;
+      figures = noFigures;
       D = replicate (n .D) (pos 0);
       H = replicate (n .H) 0;
       f = replicate (n .f) (pos 0);
@@ -102,16 +111,12 @@ lent blank n values = values ++ replicate (n - length values) blank
 unfoldable pub accepted : Fund → List Life → Lengths → Answer
 accepted fund ms n =
     let X = fund .horizon in
-    let M = fund .deductible in
     let ts = fundTerms fund ms in
     let cells = fundCells fund ms in
     record {
       verdict = Accepted;
       part = empty;
-      truncation = fundTruncation fund ms;
-      mean = fundMean fund ms;
-      premium = premium M (fundMean fund ms) cells;
-      within = within M (fundTruncation fund ms) cells;
+      figures = fundFigures fund ms;
       D = lent (pos 0) (n .D) (table (suc X) (D ts));
       H = lent 0 (n .H) (table (suc X) (H ts));
       f = lent (pos 0) (n .f) (map (λ (y : Cell). y .f) cells);

@@ -28,6 +28,6 @@ apart file a x = natAbs (pos (fileDenominator file) *ℤ getD (a .f) x (pos 0) -
 -- R(x) + 2×E; and the premium and the exact premium differ by at most the premium's bound." Up to each x the cells' distances
 -- together are at most R(0) + .. + R(x) + 2×E.
 pub record WithinBounds (file : FundFile) (a : Answer) : Type 0 where
-  pub cell : (x : ℕ) → x ≤ file .header .horizon → apart file a x ≤ fileDenominator file * printedBound (a .truncation) (getD (a .R) x 0)
-  pub cells : (x : ℕ) → x ≤ file .header .horizon → sum (suc x) (apart file a) ≤ fileDenominator file * (sum (suc x) (λ y. getD (a .R) y 0) + 2 * a .truncation)
-  pub premium : natAbs (pos (fileDenominator file) *ℤ a .premium -ℤ exactPremiumAt file (a .mean)) ≤ fileDenominator file * a .within
+  pub cell : (x : ℕ) → x ≤ file .header .horizon → apart file a x ≤ fileDenominator file * printedBound (a .figures .truncation) (getD (a .R) x 0)
+  pub cells : (x : ℕ) → x ≤ file .header .horizon → sum (suc x) (apart file a) ≤ fileDenominator file * (sum (suc x) (λ y. getD (a .R) y 0) + 2 * a .figures .truncation)
+  pub premium : natAbs (pos (fileDenominator file) *ℤ a .figures .premium -ℤ exactPremiumAt file (a .figures .mean)) ≤ fileDenominator file * a .figures .within

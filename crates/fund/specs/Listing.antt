@@ -44,11 +44,11 @@ cellLines E x (f ∷ fs) (R ∷ Rs) =
 -- The lines of an accepted fund with horizon X, and "A refusal prints only `refused=number,place`."
 unfoldable pub listed : ℕ → Answer → List ℕ
 listed X a =
-    bytes "truncation=" ++ (joined (decimal (a .truncation)) []
-    ++ (bytes "mean=" ++ (joined (decimal (a .mean)) []
-    ++ (cellLines (a .truncation) 0 (take (suc X) (a .f)) (take (suc X) (a .R))
-    ++ (bytes "premium=" ++ (joined (signed (a .premium)) []
-    ++ (bytes "within=" ++ joined (decimal (a .within)) [])))))))
+    bytes "truncation=" ++ (joined (decimal (a .figures .truncation)) []
+    ++ (bytes "mean=" ++ (joined (decimal (a .figures .mean)) []
+    ++ (cellLines (a .figures .truncation) 0 (take (suc X) (a .f)) (take (suc X) (a .R))
+    ++ (bytes "premium=" ++ (joined (signed (a .figures .premium)) []
+    ++ (bytes "within=" ++ joined (decimal (a .figures .within)) [])))))))
 
 unfoldable pub refusedLine : Refusal → ℕ → List ℕ
 refusedLine why place = bytes "refused=" ++ joined (decimal (numberOf why)) (decimal place ∷ [])

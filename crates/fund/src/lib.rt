@@ -5,6 +5,7 @@ ghost use lib.ListN.{length};
 ghost use Rattle.fund.specs.Limits.{limits};
 ghost use Rattle.fund.specs.Reading.{headerLines};
 ghost use Rattle.fund.specs.Refusals.{numberOf};
+ghost use Rattle.fund.specs.Answer.{noFigures};
 
 // The fund record: the figures of a file's header lines, in their order.
 pub struct Fund {
@@ -58,6 +59,14 @@ pub enum Refusal {
 pub enum Verdict {
     Accepted,
     Refused(Refusal, u64),
+}
+
+// A fund's figures beside its cells: the truncation figure E, the mean, the premium, and the premium's bound.
+pub struct Figures {
+    pub truncation: u64,
+    pub mean: u64,
+    pub premium: i64,
+    pub within: u64,
 }
 
 // Every limit of document 01, by name.
@@ -157,6 +166,18 @@ impl Fund {
             most_truncation: Fund::MOST_TRUNCATION,
             most_bound: Fund::MOST_BOUND,
         }
+    }
+}
+
+// "zero for every figure"
+pub fn no_figures() -> Figures
+    ensures { λ r. ⌜ r ≡ noFigures ⌝ }
+{
+    Figures {
+        truncation: 0,
+        mean: 0,
+        premium: 0,
+        within: 0,
     }
 }
 

@@ -41,7 +41,7 @@ module _ (file : List ℕ) (n : Lengths) (p : Priced) (D : List ℤ) (H : List �
   v : p .verdict ≡ answer file n .verdict
   v = ap (λ (a : Answer). a .verdict) e
 
-  pub hosts : (number place : ℕ) (premium : ℤ) → number ≡ numberIn (p .verdict) → place ≡ placeIn (p .verdict) → premium ≡ p .premium → Hosts file n (given number place (p .start) (p .end - p .start) (p .horizon)) (p .truncation) (p .mean) premium (p .within) D H f R
+  pub hosts : (number place : ℕ) (premium : ℤ) → number ≡ numberIn (p .verdict) → place ≡ placeIn (p .verdict) → premium ≡ p .figures .premium → Hosts file n (given number place (p .start) (p .end - p .start) (p .horizon)) (p .figures .truncation) (p .figures .mean) premium (p .figures .within) D H f R
   hosts number place premium a b c =
       record {
         number = a ∙ ap numberIn v;
@@ -49,10 +49,10 @@ module _ (file : List ℕ) (n : Lengths) (p : Priced) (D : List ℤ) (H : List �
         line = ap (λ (x : Answer). x .part) e;
         inside = omega (arith, k .answers .ordered, k .answers .inside);
         horizon = k .answers .horizon ∙ ap (λ (x : Verdict). horizonWith x (horizonIn (reading file))) v;
-        truncation-is = ap (λ (x : Answer). x .truncation) e;
-        mean-is = ap (λ (x : Answer). x .mean) e;
-        premium-is = c ∙ ap (λ (x : Answer). x .premium) e;
-        within-is = ap (λ (x : Answer). x .within) e;
+        truncation-is = ap (λ (x : Answer). x .figures .truncation) e;
+        mean-is = ap (λ (x : Answer). x .figures .mean) e;
+        premium-is = c ∙ ap (λ (x : Answer). x .figures .premium) e;
+        within-is = ap (λ (x : Answer). x .figures .within) e;
         D-is = ap (λ (x : Answer). x .D) e;
         H-is = ap (λ (x : Answer). x .H) e;
         f-is = ap (λ (x : Answer). x .f) e;

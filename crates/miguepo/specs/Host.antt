@@ -29,10 +29,10 @@ pub record Hosts (file : List ℕ) (n : Lengths) (g : Given) (truncation mean : 
   pub line : record { start = g .start; size = g .size } ≡ answer file n .part
   pub inside : g .start + g .size ≤ length file
   pub horizon : g .horizon ≡ horizonWith (answer file n .verdict) (horizonIn (reading file))
-  pub truncation-is : truncation ≡ answer file n .truncation
-  pub mean-is : mean ≡ answer file n .mean
-  pub premium-is : premium ≡ answer file n .premium
-  pub within-is : within ≡ answer file n .within
+  pub truncation-is : truncation ≡ answer file n .figures .truncation
+  pub mean-is : mean ≡ answer file n .figures .mean
+  pub premium-is : premium ≡ answer file n .figures .premium
+  pub within-is : within ≡ answer file n .figures .within
   pub D-is : D ≡ answer file n .D
   pub H-is : H ≡ answer file n .H
   pub f-is : f ≡ answer file n .f

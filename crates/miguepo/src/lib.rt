@@ -51,10 +51,11 @@ pub extern "C" fn miguepo_price(
     *line_start = priced.start;
     *line_size = priced.end - priced.start;
     *horizon = priced.horizon;
-    *truncation = priced.truncation;
-    *mean = priced.mean;
-    let figure = priced.premium;
-    *premium = figure;
-    *within = priced.within;
+    let figures = priced.figures;
+    *truncation = figures.truncation;
+    *mean = figures.mean;
+    let premium_figure = figures.premium;
+    *premium = premium_figure;
+    *within = figures.within;
     number_of(verdict)
 }

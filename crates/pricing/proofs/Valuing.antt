@@ -53,7 +53,7 @@ outcome-answer file n fund (Refused why place) k = no-line file n why place k
 
 -- what the valuation answers, as the answer of the call
 abbrev pub handed : Valued → ℕ → ℤ → Priced
-handed v X premium = record { verdict = v .verdict; start = 0; end = 0; horizon = X; truncation = v .truncation; mean = v .mean; premium = premium; within = v .within }
+handed v X premium = record { verdict = v .verdict; start = 0; end = 0; horizon = X; figures = record { truncation = v .truncation; mean = v .mean; premium = premium; within = v .within } }
 
 pub under-header : (f g : Fund) (ms : List Life) (n : Lengths) (v : Valued) (a : Answer) → f ≡ g → ValuedAs f ms n v a → ValuedAs g ms n v a
 under-header f g ms n v a e k = subst (λ (x : Fund). ValuedAs x ms n v a) e k

@@ -25,10 +25,7 @@ left p d h f r =
     record {
       verdict = p .verdict;
       part = record { start = p .start; size = p .end - p .start };
-      truncation = p .truncation;
-      mean = p .mean;
-      premium = p .premium;
-      within = p .within;
+      figures = p .figures;
       D = d;
       H = h;
       f = f;

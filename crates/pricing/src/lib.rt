@@ -1,6 +1,7 @@
 // One call prices a fund: from the bytes of its file to its figures and cells, or to the refusal and its line.
 mod lives;
 
+use fund::Figures;
 use fund::Fund;
 use fund::Refusal;
 use fund::Verdict;
@@ -18,10 +19,7 @@ pub struct Priced {
     pub start: usize,
     pub end: usize,
     pub horizon: u64,
-    pub truncation: u64,
-    pub mean: u64,
-    pub premium: i64,
-    pub within: u64,
+    pub figures: Figures,
 }
 
 // The horizon is told of a fund that is accepted.
@@ -58,10 +56,7 @@ fn stopped(
         start: line.start,
         end: line.end,
         horizon: 0,
-        truncation: 0,
-        mean: 0,
-        premium: 0,
-        within: 0,
+        figures: fund::no_figures(),
     }
 }
 
@@ -93,10 +88,12 @@ fn valued(
                 start: 0,
                 end: 0,
                 horizon: horizon_of(outcome, fund.horizon),
-                truncation: value.truncation,
-                mean: value.mean,
-                premium: value.premium,
-                within: value.within,
+                figures: Figures {
+                    truncation: value.truncation,
+                    mean: value.mean,
+                    premium: value.premium,
+                    within: value.within,
+                },
             }
         }
     }

@@ -13,7 +13,7 @@ use Rattle.fund.specs.Reading.{FundFile, Reading, read, stopped, reading}
 use Rattle.fund.specs.Folding.{lives}
 use Rattle.fund.specs.Recursion.{Cell}
 use Rattle.fund.specs.Refusals.{Lengths, verdict}
-use Rattle.fund.specs.Answer.{Answer, fundCells, fundTruncation, refused, lent, accepted, answerOf, answerTo, answer}
+use Rattle.fund.specs.Answer.{Answer, fundCells, fundTruncation, fundFigures, refused, lent, accepted, answerOf, answerTo, answer}
 use Rattle.laws.specs.Accepted.{All, accepts}
 use Rattle.text.specs.Shown.{bounded}
 
@@ -42,7 +42,7 @@ bounded-first (suc n) (R ∷ Rs) h = rw (le-leb R most-bound (h .0), bounded-fir
 
 -- ---- answers
 pub record InRange (a : Answer) : Type 0 where
-  pub truncation : a .truncation ≤ most-truncation
+  pub truncation : a .figures .truncation ≤ most-truncation
   pub bounds : All Narrow (a .R)
 
 refused-in : (file : List ℕ) (n : Lengths) (v : Verdict) → InRange (refused file n v)
@@ -50,7 +50,7 @@ unfolding refused
 refused-in file n v = record { truncation = omega arith; bounds = all-zero (n .R) }
 
 answer-of-in : (file : List ℕ) (n : Lengths) (fund : FundFile) (v : Verdict) → verdict fund n (fundCells (fund .header) (lives fund)) ≡ v → InRange (answerOf file n fund v)
-unfolding answerOf accepted lent fundTruncation
+unfolding answerOf accepted lent fundTruncation fundFigures
 answer-of-in file n fund Accepted e =
     let a = accepts fund n (fundCells (fund .header) (lives fund)) e in
     let Rs = map (λ (y : Cell). y .R) (fundCells (fund .header) (lives fund)) in

@@ -1,4 +1,4 @@
--- What `text::listing` shows of the call's answer is the file's listing (printed-is).
+-- What `text::listing` shows of the call's answer is the file's listing (shown-is).
 use mathlib.Core.Path.{_≡_, refl, sym, _∙_, ap}
 use mathlib.Core.Bool.{Bool, true, false, _&&_}
 use mathlib.Core.List.{List, []}
@@ -17,7 +17,7 @@ use Rattle.fund.specs.Answer.{Answer, answer}
 use Rattle.fund.specs.Listing.{listed, printed, horizonIn, enough, listing}
 use Rattle.laws.specs.Ranges.{read-ranges}
 use Rattle.text.specs.Writing.{Written}
-use Rattle.text.specs.Shown.{room, figures, inRange, shown}
+use Rattle.text.specs.Shown.{room, printing as shownPart, inRange, shown}
 use Rattle.valuation.specs.Valued.{lengths}
 use Rattle.pricing.specs.declared.Priced.{Priced}
 use Rattle.pricing.specs.Priced.{left, horizonWith, Answers}
@@ -57,14 +57,14 @@ horizon-most file Accepted = go (reading file) refl
 
 -- a listing shows the same of a refusal for every horizon
 printed-left : (p : Priced) (d : List ℤ) (h : List ℕ) (f : List ℤ) (r : List ℕ) (X : ℕ) (v : Verdict) →
-    printed (figures (p .verdict) (p .truncation) (p .mean) (p .premium) (p .within) f r) (horizonWith v X) v ≡ printed (left p d h f r) X v
+    printed (shownPart (p .verdict) (p .figures) f r) (horizonWith v X) v ≡ printed (left p d h f r) X v
 unfolding printed listed
 printed-left p d h f r X Accepted = refl
 printed-left p d h f r X (Refused why place) = refl
 
 module _ (file : List ℕ) (p : Priced) (d : List ℤ) (h : List ℕ) (f : List ℤ) (r : List ℕ) (k : Answers file p (left p d h f r) (answer file enough)) where
   abbrev shownFigures : Answer
-  shownFigures = figures (p .verdict) (p .truncation) (p .mean) (p .premium) (p .within) f r
+  shownFigures = shownPart (p .verdict) (p .figures) f r
 
   within : InRange (left p d h f r)
   within = rw (k .answer) (answer-in file enough)
@@ -73,14 +73,14 @@ module _ (file : List ℕ) (p : Priced) (d : List ℤ) (h : List ℕ) (f : List 
   X-most = rw (k .horizon) (horizon-most file (p .verdict))
 
   module _ (lf : length f ≡ suc most-horizon) (lr : length r ≡ suc most-horizon) (size : ℕ) where
-    range-is : inRange (p .truncation) (p .horizon) (length f) r size ≡ leb room size
+    range-is : inRange (p .figures .truncation) (p .horizon) (length f) r size ≡ leb room size
     unfolding inRange
     range-is =
         rw (
           le-leb (p .horizon) most-horizon X-most,
           lt-ltb (p .horizon) (length f) (omega (arith, X-most, lf)),
           lt-ltb (p .horizon) (length r) (omega (arith, X-most, lr)),
-          le-leb (p .truncation) most-truncation (within .truncation),
+          le-leb (p .figures .truncation) most-truncation (within .truncation),
           bounded-first (suc (p .horizon)) r (within .bounds),
         )
         (both (leb room size))
@@ -89,7 +89,7 @@ module _ (file : List ℕ) (p : Priced) (d : List ℤ) (h : List ℕ) (f : List 
         both true = refl
         both false = refl
 
-    shown-is : shown shownFigures (p .horizon) size ≡ shownOf file size
+    pub shown-is : shown shownFigures (p .horizon) size ≡ shownOf file size
     unfolding shown listing
     shown-is =
         rw range-is
@@ -97,6 +97,3 @@ module _ (file : List ℕ) (p : Priced) (d : List ℤ) (h : List ℕ) (f : List 
         (ap (λ (X : ℕ). printed shownFigures X (p .verdict)) (k .horizon)
         ∙ printed-left p d h f r (horizonIn (reading file)) (p .verdict)
         ∙ ap (λ (a : Answer). printed a (horizonIn (reading file)) (a .verdict)) (k .answer)))
-
-    pub printed-is : (premium : ℤ) → premium ≡ p .premium → shown (figures (p .verdict) (p .truncation) (p .mean) premium (p .within) f r) (p .horizon) size ≡ shownOf file size
-    printed-is premium e = ap (λ (z : ℤ). shown (figures (p .verdict) (p .truncation) (p .mean) z (p .within) f r) (p .horizon) size) e ∙ shown-is

@@ -19,17 +19,8 @@ pub fn print(file: &[u8], text: &mut [u8]) -> usize
     let priced = pricing::price(file, &mut transform, &mut h, &mut f, &mut r);
     let verdict = priced.verdict;
     let horizon = priced.horizon as usize;
-    text::listing(
-        verdict,
-        priced.truncation,
-        priced.mean,
-        priced.premium,
-        priced.within,
-        horizon,
-        &f,
-        &r,
-        text,
-    )
+    let figures = priced.figures;
+    text::listing(verdict, figures, horizon, &f, &r, text)
 }
 
 // Writes the listing of a file to standard output; whether all of it was written.

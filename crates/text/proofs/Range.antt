@@ -5,19 +5,18 @@ use mathlib.Core.List.{List, [], append-assoc}
 use Prim.Native.Nat.{ℕ, suc, _+_, _≤_, _<_}
 use native.Mathlib.Numerals.{add-one}
 use native.Mathlib.Omega.{arith}
-use borrow.Author.Tests.{leb-true, ltb-true, le-leb, lt-ltb}
+use borrow.Author.Tests.{leb-true, ltb-true}
 use lib.Dec.{leb, ltb}
 use lib.IntN.{ℤ}
 use lib.ListN.{length, take}
 use lib.Seq.{length-take-le}
 use Rattle.fund.specs.declared.Refusal.{Refusal}
-use Rattle.fund.specs.declared.Verdict.{Verdict}
 use Rattle.fund.specs.declared.Verdict.the-variants.{Accepted, Refused}
 use Rattle.fund.specs.Base.{if_then_else_}
 use Rattle.fund.specs.Limits.{most-horizon, most-truncation}
 use Rattle.fund.specs.Answer.{Answer}
 use Rattle.fund.specs.Listing.{printed, listed, refusedLine}
-use Rattle.text.specs.Shown.{room, figures, bounded, inRange, shown}
+use Rattle.text.specs.Shown.{room, bounded, inRange, shown}
 use Rattle.text.specs.Pieces.{head, foot, lines, Given}
 use Rattle.text.proofs.Pieces.{and-left, and-right}
 
@@ -45,11 +44,6 @@ in-range E X cells R size e =
       bounds = and-right (leb room size) _ e₄;
     }
 
-range-in : {E X cells : ℕ} {R : List ℕ} {size : ℕ} → InRange E X cells R size → inRange E X cells R size ≡ true
-unfolding inRange
-range-in h =
-    simp (le-leb _ _ (h .horizon), lt-ltb _ _ (h .enough-f), lt-ltb _ _ (h .enough-R), le-leb _ _ (h .truncation), le-leb _ _ (h .enough-text)) (h .bounds)
-
 -- The figures of the cells 0 to X.
 pub given : {E X : ℕ} (f : List ℤ) (R : List ℕ) {size : ℕ} → InRange E X (length f) R size → Given E (take (X + 1) f) (take (X + 1) R)
 given {E} {X} f R h =
@@ -58,35 +52,24 @@ given {E} {X} f R h =
     record { counts = n ∙ sym m; most = omega (arith, h .horizon); truncation = h .truncation; bounds = rw add-one (h .bounds) }
 
 module _ (a : Answer) (X size : ℕ) where
-  pub shown-out : inRange (a .truncation) X (length (a .f)) (a .R) size ≡ false → shown a X size ≡ []
+  pub shown-out : inRange (a .figures .truncation) X (length (a .f)) (a .R) size ≡ false → shown a X size ≡ []
   unfolding shown
   shown-out e = ap (λ b. if b then printed a X (a .verdict) else []) e
 
-  pub shown-in : inRange (a .truncation) X (length (a .f)) (a .R) size ≡ true → shown a X size ≡ printed a X (a .verdict)
+  pub shown-in : inRange (a .figures .truncation) X (length (a .f)) (a .R) size ≡ true → shown a X size ≡ printed a X (a .verdict)
   unfolding shown
   shown-in e = ap (λ b. if b then printed a X (a .verdict) else []) e
 
-  listed-lines : listed X a ≡ lines (a .truncation) (a .mean) (a .premium) (a .within) (take (X + 1) (a .f)) (take (X + 1) (a .R))
+  listed-lines : listed X a ≡ lines (a .figures) (take (X + 1) (a .f)) (take (X + 1) (a .R))
   unfolding listed lines head foot
   listed-lines = rw add-one (simp append-assoc)
 
-  pub shown-accepted : inRange (a .truncation) X (length (a .f)) (a .R) size ≡ true → a .verdict ≡ Accepted
-      → shown a X size ≡ lines (a .truncation) (a .mean) (a .premium) (a .within) (take (X + 1) (a .f)) (take (X + 1) (a .R))
+  pub shown-accepted : inRange (a .figures .truncation) X (length (a .f)) (a .R) size ≡ true → a .verdict ≡ Accepted
+      → shown a X size ≡ lines (a .figures) (take (X + 1) (a .f)) (take (X + 1) (a .R))
   unfolding printed
   shown-accepted e v = shown-in e ∙ ap (printed a X) v ∙ listed-lines
 
-  pub shown-refused : (why : Refusal) (place : ℕ) → inRange (a .truncation) X (length (a .f)) (a .R) size ≡ true → a .verdict ≡ Refused why place
+  pub shown-refused : (why : Refusal) (place : ℕ) → inRange (a .figures .truncation) X (length (a .f)) (a .R) size ≡ true → a .verdict ≡ Refused why place
       → shown a X size ≡ refusedLine why place
   unfolding printed
   shown-refused why place e v = shown-in e ∙ ap (printed a X) v
-
--- For whoever calls `listing` with the figures of an answer: what is written is that answer's listing.
-printed-figures : (a : Answer) (X : ℕ) (v : Verdict)
-    → printed (figures (a .verdict) (a .truncation) (a .mean) (a .premium) (a .within) (a .f) (a .R)) X v ≡ printed a X v
-unfolding printed listed
-printed-figures a X Accepted = refl
-printed-figures a X (Refused why place) = refl
-
-pub shown-answer : (a : Answer) (X size : ℕ) → InRange (a .truncation) X (length (a .f)) (a .R) size
-    → shown (figures (a .verdict) (a .truncation) (a .mean) (a .premium) (a .within) (a .f) (a .R)) X size ≡ printed a X (a .verdict)
-shown-answer a X size h = shown-in _ X size (range-in h) ∙ printed-figures a X (a .verdict)

@@ -7,6 +7,7 @@ use lib.IntN.{ℤ, pos, negsuc}
 use lib.ListN.{length, length-append}
 use mir.Syntax.{w64}
 use mir.Val.{SFits}
+use Rattle.fund.specs.declared.Figures.{Figures}
 use Rattle.fund.specs.declared.Refusal.{Refusal}
 use Rattle.fund.specs.Base.{bytes}
 use Rattle.fund.specs.Refusals.{numberOf}
@@ -29,13 +30,13 @@ unfolding cellLine joined bytes
 cell-size x f bound h g b =
     simp length-append (omega (arith, decimal-length 3 x (omega arith), signed-word f g, decimal-word bound b))
 
-pub head-size : (E mean : ℕ) → E < 2 ^ 64 → mean < 2 ^ 64 → length (head E mean) ≤ 58
+pub head-size : (a : Figures) → a .truncation < 2 ^ 64 → a .mean < 2 ^ 64 → length (head a) ≤ 58
 unfolding head joined bytes
-head-size E mean h g = simp length-append (omega (arith, decimal-word E h, decimal-word mean g))
+head-size a h g = simp length-append (omega (arith, decimal-word (a .truncation) h, decimal-word (a .mean) g))
 
-pub foot-size : (premium : ℤ) (within : ℕ) → SFits w64 premium → within < 2 ^ 64 → length (foot premium within) ≤ 58
+pub foot-size : (a : Figures) → SFits w64 (a .premium) → a .within < 2 ^ 64 → length (foot a) ≤ 58
 unfolding foot joined bytes
-foot-size premium within h g = simp length-append (omega (arith, signed-word premium h, decimal-word within g))
+foot-size a h g = simp length-append (omega (arith, signed-word (a .premium) h, decimal-word (a .within) g))
 
 pub refusal-room : {text : List ℕ} (why : Refusal) (place n : ℕ) → n ≡ numberOf why → n < 2 ^ 64 → place < 2 ^ 64 → room ≤ length text
     → Room text 0 (refusedLine why place)

@@ -5,6 +5,7 @@ use mathlib.Core.List.{List, [], _∷_, _++_}
 use Prim.Native.Nat.{ℕ, suc, _≤_}
 use lib.IntN.{ℤ}
 use lib.ListN.{length}
+use Rattle.fund.specs.declared.Figures.{Figures}
 use Rattle.fund.specs.Base.{bytes}
 use Rattle.fund.specs.Limits.{most-horizon, most-truncation}
 use Rattle.fund.specs.Listing.{decimal, signed, joined, cellLines}
@@ -15,15 +16,15 @@ unfoldable pub cellLine : ℕ → ℤ → ℕ → List ℕ
 cellLine x f bound = bytes "cell=" ++ joined (decimal x) (signed f ∷ decimal bound ∷ [])
 
 -- The lines before the cells, and the lines behind them.
-unfoldable pub head : ℕ → ℕ → List ℕ
-head truncation mean = (bytes "truncation=" ++ joined (decimal truncation) []) ++ (bytes "mean=" ++ joined (decimal mean) [])
+unfoldable pub head : Figures → List ℕ
+head a = (bytes "truncation=" ++ joined (decimal (a .truncation)) []) ++ (bytes "mean=" ++ joined (decimal (a .mean)) [])
 
-unfoldable pub foot : ℤ → ℕ → List ℕ
-foot premium within = (bytes "premium=" ++ joined (signed premium) []) ++ (bytes "within=" ++ joined (decimal within) [])
+unfoldable pub foot : Figures → List ℕ
+foot a = (bytes "premium=" ++ joined (signed (a .premium)) []) ++ (bytes "within=" ++ joined (decimal (a .within)) [])
 
--- The lines of an accepted fund, from the figures of its cells.
-unfoldable pub lines : ℕ → ℕ → ℤ → ℕ → List ℤ → List ℕ → List ℕ
-lines E mean premium within f R = head E mean ++ (cellLines E 0 f R ++ foot premium within)
+-- The lines of an accepted fund, from its figures and its cells.
+unfoldable pub lines : Figures → List ℤ → List ℕ → List ℕ
+lines a f R = head a ++ (cellLines (a .truncation) 0 f R ++ foot a)
 
 -- The figures of the cells are as many as there are cells, and in range.
 pub record Given (E : ℕ) (f : List ℤ) (R : List ℕ) : Type 0 where

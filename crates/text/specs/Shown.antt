@@ -5,6 +5,7 @@ use Prim.Native.Nat.{ℕ, suc}
 use lib.Dec.{leb, ltb}
 use lib.IntN.{ℤ}
 use lib.ListN.{length, take}
+use Rattle.fund.specs.declared.Figures.{Figures}
 use Rattle.fund.specs.declared.Verdict.{Verdict}
 use Rattle.fund.specs.Base.{if_then_else_}
 use Rattle.fund.specs.Limits.{most-horizon, most-truncation, most-bound}
@@ -15,21 +16,9 @@ use Rattle.fund.specs.Listing.{printed}
 abbrev pub room : ℕ
 room = 217204
 
--- The answer with the figures that are printed.
-abbrev pub figures : Verdict → ℕ → ℕ → ℤ → ℕ → List ℤ → List ℕ → Answer
-figures verdict truncation mean premium within f R =
-    record {
-      verdict = verdict;
-      part = empty;
-      truncation = truncation;
-      mean = mean;
-      premium = premium;
-      within = within;
-      D = [];
-      H = [];
-      f = f;
-      R = R;
-    }
+-- What is printed of an answer.
+abbrev pub printing : Verdict → Figures → List ℤ → List ℕ → Answer
+printing verdict figures f R = record { verdict = verdict; part = empty; figures = figures; D = []; H = []; f = f; R = R }
 
 -- No R(x) is above its limit.
 unfoldable pub bounded : List ℕ → Bool
@@ -42,4 +31,4 @@ inRange E X cells R size =
     leb X most-horizon && (ltb X cells && (ltb X (length R) && (leb E most-truncation && (leb room size && bounded (take (suc X) R)))))
 
 unfoldable pub shown : Answer → ℕ → ℕ → List ℕ
-shown a X size = if inRange (a .truncation) X (length (a .f)) (a .R) size then printed a X (a .verdict) else []
+shown a X size = if inRange (a .figures .truncation) X (length (a .f)) (a .R) size then printed a X (a .verdict) else []

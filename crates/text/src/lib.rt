@@ -1,4 +1,5 @@
 // The bytes of a listing. Each private function writes one piece into a text from a place on, and returns the place behind it.
+use fund::Figures;
 use fund::Fund;
 use fund::Refusal;
 use fund::Verdict;
@@ -10,7 +11,7 @@ ghost use lib.ListN.{length};
 ghost use Rattle.fund.specs.Listing.{decimal, signed, joined, cellLines, refusedLine};
 ghost use Rattle.text.specs.Writing.{Room, Put, Written};
 ghost use Rattle.text.specs.Pieces.{cellLine, head, foot, lines, Given};
-ghost use Rattle.text.specs.Shown.{room, figures, bounded, inRange, shown};
+ghost use Rattle.text.specs.Shown.{room, printing, bounded, inRange, shown};
 
 // Bytes enough for every listing.
 pub const ROOM: usize = 217204;
@@ -19,10 +20,7 @@ pub const ROOM: usize = 217204;
 // text is too short, it writes nothing.
 pub fn listing(
     verdict: Verdict,
-    truncation: u64,
-    mean: u64,
-    premium: i64,
-    within: u64,
+    figures: Figures,
     horizon: usize,
     f: &[i64],
     r: &[u64],
@@ -30,23 +28,15 @@ pub fn listing(
 ) -> usize
     ensures { λ size. ⌜
         Written
-        (shown (figures verdict truncation mean premium within (now (f .entry)) (now (r .entry))) horizon (length (now (text .entry))))
+        (shown (printing verdict figures (now (f .entry)) (now (r .entry))) horizon (length (now (text .entry))))
         (now (text .entry)) (now (text .exit)) size ⌝ }
 {
-    if !in_range(truncation, horizon, f.len(), r, text.len()) {
+    if !in_range(figures.truncation, horizon, f.len(), r, text.len()) {
         return 0;
     }
     let count = horizon + 1;
     match verdict {
-        Verdict::Accepted => put_accepted(
-            truncation,
-            mean,
-            premium,
-            within,
-            &f[..count],
-            &r[..count],
-            text,
-        ),
+        Verdict::Accepted => put_accepted(figures, &f[..count], &r[..count], text),
         Verdict::Refused(why, place) => put_refusal(why, place, text),
     }
 }
@@ -174,40 +164,32 @@ fn put_cells(truncation: u64, f: &[i64], r: &[u64], text: &mut [u8], at: usize) 
 }
 
 // Writes the lines before the cells.
-fn put_head(truncation: u64, mean: u64, text: &mut [u8]) -> usize
-    requires { ⌜ Room (now text) 0 (head truncation mean) ⌝ }
-    ensures { λ next. ⌜ Put (now (text .entry)) 0 (head truncation mean) (now (text .exit)) next ⌝ }
+fn put_head(figures: Figures, text: &mut [u8]) -> usize
+    requires { ⌜ Room (now text) 0 (head figures) ⌝ }
+    ensures { λ next. ⌜ Put (now (text .entry)) 0 (head figures) (now (text .exit)) next ⌝ }
 {
-    let next = put_line(b"truncation=", truncation, text, 0);
-    put_line(b"mean=", mean, text, next)
+    let next = put_line(b"truncation=", figures.truncation, text, 0);
+    put_line(b"mean=", figures.mean, text, next)
 }
 
 // Writes the lines behind the cells.
-fn put_foot(premium: i64, within: u64, text: &mut [u8], at: usize) -> usize
-    requires { ⌜ Room (now text) at (foot premium within) ⌝ }
-    ensures { λ next. ⌜ Put (now (text .entry)) at (foot premium within) (now (text .exit)) next ⌝ }
+fn put_foot(figures: Figures, text: &mut [u8], at: usize) -> usize
+    requires { ⌜ Room (now text) at (foot figures) ⌝ }
+    ensures { λ next. ⌜ Put (now (text .entry)) at (foot figures) (now (text .exit)) next ⌝ }
 {
     let figure = put_key(b"premium=", text, at);
-    let next = put_signed_figure(premium, b'\n', text, figure);
-    put_line(b"within=", within, text, next)
+    let next = put_signed_figure(figures.premium, b'\n', text, figure);
+    put_line(b"within=", figures.within, text, next)
 }
 
 // Writes the lines of an accepted fund.
-fn put_accepted(
-    truncation: u64,
-    mean: u64,
-    premium: i64,
-    within: u64,
-    f: &[i64],
-    r: &[u64],
-    text: &mut [u8],
-) -> usize
-    requires { ⌜ Given truncation (now f) (now r) × (room ≤ length (now text)) ⌝ }
-    ensures { λ size. ⌜ Written (lines truncation mean premium within (now (f .entry)) (now (r .entry))) (now (text .entry)) (now (text .exit)) size ⌝ }
+fn put_accepted(figures: Figures, f: &[i64], r: &[u64], text: &mut [u8]) -> usize
+    requires { ⌜ Given (figures .truncation) (now f) (now r) × (room ≤ length (now text)) ⌝ }
+    ensures { λ size. ⌜ Written (lines figures (now (f .entry)) (now (r .entry))) (now (text .entry)) (now (text .exit)) size ⌝ }
 {
-    let cells = put_head(truncation, mean, text);
-    let foot = put_cells(truncation, f, r, text, cells);
-    put_foot(premium, within, text, foot)
+    let cells = put_head(figures, text);
+    let foot = put_cells(figures.truncation, f, r, text, cells);
+    put_foot(figures, text, foot)
 }
 
 // Writes the line of a refusal.

@@ -21,7 +21,7 @@ use Rattle.fund.specs.Transform.{D, H, load, mean}
 use Rattle.fund.specs.Recursion.{Cell}
 use Rattle.fund.specs.Premium.{premium, within}
 use Rattle.fund.specs.Refusals.{Lengths, first, wide, refuse, valued}
-use Rattle.fund.specs.Answer.{fundTerms, fundStart, fundCells, fundTruncation, fundMean, lent, accepted}
+use Rattle.fund.specs.Answer.{fundTerms, fundStart, fundCells, fundTruncation, fundMean, fundFigures, lent, accepted}
 use Rattle.laws.specs.Tables.{length-table, getD-table, map-table}
 use Rattle.laws.specs.Slices.{table-ext, lent-is}
 use Rattle.laws.specs.Valued.{first-none-of, first-some-of, valued-rest, narrow-cell, wide-cell, long-enough}
@@ -129,7 +129,7 @@ module _ (ms : List Life) (l : Members ms) (fund : Fund) (h : HeaderIn fund) (n 
         PricedAs (fund .deductible) m figure f′ r′ p → pr ≡ p .premium →
         left (record { inside = true; verdict = Accepted; truncation = figure; mean = m; premium = pr; within = p .within }) td th f′ r′
         ≡ outcome fund ms n (valued fund ms n (fundCells fund ms))
-    unfolding accepted fundMean
+    unfolding accepted fundFigures fundMean
     answers-accepted ds td hs th z d-is h-is figure m pr p t-is m-is priced pr-is =
         rw (d-lent, h-lent, f-lent, r-lent, pr-of, p-of, t-is, m-is, valued-accepted)
       where

@@ -24,10 +24,7 @@ left v d h f r =
     record {
       verdict = v .verdict;
       part = empty;
-      truncation = v .truncation;
-      mean = v .mean;
-      premium = v .premium;
-      within = v .within;
+      figures = record { truncation = v .truncation; mean = v .mean; premium = v .premium; within = v .within };
       D = d;
       H = h;
       f = f;

@@ -1,7 +1,8 @@
 -- What `pricing::price` answers is handed over.
-use borrow.Author.Needs.{needs, sfits-of}
+use mathlib.Core.Path.{_≡_}
+use borrow.Author.Needs.{needs}
 use mir.Syntax.{w64}
-use mir.Facts.{toZ-ofZ}
+use mir.Val.{toZ, ofZ}
 use Rattle.miguepo.proofs.Hosting.{hosts}
 use Rattle.miguepo.proofs.miguepo_price.Statement.{statement}
 use Rattle.miguepo.proofs.miguepo_price.Tie as tie
@@ -32,10 +33,11 @@ same-length-4 c = search needs
 
 returns : tie.Need-returns
 returns c =
-    let p = c .before .before .before .before .before .before .before .before .before .before .price in
+    let place = c .before .before .before .before in
+    let p = place .before .before .before .before .before .before .before .price in
     let o = p .last .1 in
-    hosts _ _ (p .result) (o .0) (o .1 .0) (o .1 .1 .0) (o .1 .1 .1 .0) (p .ensures) _ _ _ (c .number-of .ensures) (c .before .before .before .place-of .ensures)
-    (toZ-ofZ (sfits-of {w = w64} (p .ok .1 .1 .1 .1 .1 .1 .1 .1 .0 .1)))
+    let same : toZ w64 (ofZ w64 (p .result .figures .premium)) ≡ p .result .figures .premium = search needs in
+    hosts _ _ (p .result) (o .0) (o .1 .0) (o .1 .1 .0) (o .1 .1 .1 .0) (p .ensures) _ _ _ (c .number-of .ensures) (place .place-of .ensures) same
 
 pub miguepo-price-spec : {M : Type 1} → statement M
 miguepo-price-spec =

@@ -20,6 +20,9 @@ clear-requires-2 c κs = search needs
 part-of-requires : tie.Need-part-of-requires
 part-of-requires c κs = search needs
 
+no-figures-requires : tie.Need-no-figures-requires
+no-figures-requires c κs = search needs
+
 same-length : tie.Need-same-length
 same-length c = search needs
 
@@ -34,16 +37,18 @@ same-length-4 c = search needs
 
 returns : tie.Need-returns
 returns c =
-    let clear-f = c .before .before .before .before .before .before in
+    let clear-r = c .before .before .before .before in
+    let clear-f = clear-r .before .before .before in
     let clear-h = clear-f .before .before .before .before in
     let clear-d = clear-h .before .before .before in
     let a = clear-d .before .before .before .before .before .args in
     let n = lengths (a .transform .now) (a .h .now) (a .f .now) (a .r .now) in
-    stopped-answers (a .file .now) (a .why) (a .place) (c .part-of .result) n _ _ _ _ (c .part-of .ensures)
+    stopped-answers (a .file .now) (a .why) (a .place) _ _ n _ _ _ _ (c .before .part-of .ensures)
     (clear-d .clear-signed .ensures)
     (clear-h .clear .ensures)
     (clear-f .clear-signed2 .ensures)
-    (c .before .before .before .clear2 .ensures)
+    (clear-r .clear2 .ensures)
+    (c .no-figures .ensures)
 
 pub stopped-spec : {M : Type 1} → statement M
 stopped-spec =
@@ -54,6 +59,7 @@ stopped-spec =
     clear-signed-requires-2
     clear-requires-2
     part-of-requires
+    no-figures-requires
     same-length
     same-length-2
     same-length-3

@@ -2,15 +2,13 @@
 use mathlib.Core.Path.{_∙_, subst}
 use mathlib.Core.List.{List}
 use Prim.Native.Nat.{ℕ}
-use borrow.Author.Needs.{needs, sfits-of}
-use mir.Syntax.{w64}
-use mir.Facts.{toZ-ofZ}
+use borrow.Author.Needs.{needs}
 use lib.ListN.{length}
 use Rattle.fund.specs.Refusals.{Lengths}
 use Rattle.fund.specs.Answer.{answer}
 use Rattle.text.specs.Writing.{Written}
 use Rattle.pricing.specs.Priced.{left, Answers}
-use Rattle.printing.proofs.Printing.{written-within, cells-length, signed-length, enough-lent, printed-is}
+use Rattle.printing.proofs.Printing.{written-within, cells-length, signed-length, enough-lent, shown-is}
 use Rattle.printing.proofs.print.Statement.{statement}
 use Rattle.printing.proofs.print.Tie as tie
 
@@ -48,8 +46,8 @@ returns c =
     let l = c .before .before .listing in
     let o = p .last .1 in
     let answers = subst (λ (n : Lengths). Answers (a .file .now) (p .result) (left (p .result) (o .0) (o .1 .0) (o .1 .1 .0) (o .1 .1 .1 .0)) (answer (a .file .now) n)) enough-lent (p .ensures .answers) in
-    let w = subst (λ (t : List ℕ). Written t (a .text .now) (l .last .1 .1 .1 .1 .1 .1 .1 .1 .0) (l .result))
-    (printed-is (a .file .now) (p .result) (o .0) (o .1 .0) (o .1 .1 .0) (o .1 .1 .1 .0) answers (p .kept .1 .1 .1 .0 ∙ signed-length) (p .kept .1 .1 .1 .1 .0 ∙ cells-length) (length (a .text .now)) _ (toZ-ofZ (sfits-of {w = w64} (p .ok .1 .1 .1 .1 .1 .1 .1 .1 .0 .1))))
+    let w = subst (λ (t : List ℕ). Written t (a .text .now) (l .last .1 .1 .1 .1 .1 .0) (l .result))
+    (shown-is (a .file .now) (p .result) (o .0) (o .1 .0) (o .1 .1 .0) (o .1 .1 .1 .0) answers (p .kept .1 .1 .1 .0 ∙ signed-length) (p .kept .1 .1 .1 .1 .0 ∙ cells-length) (length (a .text .now)))
     (l .ensures) in
     (w, written-within w)
 

@@ -5,7 +5,6 @@ use native.Mathlib.Omega.{arith}
 use borrow.Author.Tests.{not-true, not-false}
 use lib.ListN.{length}
 use lib.Seq.{length-take-le}
-use mir.Facts.{toZ-ofZ}
 use Rattle.text.specs.Shown.{inRange}
 use Rattle.text.proofs.Putting.{written-none, written-as}
 use Rattle.text.proofs.Range.{InRange, in-range, given, shown-out, shown-accepted, shown-refused}
@@ -17,10 +16,10 @@ in-range-requires : tie.Need-in-range-requires
 in-range-requires c κs = search needs
 
 -- Past the range test.
-test : (c : tie.Else1) → let a = c .before .before .before .before .args in inRange (a .truncation) (a .horizon) (length (a .f .now)) (a .r .now) (length (a .text .now)) ≡ true
+test : (c : tie.Else1) → let a = c .before .before .before .before .args in inRange (a .figures .truncation) (a .horizon) (length (a .f .now)) (a .r .now) (length (a .text .now)) ≡ true
 test c = sym (c .before .in-range .ensures) ∙ not-false _ (c .if1 .left)
 
-range : (c : tie.Else1) → let a = c .before .before .before .before .args in InRange (a .truncation) (a .horizon) (length (a .f .now)) (a .r .now) (length (a .text .now))
+range : (c : tie.Else1) → let a = c .before .before .before .before .args in InRange (a .figures .truncation) (a .horizon) (length (a .f .now)) (a .r .now) (length (a .text .now))
 range c = in-range _ _ _ _ _ (test c)
 
 returns : tie.Need-returns
@@ -51,12 +50,10 @@ returns-2 : tie.Need-returns-2
 returns-2 c =
     let p = c .before .before in
     let told = p .before .before .before .before in
-    let s = told .before .before .before .before .before .before in
-    written-as _ (shown-accepted _ _ _ (test (told .before .before)) (told .enum-told .given .1))
-    (rw (toZ-ofZ (s .fits .premium)) at (p .put-accepted .ensures))
+    written-as _ (shown-accepted _ _ _ (test (told .before .before)) (told .enum-told .given .1)) (p .put-accepted .ensures)
 
 same-length : tie.Need-same-length
-same-length c = c .before .before .put-accepted .kept .1 .1 .1 .1 .1 .1 .0
+same-length c = search needs
 
 returns-3 : tie.Need-returns-3
 returns-3 c =
@@ -65,7 +62,7 @@ returns-3 c =
     written-as _ (shown-refused _ _ _ _ _ (test (told .before .before)) (told .verdict .given .1)) (p .put-refusal .ensures)
 
 same-length-2 : tie.Need-same-length-2
-same-length-2 c = c .before .before .put-refusal .kept .1 .1 .0
+same-length-2 c = search needs
 
 pub listing-spec : {M : Type 1} → statement M
 listing-spec =

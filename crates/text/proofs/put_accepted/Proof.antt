@@ -3,18 +3,18 @@ use mathlib.Core.Path.{_∙_}
 use Prim.Native.Nat.{_≤_}
 use lib.ListN.{length}
 use native.Mathlib.Omega.{arith}
-use mir.Facts.{toZ-ofZ}
+use borrow.Author.Needs.{needs}
 use Rattle.text.specs.Pieces.{head, foot, lines}
 use Rattle.text.proofs.Putting.{put-length, put-then, put-written}
 use Rattle.text.proofs.Sizes.{head-size, foot-size}
 use Rattle.text.proofs.put_accepted.Statement.{statement}
 use Rattle.text.proofs.put_accepted.Tie as tie
 
-head-small : (s : tie.Start) → length (head (s .args .truncation) (s .args .mean)) ≤ 58
-head-small s = head-size _ _ (s .fits .truncation .fits) (s .fits .mean .fits)
+head-small : (s : tie.Start) → length (head (s .args .figures)) ≤ 58
+head-small s = head-size (s .args .figures) (search needs) (search needs)
 
-foot-small : (s : tie.Start) → length (foot (s .args .premium) (s .args .within)) ≤ 58
-foot-small s = foot-size _ _ (s .fits .premium) (s .fits .within .fits)
+foot-small : (s : tie.Start) → length (foot (s .args .figures)) ≤ 58
+foot-small s = foot-size (s .args .figures) (search needs) (search needs)
 
 put-head-requires : tie.Need-put-head-requires
 put-head-requires c κs =
@@ -35,9 +35,7 @@ put-foot-requires c κs =
     let s = h .before .before .before .before in
     let p = h .put-head .ensures in
     let q = x .put-cells .ensures in
-    rw (toZ-ofZ (s .fits .premium)) (record {
-      fits = omega (arith, s .pre .1, s .pre .0 .most, head-small s, foot-small s, p .behind, put-length p, q .1, put-length (q .0));
-    })
+    record { fits = omega (arith, s .pre .1, s .pre .0 .most, head-small s, foot-small s, p .behind, put-length p, q .1, put-length (q .0)) }
 
 returns : tie.Need-returns
 unfolding lines
@@ -48,17 +46,13 @@ returns c =
     let s = h .before .before .before .before in
     let p = h .put-head .ensures in
     let q = x .put-cells .ensures in
-    let r = rw (toZ-ofZ (s .fits .premium)) at (e .put-foot .ensures) in
+    let r = e .put-foot .ensures in
     put-written
     (omega (arith, s .pre .1, s .pre .0 .most, head-small s, foot-small s, p .behind, q .1, r .behind))
     (put-then p (put-then (q .0) r))
 
 same-length : tie.Need-same-length
-same-length c =
-    let e = c .before .before in
-    let x = e .before .before .before .before in
-    let h = x .before .before .before .before in
-    e .put-foot .kept .1 .1 .0 ∙ x .put-cells .kept .1 .1 .1 .0 ∙ h .put-head .kept .1 .1 .0
+same-length c = search needs
 
 pub put-accepted-spec : {M : Type 1} → statement M
 put-accepted-spec =

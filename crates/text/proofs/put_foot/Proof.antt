@@ -1,5 +1,7 @@
 -- `text::put_foot` meets its contract: the premium's key and figure, and the line of its bound.
-use mir.Facts.{toZ-ofZ}
+use mathlib.Core.Path.{_≡_}
+use mir.Syntax.{w64}
+use mir.Val.{toZ, ofZ}
 use Rattle.fund.specs.Base.{bytes}
 use Rattle.fund.specs.Listing.{joined}
 use Rattle.text.specs.Pieces.{foot}
@@ -7,6 +9,9 @@ use Rattle.text.proofs.Putting.{put-length, put-then, room-first, room-
 use borrow.Author.Needs.{needs}
 use Rattle.text.proofs.put_foot.Statement.{statement}
 use Rattle.text.proofs.put_foot.Tie as tie
+
+premium-same : (s : tie.Start) → toZ w64 (ofZ w64 (s .args .figures .premium)) ≡ s .args .figures .premium
+premium-same s = search needs
 
 slice-aggregate-put-key : tie.Need-slice-aggregate-put-key
 slice-aggregate-put-key c = search needs
@@ -18,9 +23,9 @@ put-key-requires c κs = room-first (bytes "premium=") _ (c .before .before .bef
 put-signed-figure-requires : tie.Need-put-signed-figure-requires
 unfolding foot joined bytes
 put-signed-figure-requires c κs =
-    let key = c .before .before .before in
+    let key = c .before .before .before .before in
     let s = key .before .before .before .before in
-    rw (toZ-ofZ (s .fits .premium)) (room-first _ _ (room-then (bytes "premium=") _ (s .pre) (key .put-key .ensures)))
+    rw (premium-same s) (room-first _ _ (room-then (bytes "premium=") _ (s .pre) (key .put-key .ensures)))
 
 slice-aggregate-put-line : tie.Need-slice-aggregate-put-line
 slice-aggregate-put-line c = search needs
@@ -29,18 +34,18 @@ put-line-requires : tie.Need-put-line-requires
 unfolding foot joined bytes
 put-line-requires c κs =
     let figure = c .before .before .before .before in
-    let key = figure .before .before .before .before in
+    let key = figure .before .before .before .before .before in
     let s = key .before .before .before .before in
-    room-then _ _ (room-then (bytes "premium=") _ (s .pre) (key .put-key .ensures)) (rw (toZ-ofZ (s .fits .premium)) at (figure .put-signed-figure .ensures))
+    room-then _ _ (room-then (bytes "premium=") _ (s .pre) (key .put-key .ensures)) (rw (premium-same s) at (figure .put-signed-figure .ensures))
 
 returns : tie.Need-returns
 unfolding foot joined bytes
 returns c =
     let line = c .before .before in
     let figure = line .before .before .before .before .before in
-    let key = figure .before .before .before .before in
+    let key = figure .before .before .before .before .before in
     let s = key .before .before .before .before in
-    put-then (key .put-key .ensures) (put-then (rw (toZ-ofZ (s .fits .premium)) at (figure .put-signed-figure .ensures)) (line .put-line .ensures))
+    put-then (key .put-key .ensures) (put-then (rw (premium-same s) at (figure .put-signed-figure .ensures)) (line .put-line .ensures))
 
 same-length : tie.Need-same-length
 same-length c = put-length (returns c)

@@ -13,7 +13,7 @@ slice-aggregate-put-line c = search needs
 
 put-line-requires : tie.Need-put-line-requires
 unfolding head bytes
-put-line-requires c κs = room-first (bytes "truncation=" ++ joined (decimal (c .before .before .before .args .truncation)) []) _ (c .before .before .before .pre)
+put-line-requires c κs = room-first (bytes "truncation=" ++ joined (decimal (c .before .before .before .args .figures .truncation)) []) _ (c .before .before .before .pre)
 
 slice-aggregate-put-line-2 : tie.Need-slice-aggregate-put-line-2
 slice-aggregate-put-line-2 c = search needs
