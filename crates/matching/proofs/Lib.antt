@@ -1,3 +1,3 @@
 pub mod Searching
-pub mod Standing
+pub mod SoFar
 pub mod Answering

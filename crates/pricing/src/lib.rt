@@ -6,6 +6,8 @@ use fund::Fund;
 use fund::Refusal;
 use fund::Verdict;
 use matching::Matched;
+use valuation::clear;
+use valuation::clear_signed;
 ghost use mathlib.Core.Path.{_≡_};
 ghost use Rattle.fund.specs.declared.Verdict;
 ghost use Rattle.fund.specs.Answer.{refused, answer};
@@ -46,10 +48,10 @@ fn stopped(
         (left p (now (transform .exit)) (now (h .exit)) (now (f .exit)) (now (r .exit)))
         (refused (now (file .entry)) (lengths (now (transform .entry)) (now (h .entry)) (now (f .entry)) (now (r .entry))) (Verdict.Refused why place)) ⌝ }
 {
-    valuation::clear_signed(transform);
-    valuation::clear(h);
-    valuation::clear_signed(f);
-    valuation::clear(r);
+    clear_signed(transform);
+    clear(h);
+    clear_signed(f);
+    clear(r);
     let line = reader::part_of(file, Verdict::Refused(why, place));
     Priced {
         verdict: Verdict::Refused(why, place),

@@ -5,5 +5,5 @@ pub mod Lines
 pub mod Headers
 pub mod Rows
 pub mod Steps
-pub mod Standing
+pub mod SoFar
 pub mod Parts

@@ -72,7 +72,7 @@ module _ (file : List ℕ) (at rated enrolled least place : ℕ) (p : place ≡ 
     stop
         : (why : Refusal)
         → ((fund : Fund) (rs : List Rate) (ms : List Member) → length rs ≡ rated → length ms ≡ enrolled → leastAge rs ≡ least →
-            readRows (placeOf (length rs) (length ms)) fund rs ms (lineOf file l ∷ linesAt file (l .next)) ≡ stopped why (placeOf (length rs) (length ms)))
+        readRows (placeOf (length rs) (length ms)) fund rs ms (lineOf file l ∷ linesAt file (l .next)) ≡ stopped why (placeOf (length rs) (length ms)))
         → RowStepped file at rated enrolled least (Stopped why place)
     stop why is =
         record { takes = tt; same = λ fund rs ms a b c. rw (n .first) (is fund rs ms a b c) ∙ ap (stopped why) (here rs ms a b) }

@@ -8,12 +8,12 @@ use lib.ListN.{length}
 use Rattle.fund.specs.Limits.{most-rates, most-members}
 use Rattle.fund.specs.Answer.{lent}
 use Rattle.matching.specs.Matching.{lifeTable}
-use Rattle.matching.proofs.Standing.{Standing, start, lives-long, no-rate, other-rate, its-rate, all-lives}
+use Rattle.matching.proofs.SoFar.{LivesSoFar, start, lives-long, no-rate, other-rate, its-rate, all-lives}
 use Rattle.matching.proofs.lives.lives_of.Statement.{statement}
 use Rattle.matching.proofs.lives.lives_of.Tie as tie
 
 abbrev Inv-loop : tie.InvT-loop
-Inv-loop rated enrolled line rates members lives₀ k₀ j₀ lives k j = Standing rates rated members enrolled line lives k j
+Inv-loop rated enrolled line rates members lives₀ k₀ j₀ lives k j = LivesSoFar rates rated members enrolled line lives k j
 
 abbrev μ-loop : tie.MeasureT-loop
 μ-loop rated enrolled line rates members lives₀ k₀ j₀ lives k j = (enrolled - k) * suc most-rates + (rated - j)

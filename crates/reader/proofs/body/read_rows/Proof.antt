@@ -6,12 +6,12 @@ use borrow.Author.Needs.{needs}
 use lib.ListN.{length, replicate}
 use Rattle.fund.specs.Answer.{lent}
 use Rattle.reader.specs.Read.{rateTable, memberTable}
-use Rattle.reader.proofs.Standing.{Standing, start, rates-long, members-long, rate-taken, member-taken, at-end, at-stop}
+use Rattle.reader.proofs.SoFar.{RowsSoFar, start, rates-long, members-long, rate-taken, member-taken, at-end, at-stop}
 use Rattle.reader.proofs.body.read_rows.Statement.{statement}
 use Rattle.reader.proofs.body.read_rows.Tie as tie
 
 abbrev Inv-loop : tie.InvT-loop
-Inv-loop file fund start rates₀ members₀ rated₀ enrolled₀ least₀ at₀ rates members rated enrolled least at = Standing file fund rates members rated enrolled least at
+Inv-loop file fund start rates₀ members₀ rated₀ enrolled₀ least₀ at₀ rates members rated enrolled least at = RowsSoFar file fund rates members rated enrolled least at
 
 abbrev μ-loop : tie.MeasureT-loop
 μ-loop file fund start rates₀ members₀ rated₀ enrolled₀ least₀ at₀ rates members rated enrolled least at = length file - at

@@ -25,7 +25,7 @@ use Rattle.matching.proofs.Searching.{blankRate, first-here, first-late
 abbrev pub blankMember : Member
 blankMember = record { age = 0; group = 0; d = 0; e = 0 }
 
-pub record Standing (rates : List Rate) (rated : ℕ) (members : List Member) (enrolled line : ℕ) (lives : List Life) (k j : ℕ) : Type 0 where
+pub record LivesSoFar (rates : List Rate) (rated : ℕ) (members : List Member) (enrolled line : ℕ) (lives : List Life) (k j : ℕ) : Type 0 where
   pub members-within : k ≤ enrolled
   pub rates-within : j ≤ rated
   pub lives-are : lives ≡ lifeTable (map (life (take rated rates)) (take k members))
@@ -33,7 +33,7 @@ pub record Standing (rates : List Rate) (rated : ℕ) (members : List Member) (e
   pub no-rate-yet : rateAt (take rated rates) (getD members k blankMember .age) ≡ rateAt (drop j (take rated rates)) (getD members k blankMember .age)
 
 module _ (rates : List Rate) (rated : ℕ) (members : List Member) (enrolled line : ℕ) where
-  pub start : Standing rates rated members enrolled line (lifeTable []) 0 0
+  pub start : LivesSoFar rates rated members enrolled line (lifeTable []) 0 0
   start =
       let z : line ≡ line + 0 = omega arith in
       record {
@@ -44,7 +44,7 @@ module _ (rates : List Rate) (rated : ℕ) (members : List Member) (enrolled lin
         no-rate-yet = refl;
       }
 
-  module _ (few-rates : rated ≤ length rates) (few-members : enrolled ≤ length members) (long : length members ≡ most-members) (lives : List Life) (k j : ℕ) (s : Standing rates rated members enrolled line lives k j) where
+  module _ (few-rates : rated ≤ length rates) (few-members : enrolled ≤ length members) (long : length members ≡ most-members) (lives : List Life) (k j : ℕ) (s : LivesSoFar rates rated members enrolled line lives k j) where
     so-far : length (map (life (take rated rates)) (take k members)) ≡ k
     so-far = length-map (take k members) (life (take rated rates)) ∙ length-take-le k members (omega (arith, s .members-within))
 
@@ -64,7 +64,7 @@ module _ (rates : List Rate) (rated : ℕ) (members : List Member) (enrolled lin
           e ∙ rw (s .all-matched ∙ first-here members enrolled few-members blankMember (unmatched (take rated rates)) line k member-left u)
 
       module _ (rate-left : j < rated) where
-        pub other-rate : (getD rates j blankRate .age ≡ getD members k blankMember .age → ⊥) → Standing rates rated members enrolled line lives k (j + 1)
+        pub other-rate : (getD rates j blankRate .age ≡ getD members k blankMember .age → ⊥) → LivesSoFar rates rated members enrolled line lives k (j + 1)
         other-rate d =
             record {
               members-within = s .members-within;
@@ -74,14 +74,14 @@ module _ (rates : List Rate) (rated : ℕ) (members : List Member) (enrolled lin
               no-rate-yet = s .no-rate-yet ∙ rate-later rates rated few-rates (getD members k blankMember .age) j rate-left d;
             }
 
-        pub its-rate : (x : Life) → getD rates j blankRate .age ≡ getD members k blankMember .age → x ≡ folded (some (getD rates j blankRate)) (getD members k blankMember) → Standing rates rated members enrolled line (set lives k x) (k + 1) 0
+        pub its-rate : (x : Life) → getD rates j blankRate .age ≡ getD members k blankMember .age → x ≡ folded (some (getD rates j blankRate)) (getD members k blankMember) → LivesSoFar rates rated members enrolled line (set lives k x) (k + 1) 0
         unfolding life unmatched lifeTable
         its-rate x e f =
             let found : rateAt (take rated rates) (getD members k blankMember .age) ≡ some (getD rates j blankRate) = s .no-rate-yet ∙ rate-here rates rated few-rates (getD members k blankMember .age) j rate-left e in
             let u : unmatched (take rated rates) (getD members k blankMember) ≡ false = rw (found, unmatched) in
             let is : x ≡ life (take rated rates) (getD members k blankMember) = f ∙ rw found in
             let more : map (life (take rated rates)) (take (k + 1) members) ≡ map (life (take rated rates)) (take k members) ++ (x ∷ []) =
-                rw (add-one k, take-suc members k blankMember (omega arith), map-append, is) in
+            rw (add-one k, take-suc members k blankMember (omega arith), map-append, is) in
             record {
               members-within = omega arith;
               rates-within = omega arith;

@@ -20,7 +20,7 @@ use Rattle.reader.specs.Rows.{leastAge, rowsFrom, RowStepped}
 use Rattle.reader.specs.Read.{noRate, noMember, rateTable, memberTable, fileRead}
 use Rattle.reader.proofs.Rows.{least-last}
 
-pub record Standing (file : List ℕ) (fund : Fund) (rates : List Rate) (members : List Member) (rated enrolled least at : ℕ) : Type 0 where
+pub record RowsSoFar (file : List ℕ) (fund : Fund) (rates : List Rate) (members : List Member) (rated enrolled least at : ℕ) : Type 0 where
   pub rs : List Rate
   pub ms : List Member
   pub rates-are : rates ≡ rateTable rs
@@ -32,7 +32,7 @@ pub record Standing (file : List ℕ) (fund : Fund) (rates : List Rate) (members
   pub least-is : leastAge rs ≡ least
   pub same : reading file ≡ rowsFrom file fund rs ms at
 
-pub start : (file : List ℕ) (fund : Fund) (at : ℕ) → reading file ≡ readRows (suc (length headerLines)) fund [] [] (linesAt file at) → Standing file fund (rateTable []) (memberTable []) 0 0 0 at
+pub start : (file : List ℕ) (fund : Fund) (at : ℕ) → reading file ≡ readRows (suc (length headerLines)) fund [] [] (linesAt file at) → RowsSoFar file fund (rateTable []) (memberTable []) 0 0 0 at
 unfolding leastAge
 start file fund at e =
     let z : suc (length headerLines) ≡ suc (length headerLines + 0 + 0) = omega arith in
@@ -49,7 +49,7 @@ start file fund at e =
       same = e ∙ ap (λ k. readRows k fund [] [] (linesAt file at)) z;
     }
 
-module _ (file : List ℕ) (fund : Fund) (rates : List Rate) (members : List Member) (rated enrolled least at : ℕ) (s : Standing file fund rates members rated enrolled least at) where
+module _ (file : List ℕ) (fund : Fund) (rates : List Rate) (members : List Member) (rated enrolled least at : ℕ) (s : RowsSoFar file fund rates members rated enrolled least at) where
   pub rates-long : length rates ≡ most-rates
   unfolding rateTable
   rates-long = ap length (s .rates-are) ∙ rows-length noRate most-rates (s .rs) (omega (arith, s .rated-is, s .few-rates))
@@ -58,7 +58,7 @@ module _ (file : List ℕ) (fund : Fund) (rates : List Rate) (members : List Mem
   unfolding memberTable
   members-long = ap length (s .members-are) ∙ rows-length noMember most-members (s .ms) (omega (arith, s .enrolled-is, s .few-members))
 
-  pub rate-taken : (r : Rate) (next : ℕ) → RowStepped file at rated enrolled least (RateNext r next) → Standing file fund (set rates rated r) members (rated + 1) enrolled (r .age + 1) next
+  pub rate-taken : (r : Rate) (next : ℕ) → RowStepped file at rated enrolled least (RateNext r next) → RowsSoFar file fund (set rates rated r) members (rated + 1) enrolled (r .age + 1) next
   unfolding rateTable
   rate-taken r next w =
       let few = w .takes .0 .few in
@@ -75,7 +75,7 @@ module _ (file : List ℕ) (fund : Fund) (rates : List Rate) (members : List Mem
         same = s .same ∙ w .same fund (s .rs) (s .ms) (s .rated-is) (s .enrolled-is) (s .least-is);
       }
 
-  pub member-taken : (m : Member) (next : ℕ) → RowStepped file at rated enrolled least (MemberNext m next) → Standing file fund rates (set members enrolled m) rated (enrolled + 1) least next
+  pub member-taken : (m : Member) (next : ℕ) → RowStepped file at rated enrolled least (MemberNext m next) → RowsSoFar file fund rates (set members enrolled m) rated (enrolled + 1) least next
   unfolding memberTable
   member-taken m next w =
       let few = w .takes .few in
