@@ -7,3 +7,4 @@ pub mod Valued
 pub mod Slices
 pub mod Tells
 pub mod Numbers
+pub mod Rows
