@@ -2,18 +2,17 @@
 // Writes each listing, the line that the host is handed, and an empty line.
 use libc::STDIN_FILENO;
 use libc::STDOUT_FILENO;
-
-const MOST: usize = 65536;
+use printing::MOST_BYTES;
 
 fn with_digit(value: usize, byte: u8) -> usize {
-    if MOST < value {
+    if MOST_BYTES < value {
         return value;
     }
     if byte < b'0' {
-        return MOST + 1;
+        return MOST_BYTES + 1;
     }
     if b'9' < byte {
-        return MOST + 1;
+        return MOST_BYTES + 1;
     }
     value * 10 + (byte - b'0') as usize
 }
@@ -71,7 +70,7 @@ fn next_file(file: &mut [u8]) -> bool {
 }
 
 fn main() {
-    let mut file = [0u8; MOST];
+    let mut file = [0u8; MOST_BYTES];
     let mut turns = u64::MAX;
     while turns > 0 && next_file(&mut file) {
         turns -= 1;

@@ -5,36 +5,19 @@ use Prim.Native.Nat.{ℕ, _+_, _-_, _≤_}
 use native.Mathlib.Omega.{arith}
 use lib.IntN.{ℤ}
 use lib.ListN.{length}
-use Rattle.fund.specs.declared.Refusal.{Refusal}
-use Rattle.fund.specs.declared.Refusal.the-variants.{Form, Range, Edition, Deductible, Unmatched, Half, Load, Order, Short, Wide}
-use Rattle.fund.specs.declared.Verdict.{Verdict}
-use Rattle.fund.specs.declared.Verdict.the-variants.{Accepted, Refused}
 use Rattle.fund.specs.Reading.{reading}
-use Rattle.fund.specs.Refusals.{Lengths, numberOf, numberIn, placeIn}
+use Rattle.fund.specs.Refusals.{Lengths, numberIn, placeIn}
 use Rattle.fund.specs.Answer.{Answer, answer}
 use Rattle.fund.specs.Listing.{horizonIn}
 use Rattle.fund.specs.Distance.{WithinBounds}
+use Rattle.laws.specs.Numbers.{zero-accepted}
 use Rattle.pricing.specs.declared.Priced.{Priced}
 use Rattle.pricing.specs.Priced.{left, horizonWith, Prices}
-use Rattle.miguepo.specs.Bits.{bitsOf}
-use Rattle.miguepo.specs.Host.{fields, Hosts}
-
--- no refusal has the number 0
-number-above : (why : Refusal) → 1 ≤ numberOf why
-number-above Form = omega arith
-number-above Range = omega arith
-number-above Edition = omega arith
-number-above Deductible = omega arith
-number-above Unmatched = omega arith
-number-above Half = omega arith
-number-above Load = omega arith
-number-above Order = omega arith
-number-above Short = omega arith
-number-above Wide = omega arith
-
-zero-accepted : (v : Verdict) → numberIn v ≡ 0 → v ≡ Accepted
-zero-accepted Accepted e = refl
-zero-accepted (Refused why place) e = absurd (omega (arith, number-above why, e))
+use mir.Syntax.{w64}
+use mir.Val.{SFits}
+use Rattle.miguepo.specs.Bits.{bitsOf, readSigned}
+use Rattle.miguepo.proofs.Complement.{bits-read}
+use Rattle.miguepo.specs.Host.{resultFields, Hosts}
 
 module _ (file : List ℕ) (n : Lengths) (p : Priced) (D : List ℤ) (H : List ℕ) (f : List ℤ) (R : List ℕ) (k : Prices file n p (left p D H f R)) where
   same : left p D H f R ≡ answer file n
@@ -45,10 +28,11 @@ module _ (file : List ℕ) (n : Lengths) (p : Priced) (D : List ℤ) (H : List �
   handed number place premium =
       number ∷ place ∷ p .start ∷ (p .end - p .start) ∷ p .horizon ∷ p .figures .truncation ∷ p .figures .mean ∷ premium ∷ p .figures .within ∷ []
 
-  pub hosts : (number place premium : ℕ) → number ≡ numberIn (p .verdict) → place ≡ placeIn (p .verdict) → premium ≡ bitsOf (p .figures .premium) → Hosts file n (handed number place premium) D H f R
-  hosts number place premium a b c =
+  pub hosts : (number place premium : ℕ) → number ≡ numberIn (p .verdict) → place ≡ placeIn (p .verdict) → premium ≡ bitsOf (p .figures .premium) → SFits w64 (p .figures .premium) → Hosts file n (handed number place premium) D H f R
+  hosts number place premium a b c fits =
       record {
-        result-is = rw (a, b, c, k .answers .horizon) (ap (λ (x : Answer). fields x (horizonIn (reading file))) same);
+        result-is = rw (a, b, c, k .answers .horizon) (ap (λ (x : Answer). resultFields x (horizonIn (reading file))) same);
+        premium = subst (λ (x : Answer). readSigned (bitsOf (x .figures .premium)) ≡ x .figures .premium) same (bits-read (p .figures .premium) fits);
         inside = subst (λ (x : Answer). x .part .start + x .part .size ≤ length file) same (omega (arith, k .answers .ordered, k .answers .inside));
         D-is = ap (λ (x : Answer). x .D) same;
         H-is = ap (λ (x : Answer). x .H) same;

@@ -10,11 +10,11 @@ use Rattle.fund.specs.Answer.{Answer, answer}
 use Rattle.fund.specs.Listing.{horizonIn}
 use Rattle.fund.specs.Distance.{WithinBounds}
 use Rattle.pricing.specs.Priced.{horizonWith}
-use Rattle.miguepo.specs.Bits.{bitsOf}
+use Rattle.miguepo.specs.Bits.{bitsOf, readSigned}
 
 -- The fields of the struct that C declares, in their order, for an answer and the horizon of the file that was read.
-abbrev pub fields : Answer → ℕ → List ℕ
-fields a X =
+abbrev pub resultFields : Answer → ℕ → List ℕ
+resultFields a X =
     numberIn (a .verdict)
     ∷ placeIn (a .verdict)
     ∷ a .part .start
@@ -26,9 +26,11 @@ fields a X =
     ∷ a .figures .within
     ∷ []
 
--- Everything that is handed over is the answer's; the line lies in the file; and demand 3 holds of a fund with number 0.
+-- Everything that is handed over is the answer's, and C reads the premium from its bits; the line lies in the file; and demand 3 holds
+-- of a fund with number 0.
 pub record Hosts (file : List ℕ) (n : Lengths) (result : List ℕ) (D : List ℤ) (H : List ℕ) (f : List ℤ) (R : List ℕ) : Type 0 where
-  pub result-is : result ≡ fields (answer file n) (horizonIn (reading file))
+  pub result-is : result ≡ resultFields (answer file n) (horizonIn (reading file))
+  pub premium : readSigned (bitsOf (answer file n .figures .premium)) ≡ answer file n .figures .premium
   pub inside : answer file n .part .start + answer file n .part .size ≤ length file
   pub D-is : D ≡ answer file n .D
   pub H-is : H ≡ answer file n .H

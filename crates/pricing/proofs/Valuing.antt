@@ -24,8 +24,6 @@ use Rattle.fund.specs.Answer.{Answer, namesLine, refused, fundCells, answerOf, 
 use Rattle.laws.specs.Accepted.{All, refuse-accepted, at0-none}
 use Rattle.laws.specs.Ranges.{read-ranges}
 use Rattle.widths.specs.Lives.{InRange}
-use Rattle.matching.specs.declared.verdict.Matched.{Matched}
-use Rattle.matching.specs.Matching.{Room, Matching}
 use Rattle.valuation.specs.declared.Valued.{Valued}
 use Rattle.valuation.specs.Inside.{HeaderIn}
 use Rattle.valuation.specs.Valued.{left as valuedLeft, outcome, Answered, ValuedAs}
@@ -53,24 +51,14 @@ unfolding answerOf
 outcome-answer file n fund Accepted k = refl
 outcome-answer file n fund (Refused why place) k = no-line file n why place k
 
--- the slices for the folded rates, before they are filled
-abbrev pub blank : List ℕ
-blank = replicate 1000 0
-
-pub blank-long : (count : ℕ) → count ≤ most-members → count ≤ length blank
-blank-long count few = let e : length blank ≡ 1000 = length-replicate {A = ℕ} 1000 0 in omega arith
-
 -- what the valuation answers, as the answer of the call
 abbrev pub handed : Valued → ℕ → ℤ → Priced
 handed v X premium = record { verdict = v .verdict; start = 0; end = 0; horizon = X; figures = record { truncation = v .truncation; mean = v .mean; premium = premium; within = v .within } }
 
+pub under-header : (f g : Fund) (ms : List Life) (n : Lengths) (v : Valued) (a : Answer) → f ≡ g → ValuedAs f ms n v a → ValuedAs g ms n v a
+under-header f g ms n v a e k = subst (λ (x : Fund). ValuedAs x ms n v a) e k
+
 module _ (file : List ℕ) (n : Lengths) (fund : FundFile) (is : reading file ≡ read fund) where
-  pub room-there : (Rates Members : Type 0) (count : ℕ) (q i : List ℕ) → Rates → Members → count ≤ length q → count ≤ length i → Room (fund .header) Rates Members count q i
-  room-there Rates Members count q i rs ms lq li = record { horizon = read-ranges file fund is .header .horizon; rates = rs; members = ms; q-long = lq; i-long = li }
-
-  pub verdict-matched : (Fits : Type 0) (after : List Life) (r : Matched) → Fits → Matching Fits fund after r → r .verdict ≡ matched fund Accepted
-  verdict-matched Fits after r fits k = k .verdict ∙ rw (k .room .no fits)
-
   pub handed-answers : (answer : Answer) (v : Valued) (X : ℕ) (premium : ℤ) (d : List ℤ) (h : List ℕ) (f : List ℤ) (r : List ℕ) → X ≡ horizonWith (v .verdict) (fund .header .horizon) → premium ≡ v .premium → valuedLeft v d h f r ≡ answer
       → Answers file (handed v X premium) (left (handed v X premium) d h f r) answer
   unfolding horizonIn
@@ -108,6 +96,3 @@ module _ (file : List ℕ) (n : Lengths) (fund : FundFile) (is : reading file �
 
     pub valued-answers : (v : Valued) (a : Answer) → length ms ≤ most-members → ValuedAs (fund .header) ms n v a → a ≡ answer file n
     valued-answers v a few k = answered v a (v .inside) (k .inside .no (record { few = few; in-range = in-range }, header-in)) (k .answered)
-
-pub few-taken : {A : Type 0} (n : ℕ) (xs : List A) → n ≤ most-members → length (take n xs) ≤ most-members
-few-taken n xs h = omega (arith, length-take n xs)

@@ -6,7 +6,7 @@ use Prim.Native.Nat.{ℕ, _≤_}
 use native.Mathlib.Omega.{arith}
 use lib.ListN.{length, take}
 use lib.Seq.{take-take}
-use Rattle.printing.specs.Input.{Extends, ReadBehind, PrintsRead, PrintsInput}
+use Rattle.printing.specs.Input.{Extends, ReadBehind, HoldsFirst, PrintsFirst, PrintsInput}
 
 pub extends-none : (buffer : List ℕ) (start : ℕ) → Extends buffer start buffer
 extends-none buffer start = record { long = refl; kept = refl }
@@ -27,8 +27,9 @@ read-behind i e = record { extends = extends-more (i .0) (i .2) e; least = i .0;
 clash : {A : Type 0} → true ≡ false → A
 clash e = let z : _≡_ {A = ℕ} 0 1 = cc in absurd (omega arith)
 
-pub input-failed : (text : List ℕ) → PrintsInput text text (record { size = 0; failed = true })
-input-failed text = record { listed = λ e. clash e; kept = λ e. (refl, refl) }
+pub input-failed : (buffer text : List ℕ) (read : ℕ) → PrintsInput buffer text text (record { read = read; size = 0; failed = true })
+input-failed buffer text read = record { holds = λ e. clash e; prints = λ e. clash e; kept = λ e. (refl, refl) }
 
-pub input-listed : {before after : List ℕ} {n : ℕ} → PrintsRead before after n → PrintsInput before after (record { size = n; failed = false })
-input-listed k = record { listed = λ e. k; kept = λ e. clash (sym e) }
+pub input-printed : {buffer before after : List ℕ} {read n : ℕ} → HoldsFirst buffer read → PrintsFirst buffer read before after n →
+    PrintsInput buffer before after (record { read = read; size = n; failed = false })
+input-printed h k = record { holds = λ e. h; prints = λ e. k; kept = λ e. clash (sym e) }

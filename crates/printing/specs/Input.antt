@@ -32,14 +32,8 @@ abbrev pub PrintsFirst : List ℕ → ℕ → List ℕ → List ℕ → ℕ → 
 PrintsFirst buffer size before after n =
     (file : List ℕ) → take (length buffer) file ≡ take size buffer → Written (shown file (length before)) before after n
 
--- What was read, in a buffer that has room for it.
-pub record PrintsRead (before after : List ℕ) (n : ℕ) : Type 0 where
-  pub buffer : List ℕ
-  pub size : ℕ
-  pub holds : HoldsFirst buffer size
-  pub prints : PrintsFirst buffer size before after n
-
--- The listing of what was read; where a read fails, the text stays as it is.
-pub record PrintsInput (before after : List ℕ) (p : PrintedInput) : Type 0 where
-  pub listed : p .failed ≡ false → PrintsRead before after (p .size)
+-- The listing of what was read into the buffer; or else the text stays as it is.
+pub record PrintsInput (buffer before after : List ℕ) (p : PrintedInput) : Type 0 where
+  pub holds : p .failed ≡ false → HoldsFirst buffer (p .read)
+  pub prints : p .failed ≡ false → PrintsFirst buffer (p .read) before after (p .size)
   pub kept : p .failed ≡ true → (p .size ≡ 0) × (after ≡ before)

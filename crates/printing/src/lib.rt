@@ -12,10 +12,11 @@ ghost use Rattle.printing.specs.Input.{HoldsFirst, PrintsFirst, PrintsIn
 const CELLS: usize = 4096;
 
 // No more bytes of a file are read than these.
-const MOST_BYTES: usize = 65536;
+pub const MOST_BYTES: usize = 65536;
 
-// The size of the listing of standard input, and whether a read failed.
+// How many bytes of standard input were read and the size of the listing; or that nothing was printed.
 pub struct PrintedInput {
+    pub read: usize,
     pub size: usize,
     pub failed: bool,
 }
@@ -46,21 +47,23 @@ fn print_first(buffer: &[u8], size: usize, text: &mut [u8]) -> usize
     print(&buffer[..size], text)
 }
 
-// The listing of the file on standard input.
-pub fn print_input(text: &mut [u8]) -> PrintedInput
-    ensures { λ p. ⌜ PrintsInput (now (text .entry)) (now (text .exit)) p ⌝ }
+// The listing of the file on standard input, which is read into the buffer. It fails where a read does, or where the buffer has no
+// room for all that is read of a file.
+pub fn print_input(buffer: &mut [u8], text: &mut [u8]) -> PrintedInput
+    ensures { λ p. ⌜ PrintsInput (now (buffer .exit)) (now (text .entry)) (now (text .exit)) p ⌝ }
     ensures { λ p. ⌜ (p .size ≤ length (now (text .exit))) × (p .size ≡ length (take (p .size) (now (text .exit)))) ⌝ }
 {
-    let mut buffer = [0u8; MOST_BYTES];
-    let found = input::read_input(&mut buffer, 0);
-    if found.failed {
+    let found = input::read_input(buffer, 0);
+    if found.failed || buffer.len() < MOST_BYTES {
         return PrintedInput {
+            read: found.size,
             size: 0,
             failed: true,
         };
     }
-    let size = print_first(&buffer, found.size, text);
+    let size = print_first(&buffer[..], found.size, text);
     PrintedInput {
+        read: found.size,
         size,
         failed: false,
     }
