@@ -1,5 +1,5 @@
 -- What is read from standard input, and the listing that is printed of it. The assumed contract of `read` says how many bytes it
--- counts and not which they are, so no contract here says that they are those of the input.
+-- counts, not which they are, nor that 0 is the end: so no contract here says that the buffer holds the input's own bytes, all of them.
 use mathlib.Core.Path.{_≡_}
 use mathlib.Core.Bool.{true, false}
 use mathlib.Core.List.{List}
