@@ -1,5 +1,7 @@
 // What a customer may hold us to. Each function makes one public call and promises, in the plain words of specs/, what follows from
 // that call's contract alone. So a promise of a call that is weakened fails here.
+mod steps;
+
 use pricing::Priced;
 ghost use mathlib.Core.Path.{_≡_};
 ghost use Rattle.fund.specs.Answer.{answer};
