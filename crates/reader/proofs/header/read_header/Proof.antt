@@ -22,8 +22,8 @@ abbrev μ-loop : tie.MeasureT-loop
 loop-holds : tie.Need-loop-holds Inv-loop μ-loop
 loop-holds c = (omega arith, sym header-length, header-start _)
 
-step-requires : tie.Need-step-requires Inv-loop μ-loop
-step-requires c κs = omega (arith, header-length)
+header-step-requires : tie.Need-header-step-requires Inv-loop μ-loop
+header-step-requires c κs = omega (arith, header-length)
 
 enum-known-why : tie.Need-enum-known-why Inv-loop μ-loop
 enum-known-why c = search needs
@@ -34,7 +34,7 @@ add-t12 c = omega (arith, header-length)
 returns : tie.Need-returns Inv-loop μ-loop
 returns c =
     let l = c .before .before .before .before .before .loop in
-    let e = rw (c .before .why .given .1) at (c .before .before .before .step .ensures) in
+    let e = rw (c .before .why .given .1) at (c .before .before .before .header-step .ensures) in
     l .inv .2 ∙ e (take (l .k) (l .values))
 
 enum-known-n : tie.Need-enum-known-n Inv-loop μ-loop
@@ -55,7 +55,7 @@ loop-less c = omega (arith, header-length)
 loop-again : tie.Need-loop-again Inv-loop μ-loop
 loop-again c =
     let l = c .before .before .before .before .before .loop in
-    let e = rw (c .before .n .given .1) at (c .before .before .before .step .ensures) in
+    let e = rw (c .before .n .given .1) at (c .before .before .before .header-step .ensures) in
     let w : l .k < length (l .values) = omega (arith, header-length) in (
       omega (arith, header-length),
       simp length-set (l .inv .1),
@@ -94,7 +94,7 @@ read-header-spec =
     Inv-loop
     μ-loop
     loop-holds
-    step-requires
+    header-step-requires
     enum-known-why
     add-t12
     returns

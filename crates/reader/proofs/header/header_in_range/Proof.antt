@@ -1,12 +1,12 @@
--- `reader::header::in_range`: the range of each header line, by its place.
+-- `reader::header::header_in_range`: the range of each header line, by its place.
 use mathlib.Core.Path.{_≡_, sym, _∙_}
 use mathlib.Core.Bool.{and-true}
 use native.Mathlib.Omega.{arith}
 use borrow.Author.Needs.{needs}
 use Rattle.fund.specs.Reading.{headerLines, inRanges}
 use Rattle.reader.specs.Header.{headerLine}
-use Rattle.reader.proofs.header.in_range.Statement.{statement}
-use Rattle.reader.proofs.header.in_range.Tie as tie
+use Rattle.reader.proofs.header.header_in_range.Statement.{statement}
+use Rattle.reader.proofs.header.header_in_range.Tie as tie
 
 within-requires : tie.Need-within-requires
 within-requires c κs = search needs
@@ -50,8 +50,8 @@ returns-6 : tie.Need-returns-6
 unfolding headerLine headerLines inRanges
 returns-6 c = let e : c .before .before .args .k ≡ 5 = omega arith in rw e (c .within6 .ensures ∙ sym (and-true _))
 
-pub in-range-spec : {M : Type 1} → statement M
-in-range-spec =
+pub header-in-range-spec : {M : Type 1} → statement M
+header-in-range-spec =
     tie.close
     (tie.spec
     within-requires

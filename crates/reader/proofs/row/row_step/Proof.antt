@@ -1,20 +1,20 @@
--- `reader::row::step`: what the line is decides which step of the definition it is.
+-- `reader::row::row_step`: what the line is decides which step of the definition it is.
 use mathlib.Core.Path.{_≡_, sym, ap, _∙_}
 use native.Mathlib.Omega.{arith}
 use borrow.Author.Needs.{needs}
 use Rattle.reader.specs.Rows.{rowIn}
 use Rattle.laws.specs.Ranges.{header-length}
 use Rattle.reader.proofs.Steps.{step-missing, step-other, step-order, step-rate-out, step-rate, step-member-out, step-member, step-count, step-more, step-end}
-use Rattle.reader.proofs.row.step.Statement.{statement}
-use Rattle.reader.proofs.row.step.Tie as tie
+use Rattle.reader.proofs.row.row_step.Statement.{statement}
+use Rattle.reader.proofs.row.row_step.Tie as tie
 
-place-requires : tie.Need-place-requires
-place-requires c κs = search needs
+line-place-requires : tie.Need-line-place-requires
+line-place-requires c κs = search needs
 
 returns : tie.Need-returns
 returns c =
     let a = c .before .before .before .args in
-    step-missing (a .file .now) (a .at) (a .rated) (a .enrolled) (a .least) _ (c .before .place .ensures) (c .if1 .taken)
+    step-missing (a .file .now) (a .at) (a .rated) (a .enrolled) (a .least) _ (c .before .line-place .ensures) (c .if1 .taken)
 
 next-line-requires : tie.Need-next-line-requires
 next-line-requires c κs = search needs
@@ -33,7 +33,7 @@ returns-2 c =
     let n = c .before .before .before .before .before in
     let a = n .before .before .before .before .args in
     let o = sym (c .before .before .before .before .row-of .ensures) ∙ ap rowIn (c .before .before .r .given .1) in
-    step-order (a .file .now) (a .at) (a .rated) (a .enrolled) (a .least) _ (n .before .before .place .ensures) _ (n .next-line .ensures) _ o (c .if2 .taken)
+    step-order (a .file .now) (a .at) (a .rated) (a .enrolled) (a .least) _ (n .before .before .line-place .ensures) _ (n .next-line .ensures) _ o (c .if2 .taken)
 
 rate-in-range-requires : tie.Need-rate-in-range-requires
 rate-in-range-requires c κs = search needs
@@ -43,7 +43,7 @@ returns-3 c =
     let n = c .before .before .before .before .before .before .before in
     let a = n .before .before .before .before .args in
     let o = sym (c .before .before .before .before .before .before .row-of .ensures) ∙ ap rowIn (c .before .before .before .before .r .given .1) in
-    step-rate (a .file .now) (a .at) (a .rated) (a .enrolled) (a .least) _ (n .before .before .place .ensures) _ (n .next-line .ensures) _ o (omega (arith, c .before .before .if2 .left)) (sym (c .before .rate-in-range .ensures) ∙ c .if3 .taken)
+    step-rate (a .file .now) (a .at) (a .rated) (a .enrolled) (a .least) _ (n .before .before .line-place .ensures) _ (n .next-line .ensures) _ o (omega (arith, c .before .before .if2 .left)) (sym (c .before .rate-in-range .ensures) ∙ c .if3 .taken)
 
 enum-known-m : tie.Need-enum-known-m
 enum-known-m c = search needs
@@ -56,7 +56,7 @@ returns-4 c =
     let n = c .before .before .before .before .before .before in
     let a = n .before .before .before .before .args in
     let o = sym (c .before .before .before .before .before .row-of .ensures) ∙ ap rowIn (c .before .before .before .m .given .1) in
-    step-member (a .file .now) (a .at) (a .rated) (a .enrolled) (a .least) _ (n .before .before .place .ensures) _ (n .next-line .ensures) _ o (sym (c .before .member-in-range .ensures) ∙ c .if4 .taken)
+    step-member (a .file .now) (a .at) (a .rated) (a .enrolled) (a .least) _ (n .before .before .line-place .ensures) _ (n .next-line .ensures) _ o (sym (c .before .member-in-range .ensures) ∙ c .if4 .taken)
 
 enum-known-k : tie.Need-enum-known-k
 enum-known-k c = search needs
@@ -66,53 +66,53 @@ returns-5 c =
     let n = c .before .before .before .before .before in
     let a = n .before .before .before .before .args in
     let o = sym (c .before .before .before .before .row-of .ensures) ∙ ap rowIn (c .before .before .k .given .1) in
-    step-count (a .file .now) (a .at) (a .rated) (a .enrolled) (a .least) _ (n .before .before .place .ensures) _ (n .next-line .ensures) _ o (c .if5 .taken)
+    step-count (a .file .now) (a .at) (a .rated) (a .enrolled) (a .least) _ (n .before .before .line-place .ensures) _ (n .next-line .ensures) _ o (c .if5 .taken)
 
 add-t28 : tie.Need-add-t28
 add-t28 c =
     let p = c .before .before .before .before .before .before .before .before .before in
-    omega (arith, header-length, p .place .ensures, p .before .before .pre .0, p .before .before .pre .1)
+    omega (arith, header-length, p .line-place .ensures, p .before .before .pre .0, p .before .before .pre .1)
 
 returns-6 : tie.Need-returns-6
 returns-6 c =
     let n = c .before .before .before .before .before .before .before in
     let a = n .before .before .before .before .args in
     let o = sym (c .before .before .before .before .before .before .row-of .ensures) ∙ ap rowIn (c .before .before .before .before .k .given .1) in
-    step-more (a .file .now) (a .at) (a .rated) (a .enrolled) (a .least) _ (n .before .before .place .ensures) _ (n .next-line .ensures) _ o (c .before .before .if5 .left) (c .if6 .taken)
+    step-more (a .file .now) (a .at) (a .rated) (a .enrolled) (a .least) _ (n .before .before .line-place .ensures) _ (n .next-line .ensures) _ o (c .before .before .if5 .left) (c .if6 .taken)
 
 returns-7 : tie.Need-returns-7
 returns-7 c =
     let n = c .before .before .before in
     let a = n .before .before .before .before .args in
     let o = sym (c .before .before .row-of .ensures) ∙ ap rowIn (c .enum-told .given .1) in
-    step-other (a .file .now) (a .at) (a .rated) (a .enrolled) (a .least) _ (n .before .before .place .ensures) _ (n .next-line .ensures) o
+    step-other (a .file .now) (a .at) (a .rated) (a .enrolled) (a .least) _ (n .before .before .line-place .ensures) _ (n .next-line .ensures) o
 
 returns-8 : tie.Need-returns-8
 returns-8 c =
     let n = c .before .before .before .before .before .before .before in
     let a = n .before .before .before .before .args in
     let o = sym (c .before .before .before .before .before .before .row-of .ensures) ∙ ap rowIn (c .before .before .before .before .r .given .1) in
-    step-rate-out (a .file .now) (a .at) (a .rated) (a .enrolled) (a .least) _ (n .before .before .place .ensures) _ (n .next-line .ensures) _ o (omega (arith, c .before .before .if2 .left)) (sym (c .before .rate-in-range .ensures) ∙ c .if3 .left)
+    step-rate-out (a .file .now) (a .at) (a .rated) (a .enrolled) (a .least) _ (n .before .before .line-place .ensures) _ (n .next-line .ensures) _ o (omega (arith, c .before .before .if2 .left)) (sym (c .before .rate-in-range .ensures) ∙ c .if3 .left)
 
 returns-9 : tie.Need-returns-9
 returns-9 c =
     let n = c .before .before .before .before .before .before in
     let a = n .before .before .before .before .args in
     let o = sym (c .before .before .before .before .before .row-of .ensures) ∙ ap rowIn (c .before .before .before .m .given .1) in
-    step-member-out (a .file .now) (a .at) (a .rated) (a .enrolled) (a .least) _ (n .before .before .place .ensures) _ (n .next-line .ensures) _ o (sym (c .before .member-in-range .ensures) ∙ c .if4 .left)
+    step-member-out (a .file .now) (a .at) (a .rated) (a .enrolled) (a .least) _ (n .before .before .line-place .ensures) _ (n .next-line .ensures) _ o (sym (c .before .member-in-range .ensures) ∙ c .if4 .left)
 
 returns-10 : tie.Need-returns-10
 returns-10 c =
     let n = c .before .before .before .before .before .before .before in
     let a = n .before .before .before .before .args in
     let o = sym (c .before .before .before .before .before .before .row-of .ensures) ∙ ap rowIn (c .before .before .before .before .k .given .1) in
-    step-end (a .file .now) (a .at) (a .rated) (a .enrolled) (a .least) _ (n .before .before .place .ensures) _ (n .next-line .ensures) _ o (c .before .before .if5 .left) (c .if6 .left)
+    step-end (a .file .now) (a .at) (a .rated) (a .enrolled) (a .least) _ (n .before .before .line-place .ensures) _ (n .next-line .ensures) _ o (c .before .before .if5 .left) (c .if6 .left)
 
-pub step-spec : {M : Type 1} → statement M
-step-spec =
+pub row-step-spec : {M : Type 1} → statement M
+row-step-spec =
     tie.close
     (tie.spec
-    place-requires
+    line-place-requires
     returns
     next-line-requires
     row-of-requires

@@ -1,10 +1,10 @@
--- `reader::header::step`: each return is a step of the definition `readHeader`.
+-- `reader::header::header_step`: each return is a step of the definition `readHeader`.
 use mathlib.Core.Path.{sym, _∙_}
 use native.Mathlib.Omega.{arith}
 use borrow.Author.Needs.{needs}
 use Rattle.reader.proofs.Headers.{step-missing, step-form, step-range, step-next}
-use Rattle.reader.proofs.header.step.Statement.{statement}
-use Rattle.reader.proofs.header.step.Tie as tie
+use Rattle.reader.proofs.header.header_step.Statement.{statement}
+use Rattle.reader.proofs.header.header_step.Tie as tie
 
 returns : tie.Need-returns
 returns c =
@@ -21,8 +21,8 @@ numbers-at-requires c κs = search needs
 array-read-n : tie.Need-array-read-n
 array-read-n c = search needs
 
-in-range-requires : tie.Need-in-range-requires
-in-range-requires c κs = search needs
+header-in-range-requires : tie.Need-header-in-range-requires
+header-in-range-requires c κs = search needs
 
 returns-2 : tie.Need-returns-2
 returns-2 c =
@@ -30,7 +30,7 @@ returns-2 c =
     let r = c .before .before .before .before .numbers-at in
     let s = l .before .before .before in
     let a = s .args in
-    step-next (a .file .now) (a .k) (a .at) (s .pre) _ (l .next-line .ensures) (r .result) (r .ensures) (c .before .before .before .if2 .taken) (sym (c .before .in-range .ensures) ∙ c .if3 .taken)
+    step-next (a .file .now) (a .k) (a .at) (s .pre) _ (l .next-line .ensures) (r .result) (r .ensures) (c .before .before .before .if2 .taken) (sym (c .before .header-in-range .ensures) ∙ c .if3 .taken)
 
 returns-3 : tie.Need-returns-3
 returns-3 c =
@@ -38,7 +38,7 @@ returns-3 c =
     let r = c .before .before .before .before .numbers-at in
     let s = l .before .before .before in
     let a = s .args in
-    step-range (a .file .now) (a .k) (a .at) (s .pre) _ (l .next-line .ensures) (r .result) (r .ensures) (c .before .before .before .if2 .taken) (sym (c .before .in-range .ensures) ∙ c .if3 .left)
+    step-range (a .file .now) (a .k) (a .at) (s .pre) _ (l .next-line .ensures) (r .result) (r .ensures) (c .before .before .before .if2 .taken) (sym (c .before .header-in-range .ensures) ∙ c .if3 .left)
 
 returns-4 : tie.Need-returns-4
 returns-4 c =
@@ -48,15 +48,15 @@ returns-4 c =
     let a = s .args in
     step-form (a .file .now) (a .k) (a .at) (s .pre) _ (l .next-line .ensures) (r .result) (r .ensures) (c .if2 .left)
 
-pub step-spec : {M : Type 1} → statement M
-step-spec =
+pub header-step-spec : {M : Type 1} → statement M
+header-step-spec =
     tie.close
     (tie.spec
     returns
     next-line-requires
     numbers-at-requires
     array-read-n
-    in-range-requires
+    header-in-range-requires
     returns-2
     returns-3
     returns-4)
