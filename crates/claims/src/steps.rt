@@ -18,7 +18,7 @@ ghost use Rattle.reader.specs.Read.{fileRead};
 ghost use Rattle.reader.specs.Part.{Spans};
 ghost use Rattle.matching.specs.Matching.{matchedTables};
 ghost use Rattle.recursion.specs.Recursion.{left, recursion};
-ghost use Rattle.text.specs.Shown.{printing, shown};
+ghost use Rattle.text.specs.Shown.{shownAnswer, listingOf};
 ghost use Rattle.text.specs.Writing.{Written};
 
 // The named constants are the definitions' limits.
@@ -80,7 +80,7 @@ pub fn listing(
     r: &[u64],
     text: &mut [u8],
 ) -> usize
-    ensures { λ size. ⌜ Written (shown (printing verdict figures (now (f .entry)) (now (r .entry))) horizon (length (now (text .entry))))
+    ensures { λ size. ⌜ Written (listingOf (shownAnswer verdict figures (now (f .entry)) (now (r .entry))) horizon (length (now (text .entry))))
         (now (text .entry)) (now (text .exit)) size ⌝ }
 {
     text::listing(verdict, figures, horizon, f, r, text)

@@ -1,7 +1,7 @@
 -- The listing lies in the text.
 use borrow.Author.Needs.{needs}
-use Rattle.printing.proofs.write.Statement.{statement}
-use Rattle.printing.proofs.write.Tie as tie
+use Rattle.cases.proofs.write_listing.Statement.{statement}
+use Rattle.cases.proofs.write_listing.Tie as tie
 
 slice-aggregate-print : tie.Need-slice-aggregate-print
 slice-aggregate-print c = search needs
@@ -21,8 +21,8 @@ write-all-requires c κs = search needs
 returns : tie.Need-returns
 returns c = search needs
 
-pub write-spec : {M : Type 1} → statement M
-write-spec =
+pub write-listing-spec : {M : Type 1} → statement M
+write-listing-spec =
     tie.close
     (tie.spec
     slice-aggregate-print

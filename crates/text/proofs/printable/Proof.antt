@@ -1,33 +1,33 @@
--- `text::in_range` meets its contract: each test that fails decides.
+-- `text::printable` meets its contract: each test that fails decides.
 use mathlib.Core.Path.{sym, ap, _∙_}
 use native.Mathlib.Omega.{arith}
 use native.Mathlib.Numerals.{add-one}
 use borrow.Author.Tests.{lt-ltb, le-ltb, le-leb, lt-leb}
 use lib.ListN.{take}
 use lib.Seq.{length-take-le}
-use Rattle.text.specs.Shown.{bounded, inRange}
+use Rattle.text.specs.Shown.{bounded, printable}
 use borrow.Author.Needs.{needs}
-use Rattle.text.proofs.in_range.Statement.{statement}
-use Rattle.text.proofs.in_range.Tie as tie
+use Rattle.text.proofs.printable.Statement.{statement}
+use Rattle.text.proofs.printable.Tie as tie
 
 returns : tie.Need-returns
-unfolding inRange
+unfolding printable
 returns c = simp (lt-leb _ _ (c .if1 .taken))
 
 returns-2 : tie.Need-returns-2
-unfolding inRange
+unfolding printable
 returns-2 c = simp (le-leb _ _ (c .before .if1 .left), le-ltb _ _ (c .if2 .taken))
 
 returns-3 : tie.Need-returns-3
-unfolding inRange
+unfolding printable
 returns-3 c = simp (le-leb _ _ (c .before .before .if1 .left), lt-ltb _ _ (c .before .if2 .left), le-ltb _ _ (c .if3 .taken))
 
 returns-4 : tie.Need-returns-4
-unfolding inRange
+unfolding printable
 returns-4 c = simp (le-leb _ _ (c .before .before .before .if1 .left), lt-ltb _ _ (c .before .before .if2 .left), lt-ltb _ _ (c .before .if3 .left), lt-leb _ _ (c .if4 .taken))
 
 returns-5 : tie.Need-returns-5
-unfolding inRange
+unfolding printable
 returns-5 c =
     let d = c .before in
     simp (le-leb _ _ (d .before .before .before .if1 .left), lt-ltb _ _ (d .before .before .if2 .left), lt-ltb _ _ (d .before .if3 .left), le-leb _ _ (d .if4 .left), lt-leb _ _ (c .if5 .taken))
@@ -42,15 +42,15 @@ all-bounded-requires : tie.Need-all-bounded-requires
 all-bounded-requires c κs = search needs
 
 returns-6 : tie.Need-returns-6
-unfolding inRange
+unfolding printable
 returns-6 c =
     let d = c .before .before in
     let s = d .before .before .before .before .before .before in
     simp (le-leb _ _ (d .before .before .before .before .if1 .left), lt-ltb _ _ (d .before .before .before .if2 .left), lt-ltb _ _ (d .before .before .if3 .left), le-leb _ _ (d .before .if4 .left), le-leb _ _ (d .if5 .left))
     (c .all-bounded .ensures ∙ ap (λ n. bounded (take n (s .args .r .now))) (add-one (s .args .horizon)))
 
-pub in-range-spec : {M : Type 1} → statement M
-in-range-spec =
+pub printable-spec : {M : Type 1} → statement M
+printable-spec =
     tie.close
     (tie.spec
     returns

@@ -2,8 +2,8 @@
 use mathlib.Core.Path.{sym}
 use lib.Seq.{length-take-le}
 use borrow.Author.Needs.{needs}
-use Rattle.cases.proofs.next.Statement.{statement}
-use Rattle.cases.proofs.next.Tie as tie
+use Rattle.cases.proofs.next_file.Statement.{statement}
+use Rattle.cases.proofs.next_file.Tie as tie
 
 slice-aggregate-read-full : tie.Need-slice-aggregate-read-full
 slice-aggregate-read-full c = search needs
@@ -35,14 +35,14 @@ same-length c = search needs
 returns-3 : tie.Need-returns-3
 returns-3 c = search needs
 
-slice-reshare-prefix-write : tie.Need-slice-reshare-prefix-write
-slice-reshare-prefix-write c = search needs
+slice-reshare-prefix-write-listing : tie.Need-slice-reshare-prefix-write-listing
+slice-reshare-prefix-write-listing c = search needs
 
-slice-aggregate-write : tie.Need-slice-aggregate-write
-slice-aggregate-write c = sym (length-take-le _ _ (search needs))
+slice-aggregate-write-listing : tie.Need-slice-aggregate-write-listing
+slice-aggregate-write-listing c = sym (length-take-le _ _ (search needs))
 
-write-requires : tie.Need-write-requires
-write-requires c κs = search needs
+write-listing-requires : tie.Need-write-listing-requires
+write-listing-requires c κs = search needs
 
 same-length-2 : tie.Need-same-length-2
 same-length-2 c = search needs
@@ -65,8 +65,8 @@ same-length-3 c = search needs
 returns-5 : tie.Need-returns-5
 returns-5 c = search needs
 
-pub next-spec : {M : Type 1} → statement M
-next-spec =
+pub next-file-spec : {M : Type 1} → statement M
+next-file-spec =
     tie.close
     (tie.spec
     slice-aggregate-read-full
@@ -79,9 +79,9 @@ next-spec =
     read-full-requires-2
     same-length
     returns-3
-    slice-reshare-prefix-write
-    slice-aggregate-write
-    write-requires
+    slice-reshare-prefix-write-listing
+    slice-aggregate-write-listing
+    write-listing-requires
     same-length-2
     returns-4
     slice-reshare-prefix-write-line
