@@ -1,5 +1,5 @@
 -- The first n rows of a table from a place on: the rate row of an age, and the first member that meets a condition.
-use mathlib.Core.Path.{_≡_, refl, sym, _∙_, ap}
+use mathlib.Core.Path.{_≡_, _∙_}
 use mathlib.Core.Bool.{Bool, true, false}
 use mathlib.Core.List.{List, [], _∷_}
 use mathlib.Core.Option.{none, some}
@@ -10,7 +10,6 @@ use borrow.Author.Tests.{eq-eqb, ne-eqb}
 use lib.ListN.{length, take, drop, getD, drop-of-length-le}
 use lib.Seq.{drop-cons, length-take-le, getD-take}
 use Rattle.fund.specs.declared.Rate.{Rate}
-use Rattle.fund.specs.Base.{if_then_else_}
 use Rattle.fund.specs.Folding.{rateAt}
 use Rattle.fund.specs.Refusals.{first}
 use Rattle.laws.specs.Rows.{blankRate}

@@ -9,7 +9,7 @@ use native.Mathlib.Omega.{arith}
 use lib.ListN.{length, take, drop, getD, drop-of-length-le}
 use lib.Seq.{drop-cons, take-all}
 use Rattle.fund.specs.declared.Refusal.the-variants.{Form, Range}
-use Rattle.fund.specs.Lines.{Line as FundLine, linesFrom, lines}
+use Rattle.fund.specs.Lines.{linesFrom, lines}
 use Rattle.fund.specs.Spelling.{spelled}
 use Rattle.fund.specs.Reading.{stopped, inRanges, HeaderLine, headerLines, headerOf, readHeader, readRows, reading}
 use Rattle.laws.specs.Accepted.{All}

@@ -1,5 +1,5 @@
 -- Laws of the rows: each step of the definition `readRows`, at a line of a file and at the file's end.
-use mathlib.Core.Path.{_≡_, refl, sym, ap, _∙_}
+use mathlib.Core.Path.{_≡_, sym, ap, _∙_}
 use mathlib.Core.Bool.{true, false}
 use mathlib.Core.List.{List, [], _∷_, _++_}
 use Prim.Native.Nat.{ℕ, suc, _+_, _≤_, _<_}
@@ -12,7 +12,7 @@ use Rattle.fund.specs.declared.Member.{Member}
 use Rattle.fund.specs.declared.Refusal.{Refusal}
 use Rattle.fund.specs.declared.Refusal.the-variants.{Form, Range}
 use Rattle.fund.specs.Lines.{Line as FundLine, linesFrom}
-use Rattle.fund.specs.Reading.{stopped, headerLines, rowOf, rateRow, memberRow, endRow, otherRow, rateInRange, memberInRange, noMember, atEnd, readRows}
+use Rattle.fund.specs.Reading.{stopped, rowOf, rateRow, memberRow, endRow, otherRow, rateInRange, memberInRange, noMember, atEnd, readRows}
 use Rattle.reader.specs.declared.line.Line.{Line}
 use Rattle.reader.specs.declared.row.RowStep.the-variants.{Rate as RateNext, Member as MemberNext, End, Stopped}
 use Rattle.reader.specs.Lines.{linesAt, lineIn, NextLine}

@@ -1,6 +1,5 @@
 -- `matching::lives::lives_of`: one law for each way through the loop. A turn takes a member, or a rate row of the member.
 use mathlib.Core.Path.{_≡_}
-use mathlib.Core.List.{[]}
 use Prim.Native.Nat.{suc, _+_, _-_, _*_, _≤_}
 use native.Mathlib.Omega.{arith}
 use borrow.Author.Needs.{needs}

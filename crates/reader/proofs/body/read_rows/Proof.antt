@@ -1,9 +1,8 @@
 -- `reader::body::read_rows`: the tables hold the rows that are read; one law for each way through the loop.
-use mathlib.Core.Path.{_≡_, sym, _∙_, ap₂, subst}
 use Prim.Native.Nat.{_-_}
 use native.Mathlib.Omega.{arith}
 use borrow.Author.Needs.{needs}
-use lib.ListN.{length, replicate}
+use lib.ListN.{length}
 use Rattle.fund.specs.Answer.{lent}
 use Rattle.reader.specs.Read.{rateTable, memberTable}
 use Rattle.reader.proofs.SoFar.{RowsSoFar, start, rates-long, members-long, rate-taken, member-taken, at-end, at-stop}

@@ -1,5 +1,4 @@
 -- `reader::body::without_rows`: every row of both tables is blank.
-use mathlib.Core.Path.{refl}
 use borrow.Author.Needs.{needs}
 use Rattle.fund.specs.Answer.{lent}
 use Rattle.reader.specs.Read.{rateTable, memberTable, fileRead}

@@ -1,5 +1,5 @@
 -- `reader::row::row_step`: what the line is decides which step of the definition it is.
-use mathlib.Core.Path.{_≡_, sym, ap, _∙_}
+use mathlib.Core.Path.{sym, ap, _∙_}
 use native.Mathlib.Omega.{arith}
 use borrow.Author.Needs.{needs}
 use Rattle.reader.specs.Rows.{rowIn}
