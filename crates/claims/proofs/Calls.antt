@@ -39,16 +39,16 @@ module _ (file : List ℕ) (n : Lengths) (p : Priced) (d : List ℤ) (h : List �
         refuses = record { number = ap numberIn v; place = ap placeIn v; line = ap (λ (a : Answer). bytesOf file (a .part)) is };
         horizon = k .answers .horizon ∙ ap (λ (x : Verdict). horizonWith x (horizonIn (reading file))) v;
         method =
-          record {
-            truncation = ap (λ (a : Answer). a .truncation) is;
-            mean = ap (λ (a : Answer). a .mean) is;
-            premium = ap (λ (a : Answer). a .premium) is;
-            within = ap (λ (a : Answer). a .within) is;
-            D = ap (λ (a : Answer). a .D) is;
-            H = ap (λ (a : Answer). a .H) is;
-            f = ap (λ (a : Answer). a .f) is;
-            R = ap (λ (a : Answer). a .R) is;
-          };
+            record {
+              truncation = ap (λ (a : Answer). a .truncation) is;
+              mean = ap (λ (a : Answer). a .mean) is;
+              premium = ap (λ (a : Answer). a .premium) is;
+              within = ap (λ (a : Answer). a .within) is;
+              D = ap (λ (a : Answer). a .D) is;
+              H = ap (λ (a : Answer). a .H) is;
+              f = ap (λ (a : Answer). a .f) is;
+              R = ap (λ (a : Answer). a .R) is;
+            };
         distance = λ fund e a. subst (λ (x : Answer). WithinBounds fund x) is (k .distance fund e (v ∙ a));
       })
 
@@ -67,7 +67,7 @@ prints file before after size w =
     record {
       listed = λ l. let e = ap (λ (b : Bool). if b then listing file else []) (le-leb room (length before) l) in record { start = w .start ∙ e; size-is = w .whole ∙ ap length e; beyond = w .beyond };
       kept = λ l.
-        let e = ap (λ (b : Bool). if b then listing file else []) (lt-leb room (length before) l) in
-        let z : size ≡ 0 = w .whole ∙ ap length e in
-        record { none = z; same = subst (λ k. drop k after ≡ drop k before) z (w .beyond) };
+          let e = ap (λ (b : Bool). if b then listing file else []) (lt-leb room (length before) l) in
+          let z : size ≡ 0 = w .whole ∙ ap length e in
+          record { none = z; same = subst (λ k. drop k after ≡ drop k before) z (w .beyond) };
     }

@@ -35,6 +35,7 @@ refused-as file n l = go (reading file) refl l
     after : (fund : FundFile) → reading file ≡ read fund → (v : Verdict) → verdict fund n (fundCells (fund .header) (lives fund)) ≡ v → 0 < numberIn (answerOf file n fund v .verdict) → RefusedAs file n
     after fund r Accepted e h = absurd (omega (arith, h))
     after fund r (Refused why place) e h = record { why = why; place = place; is = ap (answerTo file n) r ∙ ap (answerOf file n fund) e }
+
     go : (r : Reading) → reading file ≡ r → 0 < numberIn (answerTo file n r .verdict) → RefusedAs file n
     go (read fund) e h = after fund e (verdict fund n (fundCells (fund .header) (lives fund))) refl h
     go (stopped why place) e h = record { why = why; place = place; is = ap (answerTo file n) e }
