@@ -4,10 +4,16 @@
 
 static inline int verified_price(const unsigned char *file, size_t length, int64_t *D, size_t nD, uint64_t *H, size_t nH,
                                  int64_t *f, size_t nf, uint64_t *R, size_t nR, struct priced *out) {
-    size_t start, size;
-    out->number = miguepo_price(file, length, D, nD, H, nH, f, nf, R, nR, &out->place, &start, &size, &out->horizon,
-                                &out->truncation, &out->mean, &out->premium, &out->within);
-    out->start = start;
-    out->length = size;
+    struct miguepo_result got;
+    miguepo_price(file, length, D, nD, H, nH, f, nf, R, nR, &got);
+    out->number = got.number;
+    out->place = got.place;
+    out->start = got.line_start;
+    out->length = got.line_size;
+    out->horizon = got.horizon;
+    out->truncation = got.truncation;
+    out->mean = got.mean;
+    out->premium = got.premium;
+    out->within = got.within;
     return (int)out->number;
 }

@@ -40,22 +40,19 @@ int main(int count, char **words)
     }
     fclose(in);
 
-    uint64_t place, horizon, truncation, mean, within;
-    int64_t premium;
-    size_t line_start, line_length;
-    uint64_t number = miguepo_price(file, size, d, MIGUEPO_CELLS, h, MIGUEPO_CELLS, f, MIGUEPO_CELLS, r, MIGUEPO_CELLS,
-                                    &place, &line_start, &line_length, &horizon, &truncation, &mean, &premium, &within);
-    if (number != MIGUEPO_ACCEPTED) {
-        printf("refused=%" PRIu64 ",%" PRIu64 "\n", number, place);
-        if (line_length) {
+    struct miguepo_result fund;
+    miguepo_price(file, size, d, MIGUEPO_CELLS, h, MIGUEPO_CELLS, f, MIGUEPO_CELLS, r, MIGUEPO_CELLS, &fund);
+    if (fund.number != MIGUEPO_ACCEPTED) {
+        printf("refused=%" PRIu64 ",%" PRIu64 "\n", fund.number, fund.place);
+        if (fund.line_size) {
             printf("line: ");
-            fwrite(file + line_start, 1, line_length, stdout);
+            fwrite(file + fund.line_start, 1, fund.line_size, stdout);
             printf("\n");
         }
         return 1;
     }
-    print_units("premium ", premium < 0, premium < 0 ? 0 - (uint64_t)premium : (uint64_t)premium);
-    print_units(", within ", 0, within);
+    print_units("premium ", fund.premium < 0, fund.premium < 0 ? 0 - (uint64_t)fund.premium : (uint64_t)fund.premium);
+    print_units(", within ", 0, fund.within);
     printf("\n");
     return 0;
 }

@@ -7,6 +7,20 @@ use std::process::exit;
 
 const CELLS: usize = 4096;
 
+#[repr(C)]
+#[derive(Default)]
+struct Fund {
+    number: u64,
+    place: u64,
+    line_start: u64,
+    line_size: u64,
+    horizon: u64,
+    truncation: u64,
+    mean: u64,
+    premium: i64,
+    within: u64,
+}
+
 extern "C" {
     fn miguepo_price(
         file: *const u8, file_length: usize,
@@ -14,39 +28,24 @@ extern "C" {
         h: *mut u64, h_length: usize,
         f: *mut i64, f_length: usize,
         r: *mut u64, r_length: usize,
-        place: *mut u64,
-        line_start: *mut usize, line_length: *mut usize,
-        horizon: *mut u64,
-        truncation: *mut u64, mean: *mut u64,
-        premium: *mut i64, within: *mut u64,
-    ) -> u64;
-}
-
-enum Priced<'a> {
-    Accepted { premium: i64, within: u64 },
-    Refused { number: u64, place: u64, line: &'a [u8] },
+        result: *mut Fund,
+    );
 }
 
 // The slices may have any lengths: a slice that is too short is refusal 9.
-fn price<'a>(file: &'a [u8], d: &mut [i64], h: &mut [u64], f: &mut [i64], r: &mut [u64]) -> Priced<'a> {
-    let (mut place, mut horizon, mut truncation, mut mean, mut within) = (0, 0, 0, 0, 0);
-    let (mut start, mut length) = (0, 0);
-    let mut premium = 0;
-    let number = unsafe {
+fn price(file: &[u8], d: &mut [i64], h: &mut [u64], f: &mut [i64], r: &mut [u64]) -> Fund {
+    let mut fund = Fund::default();
+    unsafe {
         miguepo_price(
             file.as_ptr(), file.len(),
             d.as_mut_ptr(), d.len(),
             h.as_mut_ptr(), h.len(),
             f.as_mut_ptr(), f.len(),
             r.as_mut_ptr(), r.len(),
-            &mut place, &mut start, &mut length, &mut horizon,
-            &mut truncation, &mut mean, &mut premium, &mut within,
+            &mut fund,
         )
     };
-    if number == 0 {
-        return Priced::Accepted { premium, within };
-    }
-    Priced::Refused { number, place, line: &file[start..start + length] }
+    fund
 }
 
 // A number of units of 10^-12, as a decimal number.
@@ -66,17 +65,16 @@ fn main() {
     });
     let (mut d, mut f) = ([0; CELLS], [0; CELLS]);
     let (mut h, mut r) = ([0; CELLS], [0; CELLS]);
-    match price(&file, &mut d, &mut h, &mut f, &mut r) {
-        Priced::Accepted { premium, within } => {
-            println!("premium {}, within {}", decimal(premium < 0, premium.unsigned_abs()), decimal(false, within));
-        }
-        Priced::Refused { number, place, line } => {
-            println!("refused={number},{place}");
-            if !line.is_empty() {
-                let mut out = std::io::stdout();
-                out.write_all(b"line: ").and_then(|_| out.write_all(line)).and_then(|_| out.write_all(b"\n")).unwrap_or(());
-            }
-            exit(1)
-        }
+    let fund = price(&file, &mut d, &mut h, &mut f, &mut r);
+    if fund.number == 0 {
+        println!("premium {}, within {}", decimal(fund.premium < 0, fund.premium.unsigned_abs()), decimal(false, fund.within));
+        return;
     }
+    println!("refused={},{}", fund.number, fund.place);
+    let line = &file[fund.line_start as usize..][..fund.line_size as usize];
+    if !line.is_empty() {
+        let mut out = std::io::stdout();
+        out.write_all(b"line: ").and_then(|_| out.write_all(line)).and_then(|_| out.write_all(b"\n")).unwrap_or(());
+    }
+    exit(1)
 }

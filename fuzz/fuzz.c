@@ -3,8 +3,7 @@
 // The first four bytes of an input choose the slices' lengths, the rest is the file. The peer is built with the fuzzer's
 // coverage and with sanitizers, so that new paths through it lead the search; the library is the archive itself. Before and
 // behind each slice stand cells that must stay as they are, since no sanitizer sees the archive's stores.
-#include "../include/miguepo.h"
-#include "../bench/peer.h"
+#include "../bench/verified.h"
 
 #include <stdlib.h>
 #include <string.h>
@@ -52,12 +51,8 @@ int LLVMFuzzerTestOneInput(const uint8_t *data, size_t size) {
     memset(&peer, 0, sizeof peer);
     memset(&got, 0, sizeof got);
     peer_price(file, length, (int64_t *)slice[0][0], n[0], (uint64_t *)slice[0][1], n[1], (int64_t *)slice[0][2], n[2], (uint64_t *)slice[0][3], n[3], &peer);
-    size_t start, line;
-    got.number = miguepo_price(file, length, (int64_t *)slice[1][0], n[0], (uint64_t *)slice[1][1], n[1], (int64_t *)slice[1][2], n[2], (uint64_t *)slice[1][3], n[3],
-                               &got.place, &start, &line, &got.horizon, &got.truncation, &got.mean, &got.premium, &got.within);
-    got.start = start;
-    got.length = line;
-    if (line == 0)
+    verified_price(file, length, (int64_t *)slice[1][0], n[0], (uint64_t *)slice[1][1], n[1], (int64_t *)slice[1][2], n[2], (uint64_t *)slice[1][3], n[3], &got);
+    if (got.length == 0)
         got.start = peer.start = 0; // the start of an empty part says nothing
     same(&peer, &got, sizeof peer);
     same(data + 4, file, length);

@@ -11,9 +11,9 @@
  *   - no pointer is null; of a slice without cells it may point anywhere;
  *   - behind each pointer of a slice stand as many cells as its length says;
  *   - each pointer is aligned for its type;
- *   - nothing that is written (the four slices and the eight results) overlaps
- *     with anything else that is passed, and nothing else writes to what is
- *     passed while the call runs.
+ *   - nothing that is written (the four slices and the result) overlaps with
+ *     anything else that is passed, and nothing else writes to what is passed
+ *     while the call runs.
  */
 #ifndef MIGUEPO_H
 #define MIGUEPO_H
@@ -25,7 +25,7 @@
 extern "C" {
 #endif
 
-/* The numbers that the call returns: 0, or why pricing stops. */
+/* The number of an answer: 0, or why pricing stops. */
 enum miguepo_number {
     MIGUEPO_ACCEPTED = 0,
     MIGUEPO_FORM = 1,       /* a line breaks the spelling or the order, is missing, or bytes follow; at a line */
@@ -43,40 +43,36 @@ enum miguepo_number {
 /* Cells enough for every horizon. */
 #define MIGUEPO_CELLS 4096
 
+/* What a call answers beside the cells. Each field has eight bytes. */
+struct miguepo_result {
+    uint64_t number;     /* MIGUEPO_ACCEPTED, or the refusal's */
+    uint64_t place;      /* of the refusal: a line, counted from 1, or the x of MIGUEPO_WIDE, or 0 */
+    uint64_t line_start; /* the part of the file that is the line of the refusal, without its line feed; */
+    uint64_t line_size;  /* its size is 0 where no line is at fault */
+    uint64_t horizon;    /* X of the fund that is accepted */
+    uint64_t truncation; /* the truncation figure E */
+    uint64_t mean;       /* the mean of the year's total claims */
+    int64_t premium;     /* the stop-loss premium */
+    uint64_t within;     /* the premium's bound: the exact premium differs from the premium by at most this */
+};
+
 /* Prices a fund file.
  *
  *   file, file_length        the bytes of the fund file
  *   d, h, f, r               result slices, and how many cells each has
- *
- * Returns the number, and through the other pointers, which it always writes:
- *
- *   place                    of the refusal: a line, counted from 1, or the x of
- *                            MIGUEPO_WIDE, or 0
- *   line_start, line_length  the part of the file that is the line of the
- *                            refusal, without its line feed; its length is 0
- *                            where no line is at fault
- *   horizon                  X of the fund that is accepted
- *   truncation               the truncation figure E
- *   mean                     the mean of the year's total claims
- *   premium                  the stop-loss premium
- *   within                   the premium's bound: the exact premium differs from
- *                            the premium by at most this
+ *   result                   every field is written
  *
  * Accepted (0): d, h, f and r hold D, H, f and R for 0 to X, and 0 beyond; f[x]
  * and the exact probability of the total x differ by at most r[x] + 2 E.
  * Refused (1 to 10): the horizon, every figure and every cell of the four slices
  * are 0.
  */
-uint64_t miguepo_price(const uint8_t *file, size_t file_length,
-                       int64_t *d, size_t d_length,
-                       uint64_t *h, size_t h_length,
-                       int64_t *f, size_t f_length,
-                       uint64_t *r, size_t r_length,
-                       uint64_t *place,
-                       size_t *line_start, size_t *line_length,
-                       uint64_t *horizon,
-                       uint64_t *truncation, uint64_t *mean,
-                       int64_t *premium, uint64_t *within);
+void miguepo_price(const uint8_t *file, size_t file_length,
+                   int64_t *d, size_t d_length,
+                   uint64_t *h, size_t h_length,
+                   int64_t *f, size_t f_length,
+                   uint64_t *r, size_t r_length,
+                   struct miguepo_result *result);
 
 #ifdef __cplusplus
 }

@@ -24,6 +24,12 @@ BEHIND = 3               # cells behind each slice
 U64, I64 = ctypes.c_uint64, ctypes.c_int64
 
 
+class Result(ctypes.Structure):
+    """struct miguepo_result."""
+    _fields_ = [("number", U64), ("place", U64), ("line_start", U64), ("line_size", U64), ("horizon", U64),
+                ("truncation", U64), ("mean", U64), ("premium", I64), ("within", U64)]
+
+
 def build():
     """Path of a shared library made of the archive that `rt staticlib` writes."""
     archive = ROOT / "target" / "staticlib" / "libmiguepo.a"
@@ -38,7 +44,7 @@ def build():
 class Library:
     def __init__(self):
         self.call = ctypes.CDLL(str(build())).miguepo_price
-        self.call.restype = U64
+        self.call.restype = None
 
     def price(self, rng, data, lengths):
         """The answer, and whether all that stands behind the slices was kept."""
@@ -48,16 +54,19 @@ class Library:
             for k in range(len(cells)):
                 cells[k] = rng.getrandbits(62)
         behind = [list(cells[length:]) for cells, length in zip(slices, lengths)]
-        figures = [kind(rng.getrandbits(62)) for kind in (U64, ctypes.c_size_t, ctypes.c_size_t, U64, U64, U64, I64, U64)]
+        results = (Result * (1 + BEHIND))()
+        ctypes.memmove(results, rng.randbytes(ctypes.sizeof(results)), ctypes.sizeof(results))
+        after = bytes(results)[ctypes.sizeof(Result):]
         arguments = [ctypes.c_char_p(data), ctypes.c_size_t(len(data))]
         for cells, length in zip(slices, lengths):
             arguments += [cells, ctypes.c_size_t(length)]
-        number = self.call(*arguments, *map(ctypes.byref, figures))
-        place, start, length, horizon, truncation, mean, premium, within = (figure.value for figure in figures)
+        self.call(*arguments, results)
+        got = results[0]
         left = [tuple(cells[:length]) for cells, length in zip(slices, lengths)]
-        kept = behind == [list(cells[length:]) for cells, length in zip(slices, lengths)]
-        return pricing.Answer(number, place, start if length else 0, length, truncation, mean, premium, within,
-                              *left, horizon), kept
+        kept = after == bytes(results)[ctypes.sizeof(Result):]
+        kept = kept and behind == [list(cells[length:]) for cells, length in zip(slices, lengths)]
+        return pricing.Answer(got.number, got.place, got.line_start if got.line_size else 0, got.line_size, got.truncation,
+                              got.mean, got.premium, got.within, *left, got.horizon), kept
 
 
 def random_lengths(rng, data):

@@ -1,5 +1,5 @@
--- The contracts of the pricing call and of the listing, in plain words (price-demands, line-bytes, prints).
-use mathlib.Core.Path.{_≡_, sym, _∙_, ap, subst}
+-- The contracts of the pricing calls and of the listing, in plain words (price-demands, host-demands, line-bytes, prints).
+use mathlib.Core.Path.{_≡_, refl, sym, _∙_, ap, subst}
 use mathlib.Core.Bool.{Bool, true, false, _&&_}
 use mathlib.Core.List.{List, []}
 use Prim.Native.Nat.{ℕ, _-_, _<_, _≤_}
@@ -7,7 +7,7 @@ use native.Mathlib.Omega.{arith}
 use borrow.Author.Tests.{le-leb, lt-leb}
 use lib.Dec.{leb}
 use lib.IntN.{ℤ}
-use lib.ListN.{length, take, drop}
+use lib.ListN.{length, getD, take, drop}
 use Rattle.fund.specs.declared.Verdict.{Verdict}
 use Rattle.fund.specs.Base.{if_then_else_}
 use Rattle.fund.specs.Reading.{reading}
@@ -20,9 +20,10 @@ use Rattle.text.specs.Writing.{Written}
 use Rattle.printing.specs.Printed.{shown}
 use Rattle.pricing.specs.declared.Priced.{Priced}
 use Rattle.pricing.specs.Priced.{left, horizonWith, Prices, lineOf}
+use Rattle.miguepo.specs.Host.{Hosts}
 use Rattle.claims.specs.Demands.{bytesOf, Demands}
 use Rattle.claims.specs.Listing.{Listed, Kept, Prints}
-use Rattle.claims.specs.Calls.{priced}
+use Rattle.claims.specs.Calls.{priced, hosted}
 use Rattle.claims.proofs.Deriving.{Answered, demands}
 
 module _ (file : List ℕ) (n : Lengths) (p : Priced) (d : List ℤ) (h : List ℕ) (f : List ℤ) (r : List ℕ) (k : Prices file n p (left p d h f r)) where
@@ -40,10 +41,7 @@ module _ (file : List ℕ) (n : Lengths) (p : Priced) (d : List ℤ) (h : List �
         horizon = k .answers .horizon ∙ ap (λ (x : Verdict). horizonWith x (horizonIn (reading file))) v;
         method =
             record {
-              truncation = ap (λ (a : Answer). a .truncation) is;
-              mean = ap (λ (a : Answer). a .mean) is;
-              premium = ap (λ (a : Answer). a .premium) is;
-              within = ap (λ (a : Answer). a .within) is;
+              figures = ap (λ (a : Answer). a .figures) is;
               D = ap (λ (a : Answer). a .D) is;
               H = ap (λ (a : Answer). a .H) is;
               f = ap (λ (a : Answer). a .f) is;
@@ -61,6 +59,17 @@ module _ (file : List ℕ) (n : Lengths) (p : Priced) (d : List ℤ) (h : List �
     where
       both : (leb (p .start) (p .end) && leb (p .end) (length file)) ≡ true
       both = rw (le-leb (p .start) (p .end) (k .answers .ordered), le-leb (p .end) (length file) (k .answers .inside))
+
+module _ (file : List ℕ) (n : Lengths) (result : List ℕ) (d : List ℤ) (h : List ℕ) (f : List ℤ) (r : List ℕ) (k : Hosts file n result d h f r) where
+  pub host-demands : Demands file n (hosted file result d h f r)
+  host-demands =
+      demands file n (hosted file result d h f r)
+      (record {
+        refuses = rw (k .result-is) (record { number = refl; place = refl; line = refl });
+        horizon = ap (λ fs. getD fs 4 0) (k .result-is);
+        method = record { figures = rw (k .result-is) (rw (k .premium) refl); D = k .D-is; H = k .H-is; f = k .f-is; R = k .R-is };
+        distance = λ fund e a. k .distance fund e (ap numberIn a);
+      })
 
 pub prints : (file before after : List ℕ) (size : ℕ) → Written (shown file (length before)) before after size → Prints file before after size
 prints file before after size w =

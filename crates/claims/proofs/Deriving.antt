@@ -7,17 +7,17 @@ use native.Mathlib.Omega.{arith}
 use lib.IntN.{ℤ, pos, natAbs, _*ℤ_, _-ℤ_}
 use lib.ListN.{getD}
 use Rattle.fund.specs.declared.Refusal.{Refusal}
-use Rattle.fund.specs.declared.Refusal.the-variants.{Form, Range, Edition, Deductible, Unmatched, Half, Load, Order, Short, Wide}
 use Rattle.fund.specs.declared.Verdict.{Verdict}
 use Rattle.fund.specs.declared.Verdict.the-variants.{Accepted, Refused}
 use Rattle.fund.specs.Transform.{unit}
 use Rattle.fund.specs.Reading.{FundFile, Reading, read, stopped, reading}
 use Rattle.fund.specs.Folding.{lives}
-use Rattle.fund.specs.Refusals.{Lengths, numberOf, numberIn, verdict}
+use Rattle.fund.specs.Refusals.{Lengths, numberIn, verdict}
 use Rattle.fund.specs.Answer.{Answer, refused, fundCells, accepted, answerOf, answerTo, answer}
 use Rattle.fund.specs.Listing.{horizonIn}
 use Rattle.fund.specs.Distance.{fileDenominator, exactAt, exactPremiumAt, apart, WithinBounds}
 use Rattle.laws.specs.Answer.{accepted-read}
+use Rattle.laws.specs.Numbers.{zero-accepted}
 use Rattle.pricing.specs.Priced.{horizonWith}
 use Rattle.claims.specs.Demands.{Outcome, Refuses, Zero, Method, Close, Demands}
 
@@ -40,23 +40,6 @@ refused-as file n l = go (reading file) refl l
     go (read fund) e h = after fund e (verdict fund n (fundCells (fund .header) (lives fund))) refl h
     go (stopped why place) e h = record { why = why; place = place; is = ap (answerTo file n) e }
 
--- ---- acceptance
-number-above : (why : Refusal) → 1 ≤ numberOf why
-number-above Form = omega arith
-number-above Range = omega arith
-number-above Edition = omega arith
-number-above Deductible = omega arith
-number-above Unmatched = omega arith
-number-above Half = omega arith
-number-above Load = omega arith
-number-above Order = omega arith
-number-above Short = omega arith
-number-above Wide = omega arith
-
-zero-accepted : (v : Verdict) → numberIn v ≡ 0 → v ≡ Accepted
-zero-accepted Accepted e = refl
-zero-accepted (Refused why place) e = absurd (omega (arith, number-above why, e))
-
 -- ---- the demands
 -- What is left is the answer, and the distance holds of it.
 pub record Answered (file : List ℕ) (n : Lengths) (o : Outcome) : Type 0 where
@@ -73,10 +56,7 @@ module _ (file : List ℕ) (n : Lengths) (o : Outcome) (k : Answered file n o) w
       let e = s .is in
       record {
         horizon = k .horizon ∙ ap (λ (a : Answer). horizonWith (a .verdict) (horizonIn (reading file))) e;
-        truncation = m .truncation ∙ ap (λ (a : Answer). a .truncation) e;
-        mean = m .mean ∙ ap (λ (a : Answer). a .mean) e;
-        premium = m .premium ∙ ap (λ (a : Answer). a .premium) e;
-        within = m .within ∙ ap (λ (a : Answer). a .within) e;
+        figures = m .figures ∙ ap (λ (a : Answer). a .figures) e;
         D = m .D ∙ ap (λ (a : Answer). a .D) e;
         H = m .H ∙ ap (λ (a : Answer). a .H) e;
         f = m .f ∙ ap (λ (a : Answer). a .f) e;
@@ -94,8 +74,8 @@ module _ (file : List ℕ) (n : Lengths) (o : Outcome) (k : Answered file n o) w
         fund = a .fund;
         is-read = a .is-read;
         horizon = X;
-        cell = λ x l. rw (m .f, m .R, m .truncation) (w .cell x (omega (arith, l, X)));
-        premium = rw (m .premium, m .mean, m .within) (w .premium);
+        cell = λ x l. rw (m .f, m .R, m .figures) (w .cell x (omega (arith, l, X)));
+        premium = rw (m .figures) (w .premium);
       }
 
   pub demands : Demands file n o

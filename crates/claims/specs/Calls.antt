@@ -2,9 +2,10 @@
 use mathlib.Core.List.{List}
 use Prim.Native.Nat.{ℕ, _-_}
 use lib.IntN.{ℤ}
-use lib.ListN.{take, drop}
+use lib.ListN.{getD, take, drop}
 use Rattle.fund.specs.Refusals.{numberIn, placeIn}
 use Rattle.pricing.specs.declared.Priced.{Priced}
+use Rattle.miguepo.specs.Bits.{readSigned}
 use Rattle.claims.specs.Demands.{Outcome}
 
 abbrev pub priced : List ℕ → Priced → List ℤ → List ℕ → List ℤ → List ℕ → Outcome
@@ -14,10 +15,22 @@ priced file p d h f r =
       place = placeIn (p .verdict);
       line = take (p .end - p .start) (drop (p .start) file);
       horizon = p .horizon;
-      truncation = p .truncation;
-      mean = p .mean;
-      premium = p .premium;
-      within = p .within;
+      figures = p .figures;
+      D = d;
+      H = h;
+      f = f;
+      R = r;
+    }
+
+-- The fields of a host's struct in C, in their order, each read as its type there.
+abbrev pub hosted : List ℕ → List ℕ → List ℤ → List ℕ → List ℤ → List ℕ → Outcome
+hosted file result d h f r =
+    record {
+      number = getD result 0 0;
+      place = getD result 1 0;
+      line = take (getD result 3 0) (drop (getD result 2 0) file);
+      horizon = getD result 4 0;
+      figures = record { truncation = getD result 5 0; mean = getD result 6 0; premium = readSigned (getD result 7 0); within = getD result 8 0 };
       D = d;
       H = h;
       f = f;

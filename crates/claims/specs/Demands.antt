@@ -4,6 +4,7 @@ use mathlib.Core.List.{List}
 use Prim.Native.Nat.{ℕ, _+_, _*_, _^_, _<_, _≤_}
 use lib.IntN.{ℤ, pos, natAbs, _*ℤ_, _-ℤ_}
 use lib.ListN.{getD, take, drop, replicate}
+use Rattle.fund.specs.declared.Figures.{Figures}
 use Rattle.fund.specs.Reading.{FundFile, read, reading}
 use Rattle.fund.specs.Refusals.{Lengths, numberIn, placeIn}
 use Rattle.fund.specs.Answer.{Part, answer}
@@ -15,10 +16,7 @@ pub record Outcome : Type 0 where
   pub place : ℕ
   pub line : List ℕ
   pub horizon : ℕ
-  pub truncation : ℕ
-  pub mean : ℕ
-  pub premium : ℤ
-  pub within : ℕ
+  pub figures : Figures
   pub D : List ℤ
   pub H : List ℕ
   pub f : List ℤ
@@ -37,10 +35,7 @@ pub record Refuses (file : List ℕ) (n : Lengths) (o : Outcome) : Type 0 where
 -- "A refusal gives number and place, zero for every figure, and zero in every lent result cell."
 pub record Zero (n : Lengths) (o : Outcome) : Type 0 where
   pub horizon : o .horizon ≡ 0
-  pub truncation : o .truncation ≡ 0
-  pub mean : o .mean ≡ 0
-  pub premium : o .premium ≡ pos 0
-  pub within : o .within ≡ 0
+  pub figures : o .figures ≡ record { truncation = 0; mean = 0; premium = pos 0; within = 0 }
   pub D : o .D ≡ replicate (n .D) (pos 0)
   pub H : o .H ≡ replicate (n .H) 0
   pub f : o .f ≡ replicate (n .f) (pos 0)
@@ -48,10 +43,7 @@ pub record Zero (n : Lengths) (o : Outcome) : Type 0 where
 
 -- Demand 2. Every figure and every lent cell is what document 01's steps define.
 pub record Method (file : List ℕ) (n : Lengths) (o : Outcome) : Type 0 where
-  pub truncation : o .truncation ≡ answer file n .truncation
-  pub mean : o .mean ≡ answer file n .mean
-  pub premium : o .premium ≡ answer file n .premium
-  pub within : o .within ≡ answer file n .within
+  pub figures : o .figures ≡ answer file n .figures
   pub D : o .D ≡ answer file n .D
   pub H : o .H ≡ answer file n .H
   pub f : o .f ≡ answer file n .f
@@ -64,8 +56,8 @@ pub record Close (file : List ℕ) (o : Outcome) : Type 0 where
   pub is-read : reading file ≡ read fund
   pub horizon : o .horizon ≡ fund .header .horizon
   pub cell : (x : ℕ) → x ≤ o .horizon →
-      natAbs (pos (fileDenominator fund) *ℤ getD (o .f) x (pos 0) -ℤ pos (10 ^ 12) *ℤ exactAt fund x) ≤ fileDenominator fund * (getD (o .R) x 0 + 2 * o .truncation)
-  pub premium : natAbs (pos (fileDenominator fund) *ℤ o .premium -ℤ exactPremiumAt fund (o .mean)) ≤ fileDenominator fund * o .within
+      natAbs (pos (fileDenominator fund) *ℤ getD (o .f) x (pos 0) -ℤ pos (10 ^ 12) *ℤ exactAt fund x) ≤ fileDenominator fund * (getD (o .R) x 0 + 2 * o .figures .truncation)
+  pub premium : natAbs (pos (fileDenominator fund) *ℤ o .figures .premium -ℤ exactPremiumAt fund (o .figures .mean)) ≤ fileDenominator fund * o .figures .within
 
 pub record Demands (file : List ℕ) (n : Lengths) (o : Outcome) : Type 0 where
   pub refuses : Refuses file n o

@@ -1,12 +1,14 @@
 // What a customer may hold us to. Each function makes one public call and promises, in the plain words of specs/, what follows from
 // that call's contract alone. So a promise of a call that is weakened fails here.
+mod steps;
+
 use pricing::Priced;
 ghost use mathlib.Core.Path.{_≡_};
 ghost use Rattle.fund.specs.Answer.{answer};
 ghost use Rattle.valuation.specs.Valued.{lengths};
 ghost use Rattle.claims.specs.Demands.{Demands, bytesOf};
 ghost use Rattle.claims.specs.Listing.{Prints};
-ghost use Rattle.claims.specs.Calls.{priced};
+ghost use Rattle.claims.specs.Calls.{priced, hosted};
 
 // Demands 1, 2 and 3 of the pricing call.
 pub fn price(
@@ -35,6 +37,21 @@ pub fn line<'a>(
 {
     let p = pricing::price(file, transform, h, f, r);
     pricing::line(file, p)
+}
+
+// The same of the call for C.
+pub fn host(
+    file: &[u8],
+    transform: &mut [i64],
+    h: &mut [u64],
+    f: &mut [i64],
+    r: &mut [u64],
+    result: &mut [u64; miguepo::FIELDS],
+)
+    ensures { λ _. ⌜ Demands (now (file .entry)) (lengths (now (transform .entry)) (now (h .entry)) (now (f .entry)) (now (r .entry)))
+        (hosted (now (file .entry)) (now (result .exit)) (now (transform .exit)) (now (h .exit)) (now (f .exit)) (now (r .exit))) ⌝ }
+{
+    miguepo::miguepo_price(file, transform, h, f, r, result);
 }
 
 // The listing.

@@ -6,3 +6,5 @@ pub mod Answer
 pub mod Valued
 pub mod Slices
 pub mod Tells
+pub mod Numbers
+pub mod Rows

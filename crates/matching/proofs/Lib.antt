@@ -1,3 +1,3 @@
-pub mod Rating
-pub mod Filling
+pub mod Searching
+pub mod SoFar
 pub mod Answering

@@ -1,3 +1,2 @@
-pub mod Rows
-pub mod Search
 pub mod Matching
+pub mod Lives

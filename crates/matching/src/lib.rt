@@ -1,77 +1,51 @@
-// Members matched with the rates of their ages: the folded rates of each, and the refusals 3 to 6.
+// Members matched with the rates of their ages: the refusals 3 to 6, and the life of each member.
+mod half;
 mod lives;
-mod rates;
-mod room;
-mod verdict;
+mod table;
 
 use fund::Fund;
-use fund::Verdict;
-pub use verdict::Matched;
-ghost use Rattle.matching.specs.Rows.{rateRows, memberRows, fileOf};
-ghost use Rattle.matching.specs.Matching.{Room, RateRoom, MemberRoom, Matching};
-ghost use Rattle.widths.specs.Lives.{livesOf};
+use fund::Member;
+use fund::Rate;
+use fund::Refusal;
+pub use table::Matched;
+ghost use mathlib.Core.Path.{_≡_};
+ghost use Prim.Native.Nat.{suc};
+ghost use lib.Dec.{ltb};
+ghost use Rattle.matching.specs.Matching.{matchedTables};
 
-// The rate rows stand in three slices and the member rows in four; q and i take the folded rates of the members.
+// 4: the deductible is above X + 1, which is not formed, as it may not fit.
+fn is_above(deductible: u64, horizon: u64) -> bool
+    ensures { λ r. ⌜ r ≡ ltb (suc horizon) deductible ⌝ }
+{
+    if deductible <= horizon {
+        return false;
+    }
+    1 < deductible - horizon
+}
+
+// The first `rated` rows of one table and the first `enrolled` of the other, with the header.
 pub fn matched(
     fund: Fund,
-    rated: &[u64],
-    rate_q: &[u64],
-    rate_i: &[u64],
-    rates: usize,
-    ages: &[u64],
-    groups: &[u64],
-    d: &[u64],
-    e: &[u64],
-    members: usize,
-    q: &mut [u64],
-    i: &mut [u64],
+    rates: [Rate; Fund::RATE_ROWS],
+    rated: usize,
+    members: [Member; Fund::MEMBER_ROWS],
+    enrolled: usize,
 ) -> Matched
-    ensures { λ r. ⌜ Matching
-        (Room fund (RateRoom rates (now (rated .entry)) (now («rate_q» .entry)) (now («rate_i» .entry)))
-        (MemberRoom members (now (ages .entry)) (now (groups .entry)) (now (d .entry)) (now (e .entry)))
-        members (now (q .entry)) (now (i .entry)))
-        (fileOf fund (rateRows rates (now (rated .entry)) (now («rate_q» .entry)) (now («rate_i» .entry)))
-        (memberRows members (now (ages .entry)) (now (groups .entry)) (now (d .entry)) (now (e .entry))))
-        (livesOf members (now (groups .entry)) (now (q .exit)) (now (i .exit)) (now (d .entry)) (now (e .entry))) r ⌝ }
+    ensures { λ r. ⌜ r ≡ matchedTables fund rates rated members enrolled ⌝ }
 {
-    if !room::room(
-        fund,
-        rated,
-        rate_q,
-        rate_i,
-        rates,
-        ages,
-        groups,
-        d,
-        e,
-        members,
-        q,
-        i,
-    ) {
-        return Matched {
-            room: false,
-            verdict: Verdict::Accepted,
-        };
+    if Fund::RATE_ROWS < rated {
+        return table::refused(Refusal::Range, 0);
     }
-    lives::fill(
-        rated,
-        rate_q,
-        rate_i,
-        rates,
-        ages,
-        groups,
-        d,
-        e,
-        members,
-        q,
-        i,
-    );
-    let missing = verdict::first_unmatched(rated, rate_q, rate_i, rates, ages, members);
-    let half = verdict::first_half(groups, q, i, members);
-    // six header lines and the rate lines stand before the first member
-    let first = 7 + rates as u64;
-    Matched {
-        room: true,
-        verdict: verdict::answer(fund, first, members, missing, half),
+    if Fund::MEMBER_ROWS < enrolled {
+        return table::refused(Refusal::Range, 0);
     }
+    if fund.rates != fund.members {
+        return table::refused(Refusal::Edition, 0);
+    }
+    if is_above(fund.deductible, fund.horizon) {
+        return table::refused(Refusal::Deductible, 0);
+    }
+    // the header lines and the rate lines stand before the first member
+    let line = Fund::HEADER_LINES as u64 + rated as u64 + 1;
+    lives::by_member(rates, rated, members, enrolled, line)
 }

@@ -1,16 +1,22 @@
-// The folded rates of the members.
-use crate::rates;
-use crate::rates::Found;
+// The life of each member: its amounts and the folded rates of its age.
+use crate::half;
+use crate::table;
+use crate::table::Matched;
+use fund::Fund;
 use fund::Life;
 use fund::Member;
+use fund::Rate;
+use fund::Refusal;
+use fund::Verdict;
 ghost use mathlib.Core.Path.{_≡_};
-ghost use Prim.Native.Nat.{_<_, _≤_};
+ghost use mathlib.Core.Option.{some};
+ghost use Prim.Native.Nat.{_+_, _^_, _≤_, _<_};
 ghost use lib.Dec.{eqb};
-ghost use lib.ListN.{length};
+ghost use lib.ListN.{take};
 ghost use Rattle.fund.specs.Base.{if_then_else_};
+ghost use Rattle.fund.specs.Limits.{most-rates, most-members};
 ghost use Rattle.fund.specs.Folding.{folded as foldedOf};
-ghost use Rattle.matching.specs.Rows.{rateIn, rateRows, memberRow};
-ghost use Rattle.matching.specs.Matching.{RateRoom, MemberRoom, Filled};
+ghost use Rattle.matching.specs.Lives.{livesFrom, byMember};
 
 // "If d = 0, q counts as 0; if e = 0, i counts as 0."
 fn counted(amount: u64, rate: u64) -> u64
@@ -22,64 +28,75 @@ fn counted(amount: u64, rate: u64) -> u64
     rate
 }
 
-fn folded(found: Found, m: Member) -> Life
-    ensures { λ r. ⌜ r ≡ foldedOf (rateIn found) m ⌝ }
+fn folded(r: Rate, m: Member) -> Life
+    ensures { λ l. ⌜ l ≡ foldedOf (some r) m ⌝ }
 {
-    match found {
-        Found::Row(r) => Life {
-            group: m.group,
-            q: counted(m.d, r.q),
-            i: counted(m.e, r.i),
-            d: m.d,
-            e: m.e,
-        },
-        Found::Nothing => Life {
-            group: m.group,
-            q: 0,
-            i: 0,
-            d: m.d,
-            e: m.e,
-        },
+    Life {
+        group: m.group,
+        q: counted(m.d, r.q),
+        i: counted(m.e, r.i),
+        d: m.d,
+        e: m.e,
     }
 }
 
-fn member(ages: &[u64], groups: &[u64], d: &[u64], e: &[u64], k: usize) -> Member
-    requires { ⌜ (k < length (now ages)) × (k < length (now groups)) × (k < length (now d)) × (k < length (now e)) ⌝ }
-    ensures { λ r. ⌜ r ≡ memberRow (now (ages .entry)) (now (groups .entry)) (now (d .entry)) (now (e .entry)) k ⌝ }
+// 5: "a member's age has no rate row", or the lives. The rate row j is compared with the member k, so each member starts
+// again at the first row; `line` is the line of the first member.
+fn lives_of(
+    rates: [Rate; Fund::RATE_ROWS],
+    rated: usize,
+    members: [Member; Fund::MEMBER_ROWS],
+    enrolled: usize,
+    line: u64,
+) -> Matched
+    requires { ⌜ (rated ≤ most-rates) × (enrolled ≤ most-members) × (line + enrolled < 2 ^ 64) ⌝ }
+    ensures { λ r. ⌜ r ≡ livesFrom (take rated rates) (take enrolled members) line ⌝ }
 {
-    Member {
-        age: ages[k],
-        group: groups[k],
-        d: d[k],
-        e: e[k],
-    }
-}
-
-pub(crate) fn fill(
-    rated: &[u64],
-    rate_q: &[u64],
-    rate_i: &[u64],
-    rates: usize,
-    ages: &[u64],
-    groups: &[u64],
-    d: &[u64],
-    e: &[u64],
-    members: usize,
-    q: &mut [u64],
-    i: &mut [u64],
-)
-    requires { ⌜ RateRoom rates (now rated) (now «rate_q») (now «rate_i»)
-        × MemberRoom members (now ages) (now groups) (now d) (now e)
-        × (members ≤ length (now q)) × (members ≤ length (now i)) ⌝ }
-    ensures { λ r. ⌜ Filled members (rateRows rates (now (rated .entry)) (now («rate_q» .entry)) (now («rate_i» .entry)))
-        (memberRow (now (ages .entry)) (now (groups .entry)) (now (d .entry)) (now (e .entry))) (now (q .exit)) (now (i .exit)) ⌝ }
-{
+    let none = table::no_life();
+    let mut lives = [none; Fund::MEMBER_ROWS];
     let mut k: usize = 0;
-    while k < members {
-        let m = member(ages, groups, d, e, k);
-        let life = folded(rates::rate_at(rated, rate_q, rate_i, rates, m.age), m);
-        q[k] = life.q;
-        i[k] = life.i;
-        k += 1;
+    let mut j: usize = 0;
+    while k < enrolled {
+        if rated <= j {
+            return table::refused(Refusal::Unmatched, line + k as u64);
+        }
+        let m = members[k];
+        let r = rates[j];
+        if r.age == m.age {
+            lives[k] = folded(r, m);
+            k += 1;
+            j = 0;
+            continue;
+        }
+        j += 1;
+    }
+    Matched {
+        verdict: Verdict::Accepted,
+        lives,
+    }
+}
+
+// 5, then 6, each over all members, or the lives.
+pub(crate) fn by_member(
+    rates: [Rate; Fund::RATE_ROWS],
+    rated: usize,
+    members: [Member; Fund::MEMBER_ROWS],
+    enrolled: usize,
+    line: u64,
+) -> Matched
+    requires { ⌜ (rated ≤ most-rates) × (enrolled ≤ most-members) × (line + enrolled < 2 ^ 64) ⌝ }
+    ensures { λ r. ⌜ r ≡ byMember (take rated rates) (take enrolled members) line ⌝ }
+{
+    let found = lives_of(rates, rated, members, enrolled, line);
+    let verdict = found.verdict;
+    match verdict {
+        Verdict::Refused(_, _) => found,
+        Verdict::Accepted => {
+            let lives = found.lives;
+            match half::first_half(lives, enrolled, line) {
+                Verdict::Refused(why, place) => table::refused(why, place),
+                Verdict::Accepted => found,
+            }
+        }
     }
 }

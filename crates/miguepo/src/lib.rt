@@ -3,7 +3,11 @@ use fund::Verdict;
 ghost use mathlib.Core.Path.{_≡_};
 ghost use Rattle.fund.specs.Refusals.{numberIn, placeIn};
 ghost use Rattle.valuation.specs.Valued.{lengths};
-ghost use Rattle.miguepo.specs.Host.{given, Hosts};
+ghost use Rattle.miguepo.specs.Bits.{bitsOf};
+ghost use Rattle.miguepo.specs.Host.{Hosts};
+
+// How many fields the struct has that C declares.
+pub const FIELDS: usize = 9;
 
 fn number_of(verdict: Verdict) -> u64
     ensures { λ r. ⌜ r ≡ numberIn verdict ⌝ }
@@ -23,7 +27,19 @@ fn place_of(verdict: Verdict) -> u64
     }
 }
 
-// The number, and through the references what else the call answers.
+// A signed number's two's complement.
+fn bits(z: i64) -> u64
+    ensures { λ r. ⌜ r ≡ bitsOf z ⌝ }
+{
+    if z < 0 {
+        let below = -1 - z;
+        return 0xffff_ffff_ffff_ffff - (below as u64);
+    }
+    z as u64
+}
+
+// Prices the fund of a file into the four result slices, and fills the struct: on this side its fields, eight bytes each, are an
+// array.
 #[no_mangle]
 pub extern "C" fn miguepo_price(
     file: &[u8],
@@ -31,31 +47,27 @@ pub extern "C" fn miguepo_price(
     h: &mut [u64],
     f: &mut [i64],
     r: &mut [u64],
-    place: &mut u64,
-    line_start: &mut usize,
-    line_size: &mut usize,
-    horizon: &mut u64,
-    truncation: &mut u64,
-    mean: &mut u64,
-    premium: &mut i64,
-    within: &mut u64,
-) -> u64
-    ensures { λ number. ⌜ Hosts (now (file .entry)) (lengths (now (transform .entry)) (now (h .entry)) (now (f .entry)) (now (r .entry)))
-        (given number (now (place .exit)) (now («line_start» .exit)) (now («line_size» .exit)) (now (horizon .exit)))
-        (now (truncation .exit)) (now (mean .exit)) (now (premium .exit)) (now (within .exit))
-        (now (transform .exit)) (now (h .exit)) (now (f .exit)) (now (r .exit)) ⌝ }
+    result: &mut [u64; FIELDS],
+)
+    ensures { λ _. ⌜ Hosts (now (file .entry)) (lengths (now (transform .entry)) (now (h .entry)) (now (f .entry)) (now (r .entry)))
+        (now (result .exit)) (now (transform .exit)) (now (h .exit)) (now (f .exit)) (now (r .exit)) ⌝ }
 {
     let priced = pricing::price(file, transform, h, f, r);
     let verdict = priced.verdict;
-    *place = place_of(verdict);
-    *line_start = priced.start;
-    *line_size = priced.end - priced.start;
-    *horizon = priced.horizon;
     let figures = priced.figures;
-    *truncation = figures.truncation;
-    *mean = figures.mean;
-    let premium_figure = figures.premium;
-    *premium = premium_figure;
-    *within = figures.within;
-    number_of(verdict)
+    let number = number_of(verdict);
+    let place = place_of(verdict);
+    let line_size = priced.end - priced.start;
+    let premium = bits(figures.premium);
+    *result = [
+        number,
+        place,
+        priced.start as u64,
+        line_size as u64,
+        priced.horizon,
+        figures.truncation,
+        figures.mean,
+        premium,
+        figures.within,
+    ];
 }

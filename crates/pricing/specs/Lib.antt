@@ -1,4 +1,2 @@
 pub mod Joining
-pub mod Rows
 pub mod Priced
-pub mod Parts

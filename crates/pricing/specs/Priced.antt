@@ -6,6 +6,7 @@ use Prim.Native.Nat.{ℕ, _-_, _≤_}
 use lib.Dec.{leb}
 use lib.IntN.{ℤ}
 use lib.ListN.{length, take, drop}
+use Rattle.fund.specs.declared.Fund.{Fund}
 use Rattle.fund.specs.declared.Verdict.{Verdict}
 use Rattle.fund.specs.declared.Verdict.the-variants.{Accepted, Refused}
 use Rattle.fund.specs.Base.{if_then_else_}
@@ -14,6 +15,8 @@ use Rattle.fund.specs.Refusals.{Lengths}
 use Rattle.fund.specs.Answer.{Answer, answer}
 use Rattle.fund.specs.Listing.{horizonIn}
 use Rattle.fund.specs.Distance.{WithinBounds}
+use Rattle.matching.specs.declared.table.Matched.{Matched}
+use Rattle.matching.specs.Matching.{matching}
 use Rattle.pricing.specs.declared.Priced.{Priced}
 
 -- The answer that a call leaves: what it returns, and the slices.
@@ -48,11 +51,13 @@ pub record Prices (file : List ℕ) (n : Lengths) (p : Priced) (a : Answer) : Ty
   pub answers : Answers file p a (answer file n)
   pub distance : (fund : FundFile) → reading file ≡ read fund → a .verdict ≡ Accepted → WithinBounds fund a
 
--- The tables hold the fund file that was read.
-pub record ReadInto (file : List ℕ) (fund : FundFile) (Rates Members : Type 0) : Type 0 where
-  pub is : reading file ≡ read fund
-  pub rates : Rates
-  pub members : Members
+-- Reading gave a fund file, whose header and members these are, and whose refusals 3 to 6 and lives were found.
+pub record MatchedFund (file : List ℕ) (fund : Fund) (m : Matched) (enrolled : ℕ) : Type 0 where
+  pub of : FundFile
+  pub is : reading file ≡ read of
+  pub header : fund ≡ of .header
+  pub matched : m ≡ matching of
+  pub members : enrolled ≡ length (of .members)
 
 -- The bytes from start to end, and none where these lie outside the file.
 unfoldable pub lineOf : List ℕ → Priced → List ℕ

@@ -1,19 +1,16 @@
 // One call prices a fund: from the bytes of its file to its figures and cells, or to the refusal and its line.
-mod lives;
-
 use fund::Figures;
 use fund::Fund;
 use fund::Refusal;
 use fund::Verdict;
-use reader::Part;
+use matching::Matched;
+use whole::clear;
+use whole::clear_signed;
 ghost use mathlib.Core.Path.{_≡_};
 ghost use Rattle.fund.specs.declared.Verdict;
-ghost use Rattle.fund.specs.Answer.{part, refused, answer};
-ghost use Rattle.reader.specs.Part.{Spans};
-ghost use Rattle.matching.specs.Rows.{rateRows, memberRows, fileOf};
-ghost use Rattle.matching.specs.Matching.{RateRoom, MemberRoom};
+ghost use Rattle.fund.specs.Answer.{refused, answer};
 ghost use Rattle.valuation.specs.Valued.{lengths};
-ghost use Rattle.pricing.specs.Priced.{left, horizonWith, Answers, ReadInto, Prices, lineOf};
+ghost use Rattle.pricing.specs.Priced.{left, horizonWith, Answers, MatchedFund, Prices, lineOf};
 
 // What a call answers beside the result slices: the verdict, where the part of the host's bytes that goes with it starts and
 // ends, the horizon of a fund that is accepted, and the figures.
@@ -40,21 +37,20 @@ fn stopped(
     file: &[u8],
     why: Refusal,
     place: u64,
-    line: Part,
     transform: &mut [i64],
     h: &mut [u64],
     f: &mut [i64],
     r: &mut [u64],
 ) -> Priced
-    requires { ⌜ Spans (now file) (part (now file) (Verdict.Refused why place)) line ⌝ }
     ensures { λ p. ⌜ Answers (now (file .entry)) p
         (left p (now (transform .exit)) (now (h .exit)) (now (f .exit)) (now (r .exit)))
         (refused (now (file .entry)) (lengths (now (transform .entry)) (now (h .entry)) (now (f .entry)) (now (r .entry))) (Verdict.Refused why place)) ⌝ }
 {
-    valuation::clear_signed(transform);
-    valuation::clear(h);
-    valuation::clear_signed(f);
-    valuation::clear(r);
+    clear_signed(transform);
+    clear(h);
+    clear_signed(f);
+    clear(r);
+    let line = reader::part_of(file, Verdict::Refused(why, place));
     Priced {
         verdict: Verdict::Refused(why, place),
         start: line.start,
@@ -64,69 +60,36 @@ fn stopped(
     }
 }
 
-// Refusals 3 to 6, then the valuation of the lives.
+// Where 3 to 6 stop, their refusal, and else the valuation of the lives.
 fn valued(
     file: &[u8],
     fund: Fund,
-    rated: &[u64],
-    rate_q: &[u64],
-    rate_i: &[u64],
-    rates: usize,
-    ages: &[u64],
-    groups: &[u64],
-    d: &[u64],
-    e: &[u64],
-    members: usize,
+    matched: Matched,
+    enrolled: usize,
     transform: &mut [i64],
     h: &mut [u64],
     f: &mut [i64],
     r: &mut [u64],
 ) -> Priced
-    requires { ⌜ ReadInto (now file)
-        (fileOf fund (rateRows rates (now rated) (now «rate_q») (now «rate_i»)) (memberRows members (now ages) (now groups) (now d) (now e)))
-        (RateRoom rates (now rated) (now «rate_q») (now «rate_i»))
-        (MemberRoom members (now ages) (now groups) (now d) (now e)) ⌝ }
+    requires { ⌜ MatchedFund (now file) fund matched enrolled ⌝ }
     ensures { λ p. ⌜ Answers (now (file .entry)) p
         (left p (now (transform .exit)) (now (h .exit)) (now (f .exit)) (now (r .exit)))
         (answer (now (file .entry)) (lengths (now (transform .entry)) (now (h .entry)) (now (f .entry)) (now (r .entry)))) ⌝ }
 {
-    let mut q = [0u64; 1000];
-    let mut i = [0u64; 1000];
-    let found = matching::matched(
-        fund,
-        rated,
-        rate_q,
-        rate_i,
-        rates,
-        ages,
-        groups,
-        d,
-        e,
-        members,
-        &mut q,
-        &mut i,
-    );
-    let verdict = found.verdict;
+    let verdict = matched.verdict;
     match verdict {
-        Verdict::Refused(why, place) => {
-            let line = reader::part_of(file, verdict);
-            stopped(file, why, place, line, transform, h, f, r)
-        }
+        Verdict::Refused(why, place) => stopped(file, why, place, transform, h, f, r),
         Verdict::Accepted => {
-            let table = lives::gathered(groups, &q, &i, d, e, members);
-            let value = lives::lent(fund, table, members, transform, h, f, r);
+            let table = matched.lives;
+            let value = valuation::value(fund, table, enrolled, transform, h, f, r);
             let outcome = value.verdict;
+            let figures = value.figures;
             Priced {
                 verdict: outcome,
                 start: 0,
                 end: 0,
                 horizon: horizon_of(outcome, fund.horizon),
-                figures: Figures {
-                    truncation: value.truncation,
-                    mean: value.mean,
-                    premium: value.premium,
-                    within: value.within,
-                },
+                figures,
             }
         }
     }
@@ -143,51 +106,17 @@ pub fn price(
     ensures { λ p. ⌜ Prices (now (file .entry)) (lengths (now (transform .entry)) (now (h .entry)) (now (f .entry)) (now (r .entry))) p
         (left p (now (transform .exit)) (now (h .exit)) (now (f .exit)) (now (r .exit))) ⌝ }
 {
-    let mut rated = [0u64; 121];
-    let mut rate_q = [0u64; 121];
-    let mut rate_i = [0u64; 121];
-    let mut ages = [0u64; 1000];
-    let mut groups = [0u64; 1000];
-    let mut d = [0u64; 1000];
-    let mut e = [0u64; 1000];
-    let found = reader::read(
-        file,
-        &mut rated,
-        &mut rate_q,
-        &mut rate_i,
-        &mut ages,
-        &mut groups,
-        &mut d,
-        &mut e,
-    );
+    let found = reader::read(file);
     let verdict = found.verdict;
     match verdict {
-        Verdict::Refused(why, place) => {
-            let line = Part {
-                start: found.start,
-                end: found.end,
-            };
-            stopped(file, why, place, line, transform, h, f, r)
-        }
+        Verdict::Refused(why, place) => stopped(file, why, place, transform, h, f, r),
         Verdict::Accepted => {
             let fund = found.fund;
-            valued(
-                file,
-                fund,
-                &rated,
-                &rate_q,
-                &rate_i,
-                found.rates,
-                &ages,
-                &groups,
-                &d,
-                &e,
-                found.members,
-                transform,
-                h,
-                f,
-                r,
-            )
+            let rates = found.rates;
+            let members = found.members;
+            let enrolled = found.enrolled;
+            let matched = matching::matched(fund, rates, found.rated, members, enrolled);
+            valued(file, fund, matched, enrolled, transform, h, f, r)
         }
     }
 }

@@ -15,13 +15,12 @@ use Rattle.fund.specs.Reading.{stopped, inRanges, HeaderLine, headerLines, head
 use Rattle.laws.specs.Accepted.{All}
 use Rattle.laws.specs.Ranges.{spelled-length}
 use Rattle.reader.specs.declared.line.Line.{Line}
-use Rattle.reader.specs.declared.line.Stop.{Stop}
+use Rattle.reader.specs.declared.header.HeaderStep.the-variants.{Number, Stopped}
 use Rattle.reader.specs.declared.text.Numbers.{Numbers}
 use Rattle.reader.specs.Text.{numbersIn}
-use Rattle.reader.specs.Lines.{linesAt, lineOf, NextLine, Passed, stopAt}
-use Rattle.reader.specs.Header.{noLine, headerLine, numbersOf, headerFrom, HeaderNext, HeaderStop}
+use Rattle.reader.specs.Lines.{linesAt, lineOf, NextLine}
+use Rattle.reader.specs.Header.{noLine, headerLine, numbersOf, headerFrom, HeaderStepped}
 use Rattle.reader.proofs.Texts.{numbers-none, numbers-some}
-use Rattle.reader.proofs.Lines.{hands-line, hands-none, passed-next}
 
 one-number : (ns : List ℕ) → length (take 1 ns) ≡ 1 → take 1 ns ≡ getD ns 0 0 ∷ []
 one-number [] e = absurd (omega arith)
@@ -33,15 +32,15 @@ each P [] k h a = absurd (omega arith)
 each P (x ∷ hs) zero h a = a .0
 each P (x ∷ hs) (suc k) h a = each P hs k (omega arith) (a .1)
 
-one-range : (k : ℕ) → k < 6 → numbersOf k ≡ 1
+one-range : (k : ℕ) → k < length headerLines → numbersOf k ≡ 1
 unfolding headerLine headerLines
 one-range k h = each (λ (l : HeaderLine). length (l .ranges) ≡ 1) headerLines k h (refl, (refl, (refl, (refl, (refl, (refl, tt))))))
 
-split : (k : ℕ) → k < 6 → drop k headerLines ≡ headerLine k ∷ drop (suc k) headerLines
+split : (k : ℕ) → k < length headerLines → drop k headerLines ≡ headerLine k ∷ drop (suc k) headerLines
 unfolding headerLines headerLine
 split k h = drop-cons headerLines k noLine h
 
-module _ (file : List ℕ) (k at : ℕ) (h : k < 6) (ns : List ℕ) where
+module _ (file : List ℕ) (k at : ℕ) (h : k < length headerLines) (ns : List ℕ) where
   pub header-missing : length file ≤ at → headerFrom file k ns at ≡ stopped Form (k + 1)
   unfolding readHeader linesFrom
   header-missing g = rw (split k h, drop-of-length-le file g)
@@ -66,48 +65,28 @@ module _ (file : List ℕ) (k at : ℕ) (h : k < 6) (ns : List ℕ) where
       header-next f = rw (split k h, n .first, add-one k) (rw (one, readHeader) (rw (f, readHeader) (rw (add-one (suc k)))))
 
 -- What a step answers.
-module _ (file : List ℕ) (k at : ℕ) (p : Passed file k at) (h : k < 6) where
-  pub step-missing : (l : Line) (s : Stop) → length file ≤ at → l ≡ record { start = 0; end = 0; next = 0 } → s ≡ stopAt Form k l → HeaderStop file k at s
-  step-missing l s g e f =
-      rw (f, e) (record { hands = hands-none file k at p Form refl g; same = λ ns. header-missing file k at h ns g })
+module _ (file : List ℕ) (k at : ℕ) (h : k < length headerLines) where
+  pub step-missing : length file ≤ at → HeaderStepped file k at (Stopped Form)
+  step-missing g ns = header-missing file k at h ns g
 
   module _ (l : Line) (n : NextLine file at l) (r : Numbers) (e : numbersIn (numbersOf k) r ≡ spelled (headerLine k .key) (numbersOf k) (lineOf file l)) where
-    pub step-form : (s : Stop) → r .spelled ≡ false → s ≡ stopAt Form k l → HeaderStop file k at s
-    step-form s g f =
-        rw f
-        (record {
-          hands = hands-line file k at p Form l refl n;
-          same = λ ns. header-form file k at h ns l n (sym e ∙ numbers-none (numbersOf k) r g);
-        })
+    pub step-form : r .spelled ≡ false → HeaderStepped file k at (Stopped Form)
+    step-form g ns = header-form file k at h ns l n (sym e ∙ numbers-none (numbersOf k) r g)
 
     module _ (g : r .spelled ≡ true) where
       is : spelled (headerLine k .key) (numbersOf k) (lineOf file l) ≡ some (take (numbersOf k) (r .values))
       is = sym e ∙ numbers-some (numbersOf k) r g
 
-      pub step-range : (s : Stop) → inRanges (headerLine k .ranges) (getD (r .values) 0 0 ∷ []) ≡ false → s ≡ stopAt Range k l → HeaderStop file k at s
-      step-range s b f =
-          rw f
-          (record {
-            hands = hands-line file k at p Range l refl n;
-            same = λ ns. header-range file k at h ns l n (r .values) is b;
-          })
+      pub step-range : inRanges (headerLine k .ranges) (getD (r .values) 0 0 ∷ []) ≡ false → HeaderStepped file k at (Stopped Range)
+      step-range b ns = header-range file k at h ns l n (r .values) is b
 
-      pub step-next : inRanges (headerLine k .ranges) (getD (r .values) 0 0 ∷ []) ≡ true → HeaderNext file k at (getD (r .values) 0 0) (l .next)
-      step-next b =
-          record {
-            later = n .later;
-            passed = passed-next file k at p l n;
-            same = λ ns. header-next file k at h ns l n (r .values) is b;
-          }
-
-pub passed-none : (file : List ℕ) → Passed file 0 0
-unfolding lines
-passed-none file = record { inside = omega arith; few = omega arith; left = refl }
+      pub step-next : inRanges (headerLine k .ranges) (getD (r .values) 0 0 ∷ []) ≡ true → HeaderStepped file k at (Number (getD (r .values) 0 0) (l .next))
+      step-next b ns = header-next file k at h ns l n (r .values) is b
 
 pub header-start : (file : List ℕ) → reading file ≡ headerFrom file 0 [] 0
 unfolding reading lines
 header-start file = refl
 
-pub header-end : (file v : List ℕ) (at : ℕ) → length v ≡ 6 → headerFrom file 6 (take 6 v) at ≡ readRows 7 (headerOf v) [] [] (linesAt file at)
-unfolding readHeader headerLines
-header-end file v at e = rw (take-all 6 v (omega arith))
+pub header-end : (file v : List ℕ) (k at : ℕ) → k ≡ length headerLines → length v ≡ k → headerFrom file k (take k v) at ≡ readRows (suc (length headerLines)) (headerOf v) [] [] (linesAt file at)
+unfolding readHeader
+header-end file v k at z e = rw (take-all k v (omega arith), z, drop-of-length-le headerLines {i = length headerLines} (omega arith), add-one (length headerLines))

@@ -4,6 +4,6 @@ pub mod Fields
 pub mod Lines
 pub mod Headers
 pub mod Rows
-pub mod Bodies
-pub mod Whole
+pub mod Steps
+pub mod SoFar
 pub mod Parts

@@ -5,20 +5,18 @@ use mathlib.Core.Bool.{Bool, true, false}
 use mathlib.Core.List.{List, [], _∷_, map}
 use mathlib.Core.Option.{none, some}
 use Prim.Native.Nat.{ℕ, zero, suc, _+_, _-_, _≤_, _<_}
-use native.Mathlib.Nat.{add-sub-cancel}
 use native.Mathlib.Omega.{arith}
 use borrow.Author.Tests.{lt-ltb, le-ltb}
 use lib.Dec.{eqb, ltb, leb·suc-suc}
 use lib.ListN.{length, take, drop, getD, length-drop, drop-of-length-le}
 use lib.Seq.{drop-drop, length-take-le, take-all}
-use Rattle.fund.specs.declared.Refusal.{Refusal}
 use Rattle.fund.specs.Base.{if_then_else_}
 use Rattle.fund.specs.Lines.{Line as FundLine, begun, linesFrom, lines}
 use Rattle.fund.specs.Spelling.{behind, numbers, spelled}
-use Rattle.fund.specs.Answer.{empty, namesLine, lineAt, part}
+use Rattle.fund.specs.Answer.{empty, lineAt}
 use Rattle.reader.specs.declared.line.Line.{Line}
 use Rattle.reader.specs.Text.{before}
-use Rattle.reader.specs.Lines.{linesAt, lineOf, NextLine, Passed, HandsBack, stopAt}
+use Rattle.reader.specs.Lines.{linesAt, lineOf, NextLine, Passed}
 use Rattle.reader.proofs.Fields.{before-within}
 
 lines-first : (at m : ℕ) (s : List ℕ) → 0 < length s → m ≡ at + suc (before 10 s) → linesFrom at s ≡ record { start = at; text = take (before 10 s) s; ended = ltb (before 10 s) (length s) } ∷ linesFrom m (drop (suc (before 10 s)) s)
@@ -43,6 +41,10 @@ lines-first at m (b ∷ x ∷ s) h e = go (eqb b 10) e (lines-first (suc at) m (
         ≡ record { start = at; text = take (if t then 0 else suc (before 10 (x ∷ s))) (b ∷ x ∷ s); ended = ltb (if t then 0 else suc (before 10 (x ∷ s))) (suc (suc (length s))) } ∷ linesFrom m (drop (suc (if t then 0 else suc (before 10 (x ∷ s)))) (b ∷ x ∷ s))
     go true w ih = let z : m ≡ suc at = omega arith in rw (lt-ltb 0 (suc (suc (length s))) (omega arith), z)
     go false w ih = rw (ih (omega arith), leb·suc-suc (suc (before 10 (x ∷ s))) (suc (length s)))
+
+-- Where bytes are left there is a line.
+pub line-left : (file : List ℕ) (at : ℕ) → at < length file → (l : FundLine) × ((ls : List FundLine) × (linesAt file at ≡ l ∷ ls))
+line-left file at h = (_, (_, lines-first at (at + suc (before 10 (drop at file))) (drop at file) (omega (arith, length-drop at file)) refl))
 
 -- The line at a place whose next line feed, or the file's end, is `end`.
 module _ (file : List ℕ) (at end : ℕ) (e : end ≡ at + before 10 (drop at file)) (h : at < length file) where
@@ -118,16 +120,6 @@ module _ (file : List ℕ) (passed at : ℕ) (p : Passed file passed at) where
       let e : passed + (place - 1 - passed) ≡ place - 1 = omega arith in
       let none-left : drop passed (lines file) ≡ [] = p .left ∙ rw (drop-of-length-le file h) in
       sym (getD-none (λ (x : FundLine). record { start = x .start; size = length (x .text) }) (lines file) (place - 1) empty (sym (drop-drop (place - 1 - passed) passed (lines file) ∙ ap (λ n. drop n (lines file)) e) ∙ ap (drop (place - 1 - passed)) none-left ∙ drop-of-length-le [] {i = place - 1 - passed} (omega arith)))
-
-  pub hands-line : (why : Refusal) (l : Line) → namesLine why ≡ true → NextLine file at l → HandsBack file (stopAt why passed l)
-  unfolding part
-  hands-line why l y n =
-      record { ordered = n .within .ordered; inside = n .within .inside; is = rw y (line-there (passed + 1) l (add-sub-cancel passed 1) n) }
-
-  pub hands-none : (why : Refusal) → namesLine why ≡ true → length file ≤ at → HandsBack file (stopAt why passed (record { start = 0; end = 0; next = 0 }))
-  unfolding part
-  hands-none why y h =
-      record { ordered = omega arith; inside = omega arith; is = rw y (line-missing (passed + 1) (omega arith) h) }
 
   pub passed-next : (l : Line) → NextLine file at l → Passed file (passed + 1) (l .next)
   passed-next l n =

@@ -1,15 +1,14 @@
 -- What the functions on the header answer: how much of the file's reading a header line, or the whole header, settles.
 use mathlib.Core.Path.{_≡_}
 use mathlib.Core.List.{List, [], _∷_, _++_}
-use Prim.Native.Nat.{ℕ, _+_, _<_}
+use Prim.Native.Nat.{ℕ, suc, _+_}
 use lib.ListN.{length, drop, getD}
 use Rattle.fund.specs.Reading.{Reading, stopped, HeaderLine, headerLines, readHeader, readRows, reading}
-use Rattle.reader.specs.declared.line.Stop.{Stop}
 use Rattle.reader.specs.declared.header.HeaderStep.{HeaderStep}
 use Rattle.reader.specs.declared.header.HeaderStep.the-variants.{Number, Stopped}
 use Rattle.reader.specs.declared.header.Header.{Header}
 use Rattle.reader.specs.declared.header.Header.the-variants.{Whole, Stopped as HeaderStopped}
-use Rattle.reader.specs.Lines.{linesAt, Passed, HandsBack}
+use Rattle.reader.specs.Lines.{linesAt}
 
 abbrev pub noLine : HeaderLine
 noLine = record { key = []; ranges = [] }
@@ -25,19 +24,15 @@ numbersOf k = length (headerLine k .ranges)
 abbrev pub headerFrom : List ℕ → ℕ → List ℕ → ℕ → Reading
 headerFrom file k ns at = readHeader (drop k headerLines) (k + 1) ns (linesAt file at)
 
-pub record HeaderNext (file : List ℕ) (k at n next : ℕ) : Type 0 where
-  pub later : at < next
-  pub passed : Passed file (k + 1) next
-  pub same : (ns : List ℕ) → headerFrom file k ns at ≡ headerFrom file (k + 1) (ns ++ (n ∷ [])) next
+-- The reading after the header line k, after the numbers ns.
+abbrev pub afterHeaderLine : List ℕ → ℕ → List ℕ → HeaderStep → Reading
+afterHeaderLine file k ns (Number n next) = headerFrom file (k + 1) (ns ++ (n ∷ [])) next
+afterHeaderLine file k ns (Stopped why) = stopped why (k + 1)
 
-pub record HeaderStop (file : List ℕ) (k at : ℕ) (s : Stop) : Type 0 where
-  pub hands : HandsBack file s
-  pub same : (ns : List ℕ) → headerFrom file k ns at ≡ stopped (s .why) (s .place)
-
+-- The header line k at a place decides how the file is read, whatever numbers stand before it.
 abbrev pub HeaderStepped : List ℕ → ℕ → ℕ → HeaderStep → Type 0
-HeaderStepped file k at (Number n next) = HeaderNext file k at n next
-HeaderStepped file k at (Stopped s) = HeaderStop file k at s
+HeaderStepped file k at step = (ns : List ℕ) → headerFrom file k ns at ≡ afterHeaderLine file k ns step
 
 abbrev pub HeaderRead : List ℕ → Header → Type 0
-HeaderRead file (Whole fund at) = Passed file 6 at × (reading file ≡ readRows 7 fund [] [] (linesAt file at))
-HeaderRead file (HeaderStopped s) = HandsBack file s × (reading file ≡ stopped (s .why) (s .place))
+HeaderRead file (Whole fund at) = reading file ≡ readRows (suc (length headerLines)) fund [] [] (linesAt file at)
+HeaderRead file (HeaderStopped why place) = reading file ≡ stopped why place

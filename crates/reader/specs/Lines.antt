@@ -1,15 +1,11 @@
 -- What the functions on the lines of a file answer, in the words of the fund's definitions.
 use mathlib.Core.Path.{_≡_}
 use mathlib.Core.List.{List, _∷_}
-use Prim.Native.Nat.{ℕ, _+_, _-_, _≤_, _<_}
+use Prim.Native.Nat.{ℕ, _-_, _≤_, _<_}
 use lib.Dec.{ltb}
 use lib.ListN.{length, take, drop}
-use Rattle.fund.specs.declared.Refusal.{Refusal}
-use Rattle.fund.specs.declared.Verdict.the-variants.{Refused}
 use Rattle.fund.specs.Lines.{Line as FundLine, lines, linesFrom}
-use Rattle.fund.specs.Answer.{part}
 use Rattle.reader.specs.declared.line.Line.{Line}
-use Rattle.reader.specs.declared.line.Stop.{Stop}
 
 -- The lines from a place on.
 abbrev pub linesAt : List ℕ → ℕ → List FundLine
@@ -29,17 +25,8 @@ pub record NextLine (file : List ℕ) (at : ℕ) (l : Line) : Type 0 where
   pub inside : l .next ≤ length file
   pub first : linesAt file at ≡ lineOf file l ∷ linesAt file (l .next)
 
-abbrev pub stopAt : Refusal → ℕ → Line → Stop
-stopAt why passed l = record { why = why; place = passed + 1; start = l .start; end = l .end }
-
 -- The lines from `at` on are the file's after those that were passed.
 pub record Passed (file : List ℕ) (passed at : ℕ) : Type 0 where
   pub inside : at ≤ length file
   pub few : passed ≤ at
   pub left : drop passed (lines file) ≡ linesAt file at
-
--- The start and the end are those of the line that the host is handed.
-pub record HandsBack (file : List ℕ) (s : Stop) : Type 0 where
-  pub ordered : s .start ≤ s .end
-  pub inside : s .end ≤ length file
-  pub is : record { start = s .start; size = s .end - s .start } ≡ part file (Refused (s .why) (s .place))

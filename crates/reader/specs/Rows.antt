@@ -1,19 +1,20 @@
--- The tables of the rate rows and of the member rows, and what the functions on a row line answer.
+-- What the functions on a row line answer: how much of the file's reading a line settles.
 use mathlib.Core.Path.{_≡_}
-use mathlib.Core.Bool.{Bool}
+use mathlib.Core.Bool.{Bool, _&&_}
 use mathlib.Core.List.{List, [], _∷_, _++_}
-use Prim.Native.Nat.{ℕ, _+_, _-_, _≤_, _<_}
-use lib.Dec.{eqb}
-use lib.ListN.{length, drop, getD, replicate}
+use Prim.Native.Nat.{ℕ, suc, _+_, _≤_, _<_}
+use lib.Dec.{leb, ltb}
+use lib.ListN.{length}
+use Rattle.fund.specs.declared.Fund.{Fund}
 use Rattle.fund.specs.declared.Rate.{Rate}
 use Rattle.fund.specs.declared.Member.{Member}
-use Rattle.fund.specs.declared.Refusal.the-variants.{Form, Range}
-use Rattle.fund.specs.Base.{if_then_else_, table}
-use Rattle.fund.specs.Reading.{Row as FundRow, rateRow, memberRow, endRow, otherRow, rateInRange, memberInRange}
+use Rattle.fund.specs.Limits.{most-rates, most-age, most-rate, most-members, least-group, most-group, most-amount}
+use Rattle.fund.specs.Reading.{Reading, read, stopped, between, headerLines, Row as FundRow, rateRow, memberRow, endRow, otherRow, readRows}
 use Rattle.reader.specs.declared.row.Row.{Row}
 use Rattle.reader.specs.declared.row.Row.the-variants.{Rate as RateLine, Member as MemberLine, End as EndLine, Other}
-use Rattle.reader.specs.declared.row.Taking.{Taking}
-use Rattle.reader.specs.declared.row.Taking.the-variants.{Taken, Broken}
+use Rattle.reader.specs.declared.row.RowStep.{RowStep}
+use Rattle.reader.specs.declared.row.RowStep.the-variants.{Rate as RateNext, Member as MemberNext, End, Stopped}
+use Rattle.reader.specs.Lines.{linesAt}
 
 abbrev pub rowIn : Row → FundRow
 rowIn (RateLine r) = rateRow r
@@ -21,81 +22,59 @@ rowIn (MemberLine m) = memberRow m
 rowIn (EndLine n) = endRow n
 rowIn Other = otherRow
 
--- A table has a slice for each number of a row.
-pub record RateTable : Type 0 where
-  pub ages : List ℕ
-  pub q : List ℕ
-  pub i : List ℕ
+-- The place of the line behind the header and so many rows.
+abbrev pub placeOf : ℕ → ℕ → ℕ
+placeOf rated enrolled = suc (length headerLines + rated + enrolled)
 
-pub record MemberTable : Type 0 where
-  pub ages : List ℕ
-  pub groups : List ℕ
-  pub d : List ℕ
-  pub e : List ℕ
+-- "strictly rising": the least age that a row behind these may have.
+unfoldable pub leastAge : List Rate → ℕ
+leastAge [] = 0
+leastAge (r ∷ []) = suc (r .age)
+leastAge (r ∷ s ∷ rs) = leastAge (s ∷ rs)
 
-abbrev pub rateAt : RateTable → ℕ → Rate
-rateAt t k = record { age = getD (t .ages) k 0; q = getD (t .q) k 0; i = getD (t .i) k 0 }
+-- `rateInRange` and `memberInRange`, from the number of the rows before and the least age.
+unfoldable pub rateFits : ℕ → ℕ → Rate → Bool
+rateFits rated least r =
+    ltb rated most-rates
+    && leb (r .age) most-age
+    && leb least (r .age)
+    && leb (r .q) most-rate
+    && leb (r .i) most-rate
+    && leb (r .q + r .i) most-rate
 
-abbrev pub memberAt : MemberTable → ℕ → Member
-memberAt u k = record { age = getD (u .ages) k 0; group = getD (u .groups) k 0; d = getD (u .d) k 0; e = getD (u .e) k 0 }
+unfoldable pub memberFits : ℕ → Member → Bool
+memberFits enrolled m =
+    ltb enrolled most-members
+    && leb (m .age) most-age
+    && between least-group most-group (m .group)
+    && leb (m .d) most-amount
+    && leb (m .e) most-amount
 
--- The first n rows.
-unfoldable pub rateRows : ℕ → RateTable → List Rate
-rateRows n t = table n (rateAt t)
+-- The reading from a place on, behind the rows that are read.
+abbrev pub rowsFrom : List ℕ → Fund → List Rate → List Member → ℕ → Reading
+rowsFrom file fund rs ms at = readRows (placeOf (length rs) (length ms)) fund rs ms (linesAt file at)
 
-unfoldable pub memberRows : ℕ → MemberTable → List Member
-memberRows n u = table n (memberAt u)
+-- The reading after a line, behind the rows before it.
+abbrev pub afterRowLine : List ℕ → Fund → List Rate → List Member → RowStep → Reading
+afterRowLine file fund rs ms (RateNext r next) = rowsFrom file fund (rs ++ (r ∷ [])) ms next
+afterRowLine file fund rs ms (MemberNext m next) = rowsFrom file fund rs (ms ++ (m ∷ [])) next
+afterRowLine file fund rs ms End = read (record { header = fund; rates = rs; members = ms })
+afterRowLine file fund rs ms (Stopped why place) = stopped why place
 
--- Each slice has a cell for each row that a file may have.
-pub record RateRoom (t : RateTable) : Type 0 where
-  pub ages : 121 ≤ length (t .ages)
-  pub q : 121 ≤ length (t .q)
-  pub i : 121 ≤ length (t .i)
+-- A row has its place in the table, and the next line starts behind it.
+pub record Taken (file : List ℕ) (at next count most : ℕ) : Type 0 where
+  pub later : at < next
+  pub inside : next ≤ length file
+  pub few : count < most
 
-pub record MemberRoom (u : MemberTable) : Type 0 where
-  pub ages : 1000 ≤ length (u .ages)
-  pub groups : 1000 ≤ length (u .groups)
-  pub d : 1000 ≤ length (u .d)
-  pub e : 1000 ≤ length (u .e)
+abbrev pub Takes : List ℕ → ℕ → ℕ → ℕ → RowStep → Type 0
+Takes file at rated enrolled (RateNext r next) = Taken file at next rated most-rates × (r .age ≤ most-age)
+Takes file at rated enrolled (MemberNext m next) = Taken file at next enrolled most-members
+Takes file at rated enrolled End = Unit {0}
+Takes file at rated enrolled (Stopped why place) = Unit {0}
 
--- There are n cells, and those behind them are 0.
-pub record Clear (n : ℕ) (cells : List ℕ) : Type 0 where
-  pub inside : n ≤ length cells
-  pub zeros : drop n cells ≡ replicate (length cells - n) 0
-
-pub record RatesClear (n : ℕ) (t : RateTable) : Type 0 where
-  pub ages : Clear n (t .ages)
-  pub q : Clear n (t .q)
-  pub i : Clear n (t .i)
-
-pub record MembersClear (n : ℕ) (u : MemberTable) : Type 0 where
-  pub ages : Clear n (u .ages)
-  pub groups : Clear n (u .groups)
-  pub d : Clear n (u .d)
-  pub e : Clear n (u .e)
-
--- Tables that have room and hold no row yet.
-pub record Empty (t : RateTable) (u : MemberTable) : Type 0 where
-  pub rateRoom : RateRoom t
-  pub memberRoom : MemberRoom u
-  pub ratesClear : RatesClear 0 t
-  pub membersClear : MembersClear 0 u
-
--- Form before range: a rate line stands before the first member line.
-unfoldable pub rateTaking : Bool → List Rate → Rate → Taking
-rateTaking first rates r = if first then (if rateInRange rates r then Taken else Broken Range) else Broken Form
-
-unfoldable pub memberTaking : List Member → Member → Taking
-memberTaking members m = if memberInRange members m then Taken else Broken Range
-
-pub record RateTaken (n members : ℕ) (r : Rate) (before after : RateTable) (k : Taking) : Type 0 where
-  pub answer : k ≡ rateTaking (eqb members 0) (rateRows n before) r
-  pub few : k ≡ Taken → n < 121
-  pub rows : k ≡ Taken → rateRows (n + 1) after ≡ rateRows n before ++ (r ∷ [])
-  pub clear : k ≡ Taken → RatesClear n before → RatesClear (n + 1) after
-
-pub record MemberTaken (n : ℕ) (m : Member) (before after : MemberTable) (k : Taking) : Type 0 where
-  pub answer : k ≡ memberTaking (memberRows n before) m
-  pub few : k ≡ Taken → n < 1000
-  pub rows : k ≡ Taken → memberRows (n + 1) after ≡ memberRows n before ++ (m ∷ [])
-  pub clear : k ≡ Taken → MembersClear n before → MembersClear (n + 1) after
+-- The line at a place decides how the file is read, whatever rows of these counts stand before it.
+pub record RowStepped (file : List ℕ) (at rated enrolled least : ℕ) (step : RowStep) : Type 0 where
+  pub takes : Takes file at rated enrolled step
+  pub same : (fund : Fund) (rs : List Rate) (ms : List Member) → length rs ≡ rated → length ms ≡ enrolled → leastAge rs ≡ least →
+      rowsFrom file fund rs ms at ≡ afterRowLine file fund rs ms step

@@ -1,154 +1,107 @@
 // The lines behind the header: the rows in their order, up to the end of the file.
-use crate::line;
-use crate::line::Line;
-use crate::line::Stop;
+use crate::FileRead;
 use crate::row;
-use crate::row::Row;
-use crate::row::Taking;
+use crate::row::RowStep;
+use fund::Fund;
 use fund::Member;
 use fund::Rate;
 use fund::Refusal;
-ghost use Prim.Native.Nat.{_<_};
-ghost use Rattle.reader.specs.Lines.{Passed, NextLine};
-ghost use Rattle.reader.specs.Rows.{RateRoom, MemberRoom};
-ghost use Rattle.reader.specs.Body.{Finished, RateStepped, MemberStepped, RowStepped, RowsRead, At};
+use fund::Verdict;
+ghost use mathlib.Core.Path.{_≡_};
+ghost use Rattle.fund.specs.Reading.{stopped, reading};
+ghost use Rattle.reader.specs.declared.header.Header.the-variants.{Whole};
+ghost use Rattle.reader.specs.Header.{HeaderRead};
+ghost use Rattle.reader.specs.Read.{noFund, noRate, noMember, fileRead};
 
-// Where reading stands: the next line's start, and how many lines, rate rows and member rows were passed.
-pub(crate) struct State {
-    pub(crate) at: usize,
-    pub(crate) passed: usize,
-    pub(crate) rates: usize,
-    pub(crate) members: usize,
-}
-
-// How the rows end: with the number of rate rows and of member rows, or where reading stops.
-pub(crate) enum End {
-    Whole(usize, usize),
-    Stopped(Stop),
-}
-
-pub(crate) enum RowStep {
-    More(State),
-    Done(End),
-}
-
-// The line `end=` k: "the number of member lines; nothing after it."
-fn finish(file: &[u8], s: State, l: Line, k: u64) -> End
-    requires { ⌜ Passed (now file) (s .passed) (s .at) ⌝ }
-    requires { ⌜ NextLine (now file) (s .at) l ⌝ }
-    ensures { λ r. ⌜ Finished (now (file .entry)) s l k r ⌝ }
+fn no_fund() -> Fund
+    ensures { λ r. ⌜ r ≡ noFund ⌝ }
 {
-    let passed = s.passed;
-    let next = l.next;
-    if k != s.members as u64 {
-        return End::Stopped(line::stop_at(Refusal::Range, passed, l));
-    }
-    if next < file.len() {
-        let after = line::next_line(file, next);
-        return End::Stopped(line::stop_at(Refusal::Form, passed + 1, after));
-    }
-    End::Whole(s.rates, s.members)
-}
-
-// A rate line: its row is taken, or reading stops at it.
-fn rate_step(s: State, l: Line, r: Rate, rated: &mut [u64], q: &mut [u64], i: &mut [u64]) -> RowStep
-    requires { ⌜ RateRoom (record { ages = now rated; q = now q; i = now i }) ⌝ }
-    requires { ⌜ s .passed < 0xffff_ffff_ffff_ffff ⌝ }
-    ensures { λ k. ⌜ RateStepped s l r (record { ages = now (rated .entry); q = now (q .entry); i = now (i .entry) }) (record { ages = now (rated .exit); q = now (q .exit); i = now (i .exit) }) k ⌝ }
-{
-    match row::take_rate(s.rates, s.members, r, rated, q, i) {
-        Taking::Broken(why) => RowStep::Done(End::Stopped(line::stop_at(why, s.passed, l))),
-        Taking::Taken => RowStep::More(State {
-            at: l.next,
-            passed: s.passed + 1,
-            rates: s.rates + 1,
-            members: s.members,
-        }),
-    }
-}
-
-// A member line: its row is taken, or reading stops at it.
-fn member_step(
-    s: State,
-    l: Line,
-    m: Member,
-    ages: &mut [u64],
-    groups: &mut [u64],
-    d: &mut [u64],
-    e: &mut [u64],
-) -> RowStep
-    requires { ⌜ MemberRoom (record { ages = now ages; groups = now groups; d = now d; e = now e }) ⌝ }
-    requires { ⌜ s .passed < 0xffff_ffff_ffff_ffff ⌝ }
-    ensures { λ k. ⌜ MemberStepped s l m (record { ages = now (ages .entry); groups = now (groups .entry); d = now (d .entry); e = now (e .entry) }) (record { ages = now (ages .exit); groups = now (groups .exit); d = now (d .exit); e = now (e .exit) }) k ⌝ }
-{
-    match row::take_member(s.members, m, ages, groups, d, e) {
-        Taking::Broken(why) => RowStep::Done(End::Stopped(line::stop_at(why, s.passed, l))),
-        Taking::Taken => RowStep::More(State {
-            at: l.next,
-            passed: s.passed + 1,
-            rates: s.rates,
-            members: s.members + 1,
-        }),
-    }
-}
-
-// One line: a row is taken, or reading ends.
-fn step(
-    file: &[u8],
-    s: State,
-    rated: &mut [u64],
-    q: &mut [u64],
-    i: &mut [u64],
-    ages: &mut [u64],
-    groups: &mut [u64],
-    d: &mut [u64],
-    e: &mut [u64],
-) -> RowStep
-    requires { ⌜ At (now file) s (record { ages = now rated; q = now q; i = now i }) (record { ages = now ages; groups = now groups; d = now d; e = now e }) ⌝ }
-    ensures { λ r. ⌜ RowStepped (now (file .entry)) s (record { ages = now (rated .entry); q = now (q .entry); i = now (i .entry) }) (record { ages = now (ages .entry); groups = now (groups .entry); d = now (d .entry); e = now (e .entry) }) (record { ages = now (rated .exit); q = now (q .exit); i = now (i .exit) }) (record { ages = now (ages .exit); groups = now (groups .exit); d = now (d .exit); e = now (e .exit) }) r ⌝ }
-{
-    let at = s.at;
-    let passed = s.passed;
-    if file.len() <= at {
-        return RowStep::Done(End::Stopped(line::stop_at(Refusal::Form, passed, line::missing())));
-    }
-    let l = line::next_line(file, at);
-    match row::row_of(file, l) {
-        Row::Other => RowStep::Done(End::Stopped(line::stop_at(Refusal::Form, passed, l))),
-        Row::End(k) => RowStep::Done(finish(file, s, l, k)),
-        Row::Rate(r) => rate_step(s, l, r, rated, q, i),
-        Row::Member(m) => member_step(s, l, m, ages, groups, d, e),
-    }
-}
-
-// Every row from `at` on, behind the six header lines.
-pub(crate) fn read_rows(
-    file: &[u8],
-    at: usize,
-    rated: &mut [u64],
-    q: &mut [u64],
-    i: &mut [u64],
-    ages: &mut [u64],
-    groups: &mut [u64],
-    d: &mut [u64],
-    e: &mut [u64],
-) -> End
-    requires { ⌜ At (now file) (record { at = at; passed = 6; rates = 0; members = 0 }) (record { ages = now rated; q = now q; i = now i }) (record { ages = now ages; groups = now groups; d = now d; e = now e }) ⌝ }
-    ensures { λ r. ⌜ RowsRead (now (file .entry)) at (record { ages = now (rated .exit); q = now (q .exit); i = now (i .exit) }) (record { ages = now (ages .exit); groups = now (groups .exit); d = now (d .exit); e = now (e .exit) }) r ⌝ }
-{
-    let mut s = State {
-        at,
-        passed: 6,
+    Fund {
         rates: 0,
         members: 0,
-    };
+        horizon: 0,
+        order: 0,
+        frequency: 0,
+        deductible: 0,
+    }
+}
+
+fn no_rate() -> Rate
+    ensures { λ r. ⌜ r ≡ noRate ⌝ }
+{
+    Rate { age: 0, q: 0, i: 0 }
+}
+
+fn no_member() -> Member
+    ensures { λ r. ⌜ r ≡ noMember ⌝ }
+{
+    Member {
+        age: 0,
+        group: 0,
+        d: 0,
+        e: 0,
+    }
+}
+
+// A refusal at a line; all else is blank.
+pub(crate) fn refused(why: Refusal, place: u64) -> FileRead
+    ensures { λ r. ⌜ r ≡ fileRead (stopped why place) ⌝ }
+{
+    let fund = no_fund();
+    let rate = no_rate();
+    let rates = [rate; Fund::RATE_ROWS];
+    let member = no_member();
+    let members = [member; Fund::MEMBER_ROWS];
+    FileRead {
+        verdict: Verdict::Refused(why, place),
+        fund,
+        rates,
+        rated: 0,
+        members,
+        enrolled: 0,
+    }
+}
+
+// Every row from `start` on, behind the header.
+pub(crate) fn read_rows(file: &[u8], fund: Fund, start: usize) -> FileRead
+    requires { ⌜ HeaderRead (now file) (Whole fund start) ⌝ }
+    ensures { λ r. ⌜ r ≡ fileRead (reading (now (file .entry))) ⌝ }
+{
+    let rate = no_rate();
+    let mut rates = [rate; Fund::RATE_ROWS];
+    let member = no_member();
+    let mut members = [member; Fund::MEMBER_ROWS];
+    let mut rated: usize = 0;
+    let mut enrolled: usize = 0;
+    let mut least: u64 = 0;
+    let mut at = start;
     loop {
-        match step(file, s, rated, q, i, ages, groups, d, e) {
-            RowStep::Done(end) => {
-                return end;
+        match row::step(file, at, rated, enrolled, least) {
+            RowStep::Rate(r, next) => {
+                rates[rated] = r;
+                rated += 1;
+                least = r.age + 1;
+                at = next;
+                continue;
             }
-            RowStep::More(next) => {
-                s = next;
+            RowStep::Member(m, next) => {
+                members[enrolled] = m;
+                enrolled += 1;
+                at = next;
+                continue;
+            }
+            RowStep::End => {
+                return FileRead {
+                    verdict: Verdict::Accepted,
+                    fund,
+                    rates,
+                    rated,
+                    members,
+                    enrolled,
+                };
+            }
+            RowStep::Stopped(why, place) => {
+                return refused(why, place);
             }
         }
     }

@@ -1,29 +1,29 @@
 // The header lines, in their order.
 use crate::line;
 use crate::line::Line;
-use crate::line::Stop;
 use crate::text::Numbers;
 use fund::Fund;
 use fund::Refusal;
 ghost use mathlib.Core.Path.{_≡_};
 ghost use mathlib.Core.List.{[], _∷_};
 ghost use Prim.Native.Nat.{_<_};
+ghost use lib.ListN.{length};
 ghost use Rattle.fund.specs.Spelling.{spelled};
-ghost use Rattle.fund.specs.Reading.{between, inRanges};
+ghost use Rattle.fund.specs.Reading.{between, inRanges, headerLines};
 ghost use Rattle.reader.specs.Text.{numbersIn};
-ghost use Rattle.reader.specs.Lines.{lineOf, Within, Passed};
+ghost use Rattle.reader.specs.Lines.{lineOf, Within};
 ghost use Rattle.reader.specs.Header.{headerLine, numbersOf, HeaderStepped, HeaderRead};
 
-// What a header line gives: its number and the next line's start, or where reading stops.
+// What a header line gives: its number and the next line's start, or why reading stops at it.
 pub(crate) enum HeaderStep {
     Number(u64, usize),
-    Stopped(Stop),
+    Stopped(Refusal),
 }
 
-// What the header gives: its figures and the first row's start, or where reading stops.
+// What the header gives: its figures and the first row's start, or why reading stops and at which line.
 pub(crate) enum Header {
     Whole(Fund, usize),
-    Stopped(Stop),
+    Stopped(Refusal, u64),
 }
 
 pub(crate) fn within(least: u64, most: u64, n: u64) -> bool
@@ -38,7 +38,7 @@ pub(crate) fn within(least: u64, most: u64, n: u64) -> bool
 // The numbers of the header line k.
 fn numbers_at(file: &[u8], line: Line, k: usize) -> Numbers
     requires { ⌜ Within (now file) line ⌝ }
-    requires { ⌜ k < 6 ⌝ }
+    requires { ⌜ k < length headerLines ⌝ }
     ensures { λ r. ⌜ numbersIn (numbersOf k) r ≡ spelled (headerLine k .key) (numbersOf k) (lineOf (now (file .entry)) line) ⌝ }
 {
     match k {
@@ -53,7 +53,7 @@ fn numbers_at(file: &[u8], line: Line, k: usize) -> Numbers
 
 // Whether n is in the range of the header line k, which has one number.
 fn in_range(k: usize, n: u64) -> bool
-    requires { ⌜ k < 6 ⌝ }
+    requires { ⌜ k < length headerLines ⌝ }
     ensures { λ r. ⌜ r ≡ inRanges (headerLine k .ranges) (n ∷ []) ⌝ }
 {
     match k {
@@ -68,12 +68,11 @@ fn in_range(k: usize, n: u64) -> bool
 
 // The header line k, which starts at `at`: form before range.
 fn step(file: &[u8], at: usize, k: usize) -> HeaderStep
-    requires { ⌜ Passed (now file) k at ⌝ }
-    requires { ⌜ k < 6 ⌝ }
+    requires { ⌜ k < length headerLines ⌝ }
     ensures { λ r. ⌜ HeaderStepped (now (file .entry)) k at r ⌝ }
 {
     if file.len() <= at {
-        return HeaderStep::Stopped(line::stop_at(Refusal::Form, k, line::missing()));
+        return HeaderStep::Stopped(Refusal::Form);
     }
     let l = line::next_line(file, at);
     let ns = numbers_at(file, l, k);
@@ -83,9 +82,9 @@ fn step(file: &[u8], at: usize, k: usize) -> HeaderStep
         if in_range(k, n) {
             return HeaderStep::Number(n, l.next);
         }
-        return HeaderStep::Stopped(line::stop_at(Refusal::Range, k, l));
+        return HeaderStep::Stopped(Refusal::Range);
     }
-    HeaderStep::Stopped(line::stop_at(Refusal::Form, k, l))
+    HeaderStep::Stopped(Refusal::Form)
 }
 
 pub(crate) fn read_header(file: &[u8]) -> Header
@@ -96,8 +95,8 @@ pub(crate) fn read_header(file: &[u8]) -> Header
     let mut k: usize = 0;
     while k < Fund::HEADER_LINES {
         match step(file, at, k) {
-            HeaderStep::Stopped(s) => {
-                return Header::Stopped(s);
+            HeaderStep::Stopped(why) => {
+                return Header::Stopped(why, k as u64 + 1);
             }
             HeaderStep::Number(n, next) => {
                 values[k] = n;

@@ -1,27 +1,18 @@
-// The lines of a file, one after the other, and the place where reading stops.
+// The lines of a file, one after the other, and how a line is spelled.
 use crate::text;
 use crate::text::Numbers;
-use fund::Refusal;
 ghost use mathlib.Core.Path.{_≡_};
-ghost use Prim.Native.Nat.{_+_, _≤_, _<_};
+ghost use Prim.Native.Nat.{_≤_, _<_};
 ghost use lib.ListN.{length};
 ghost use Rattle.fund.specs.Spelling.{spelled};
 ghost use Rattle.reader.specs.Text.{numbersIn};
-ghost use Rattle.reader.specs.Lines.{lineOf, Within, NextLine, stopAt};
+ghost use Rattle.reader.specs.Lines.{lineOf, Within, NextLine};
 
 // A line is the bytes from start to end; the next one starts at next, which is behind end where the line feed is there.
 pub(crate) struct Line {
     pub(crate) start: usize,
     pub(crate) end: usize,
     pub(crate) next: usize,
-}
-
-// Why and at which line reading stops, and where that line starts and ends.
-pub(crate) struct Stop {
-    pub(crate) why: Refusal,
-    pub(crate) place: u64,
-    pub(crate) start: usize,
-    pub(crate) end: usize,
 }
 
 // Keeps the file's bytes and the position of the next line. The functions on it are proved by hand, so they are few: every
@@ -96,29 +87,5 @@ pub(crate) fn spelled(file: &[u8], line: Line, key: &[u8], count: usize) -> Numb
     Numbers {
         spelled: false,
         values: [0u64; 4],
-    }
-}
-
-// A refusal at a line, after the lines that were passed.
-pub(crate) fn stop_at(why: Refusal, passed: usize, line: Line) -> Stop
-    requires { ⌜ passed < 0xffff_ffff_ffff_ffff ⌝ }
-    ensures { λ r. ⌜ r ≡ stopAt why passed line ⌝ }
-{
-    Stop {
-        why,
-        place: (passed as u64) + 1,
-        start: line.start,
-        end: line.end,
-    }
-}
-
-// "For a missing line, an empty part."
-pub(crate) fn missing() -> Line
-    ensures { λ r. ⌜ r ≡ record { start = 0; end = 0; next = 0 } ⌝ }
-{
-    Line {
-        start: 0,
-        end: 0,
-        next: 0,
     }
 }

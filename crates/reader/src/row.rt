@@ -1,4 +1,4 @@
-// A row line: what it is, whether its numbers are in range, and its place in the tables.
+// A row line: what it is, and whether its numbers are in range behind the rows before it.
 use crate::header;
 use crate::line;
 use crate::line::Line;
@@ -7,12 +7,11 @@ use fund::Member;
 use fund::Rate;
 use fund::Refusal;
 ghost use mathlib.Core.Path.{_≡_};
-ghost use mathlib.Core.List.{List};
-ghost use Prim.Native.Nat.{ℕ, _+_, _≤_};
-ghost use lib.ListN.{length};
-ghost use Rattle.fund.specs.Reading.{rowOf, rising, rateInRange, memberInRange};
+ghost use Prim.Native.Nat.{_≤_};
+ghost use Rattle.fund.specs.Limits.{most-rates, most-members};
+ghost use Rattle.fund.specs.Reading.{rowOf};
 ghost use Rattle.reader.specs.Lines.{lineOf, Within};
-ghost use Rattle.reader.specs.Rows.{rowIn, MemberTable, rateRows, memberRows, RateRoom, MemberRoom, RateTaken, MemberTaken};
+ghost use Rattle.reader.specs.Rows.{rowIn, placeOf, rateFits, memberFits, RowStepped};
 
 pub(crate) enum Row {
     Rate(Rate),
@@ -21,10 +20,12 @@ pub(crate) enum Row {
     Other,
 }
 
-// Whether a row was put into its table, and why not.
-pub(crate) enum Taking {
-    Taken,
-    Broken(Refusal),
+// What a line gives behind the rows before it: a row and the next line's start, the end of the file, or where reading stops.
+pub(crate) enum RowStep {
+    Rate(Rate, usize),
+    Member(Member, usize),
+    End,
+    Stopped(Refusal, u64),
 }
 
 pub(crate) fn row_of(file: &[u8], line: Line) -> Row
@@ -58,44 +59,40 @@ pub(crate) fn row_of(file: &[u8], line: Line) -> Row
     Row::Other
 }
 
-// "strictly rising": above the age of the row before.
-fn is_rising(ages: &[u64], n: usize, age: u64) -> bool
-    requires { ⌜ n ≤ length (now ages) ⌝ }
-    ensures { λ r. ⌜ ((q i : List ℕ) → r ≡ rising (rateRows n (record { ages = now (ages .entry); q = q; i = i })) age) ⌝ }
+// The place of the line behind the header and so many rows, counted from 1.
+fn place(rated: usize, enrolled: usize) -> u64
+    requires { ⌜ (rated ≤ most-rates) × (enrolled ≤ most-members) ⌝ }
+    ensures { λ r. ⌜ r ≡ placeOf rated enrolled ⌝ }
 {
-    if n == 0 {
-        return true;
-    }
-    let last = ages[n - 1];
-    last < age
+    Fund::HEADER_LINES as u64 + rated as u64 + enrolled as u64 + 1
 }
 
-fn rate_in_range(ages: &[u64], n: usize, r: Rate) -> bool
-    requires { ⌜ 121 ≤ length (now ages) ⌝ }
-    ensures { λ t. ⌜ ((q i : List ℕ) → t ≡ rateInRange (rateRows n (record { ages = now (ages .entry); q = q; i = i })) r) ⌝ }
+// The rate row behind `rated` others; `least` is the least age that is above theirs.
+fn rate_in_range(rated: usize, least: u64, r: Rate) -> bool
+    ensures { λ t. ⌜ t ≡ rateFits rated least r ⌝ }
 {
-    if Fund::MOST_RATES <= n as u64 {
+    if Fund::RATE_ROWS <= rated {
         return false;
     }
     if Fund::MOST_AGE < r.age {
         return false;
     }
-    if is_rising(ages, n, r.age) {
-        if Fund::MOST_RATE < r.q {
-            return false;
-        }
-        if Fund::MOST_RATE < r.i {
-            return false;
-        }
-        return r.q + r.i <= Fund::MOST_RATE;
+    if r.age < least {
+        return false;
     }
-    false
+    if Fund::MOST_RATE < r.q {
+        return false;
+    }
+    if Fund::MOST_RATE < r.i {
+        return false;
+    }
+    r.q + r.i <= Fund::MOST_RATE
 }
 
-fn member_in_range(n: usize, m: Member) -> bool
-    ensures { λ t. ⌜ ((u : MemberTable) → t ≡ memberInRange (memberRows n u) m) ⌝ }
+fn member_in_range(enrolled: usize, m: Member) -> bool
+    ensures { λ t. ⌜ t ≡ memberFits enrolled m ⌝ }
 {
-    if Fund::MOST_MEMBERS <= n as u64 {
+    if Fund::MEMBER_ROWS <= enrolled {
         return false;
     }
     if Fund::MOST_AGE < m.age {
@@ -110,48 +107,42 @@ fn member_in_range(n: usize, m: Member) -> bool
     false
 }
 
-// The rate row n. A rate line after a member line breaks the order.
-pub(crate) fn take_rate(
-    n: usize,
-    members: usize,
-    r: Rate,
-    ages: &mut [u64],
-    q: &mut [u64],
-    i: &mut [u64],
-) -> Taking
-    requires { ⌜ RateRoom (record { ages = now ages; q = now q; i = now i }) ⌝ }
-    ensures { λ k. ⌜ RateTaken n members r (record { ages = now (ages .entry); q = now (q .entry); i = now (i .entry) }) (record { ages = now (ages .exit); q = now (q .exit); i = now (i .exit) }) k ⌝ }
+// The line at `at`, behind the rows before it. A rate line after a member line breaks the order. `end=`: "the number of
+// member lines; nothing after it."
+pub(crate) fn step(file: &[u8], at: usize, rated: usize, enrolled: usize, least: u64) -> RowStep
+    requires { ⌜ (rated ≤ most-rates) × (enrolled ≤ most-members) ⌝ }
+    ensures { λ r. ⌜ RowStepped (now (file .entry)) at rated enrolled least r ⌝ }
 {
-    if 0 < members {
-        return Taking::Broken(Refusal::Form);
+    let here = place(rated, enrolled);
+    if file.len() <= at {
+        return RowStep::Stopped(Refusal::Form, here);
     }
-    if rate_in_range(&ages[..], n, r) {
-        ages[n] = r.age;
-        q[n] = r.q;
-        i[n] = r.i;
-        return Taking::Taken;
+    let l = line::next_line(file, at);
+    match row_of(file, l) {
+        Row::Other => RowStep::Stopped(Refusal::Form, here),
+        Row::Rate(r) => {
+            if 0 < enrolled {
+                return RowStep::Stopped(Refusal::Form, here);
+            }
+            if rate_in_range(rated, least, r) {
+                return RowStep::Rate(r, l.next);
+            }
+            RowStep::Stopped(Refusal::Range, here)
+        }
+        Row::Member(m) => {
+            if member_in_range(enrolled, m) {
+                return RowStep::Member(m, l.next);
+            }
+            RowStep::Stopped(Refusal::Range, here)
+        }
+        Row::End(k) => {
+            if k != enrolled as u64 {
+                return RowStep::Stopped(Refusal::Range, here);
+            }
+            if l.next < file.len() {
+                return RowStep::Stopped(Refusal::Form, here + 1);
+            }
+            RowStep::End
+        }
     }
-    Taking::Broken(Refusal::Range)
-}
-
-// The member row n.
-pub(crate) fn take_member(
-    n: usize,
-    m: Member,
-    ages: &mut [u64],
-    groups: &mut [u64],
-    d: &mut [u64],
-    e: &mut [u64],
-) -> Taking
-    requires { ⌜ MemberRoom (record { ages = now ages; groups = now groups; d = now d; e = now e }) ⌝ }
-    ensures { λ k. ⌜ MemberTaken n m (record { ages = now (ages .entry); groups = now (groups .entry); d = now (d .entry); e = now (e .entry) }) (record { ages = now (ages .exit); groups = now (groups .exit); d = now (d .exit); e = now (e .exit) }) k ⌝ }
-{
-    if member_in_range(n, m) {
-        ages[n] = m.age;
-        groups[n] = m.group;
-        d[n] = m.d;
-        e[n] = m.e;
-        return Taking::Taken;
-    }
-    Taking::Broken(Refusal::Range)
 }

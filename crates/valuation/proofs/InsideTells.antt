@@ -1,4 +1,4 @@
--- The test of a header and a table tells whether they are in their ranges (inside-tells).
+-- The test of a header and a table tells whether they are in their ranges (inside-tells), and where they are the answer is that of 7 to 10 (valuation-inside).
 use mathlib.Core.Path.{_≡_, refl, sym, _∙_}
 use mathlib.Core.Bool.{Bool, true, false, true≢false, not, _&&_, _||_}
 use mathlib.Core.List.{List, [], _∷_}
@@ -8,10 +8,13 @@ use Rattle.fund.specs.declared.Fund.{Fund}
 use Rattle.fund.specs.declared.Life.{Life}
 use Rattle.fund.specs.Folding.{claim, single}
 use Rattle.fund.specs.Limits.{most-members, half-rate}
+use Rattle.fund.specs.Refusals.{Lengths, valued}
+use Rattle.fund.specs.Answer.{fundCells}
 use Rattle.laws.specs.Accepted.{All, Limited}
 use Rattle.laws.specs.Tells.{Tells, tells-as, tells-le, tells-lt, tells-eq}
 use Rattle.widths.specs.Lives.{InRange}
 use Rattle.valuation.specs.Inside.{HeaderIn, headerInside, foldedRate, lifeInside, allInside, inside}
+use Rattle.valuation.specs.Valued.{outcome, verdictOf, valuation}
 
 tells-and : {P Q : Type 0} (a b : Bool) → Tells a P → Tells b Q → Tells (a && b) (P × Q)
 tells-and true b p q = record { yes = λ e. (p .yes refl, q .yes e); no = λ h. q .no (h .1) }
@@ -68,3 +71,9 @@ all-tells (m ∷ ms) = tells-and (lifeInside m) (allInside ms) (life-tells m) (a
 pub inside-tells : (fund : Fund) (count : ℕ) (ms : List Life) → Tells (inside fund count ms) ((count ≤ most-members) × (HeaderIn fund × All InRange ms))
 unfolding inside
 inside-tells fund count ms = tells-and (leb count most-members) _ (le count most-members) (tells-and (headerInside fund) (allInside ms) (header-tells fund) (all-tells ms))
+
+-- a header and lives in their ranges are valued
+pub valuation-inside : (fund : Fund) (count : ℕ) (ms : List Life) (n : Lengths) → count ≤ most-members → HeaderIn fund → All InRange ms →
+    valuation fund count ms n ≡ outcome fund ms n (valued fund ms n (fundCells fund ms))
+unfolding valuation verdictOf
+valuation-inside fund count ms n few header lives = rw (inside-tells fund count ms .no (few, (header, lives)))

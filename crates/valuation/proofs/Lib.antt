@@ -6,7 +6,7 @@ mod WeighedCells
 mod TableTotals
 mod TableCalls
 mod FirstLives
-mod InsideTells
+pub mod InsideTells
 mod Judging
 mod Recursing
 mod Settling

@@ -141,7 +141,7 @@ fn recursed(
 }
 
 // The totals of the first n lives.
-fn first_totals(fund: Fund, lives: [Life; 1000], n: usize) -> Totals
+fn first_totals(fund: Fund, lives: [Life; Fund::MEMBER_ROWS], n: usize) -> Totals
     ensures { λ t. ⌜ TotalsFor fund n (take n lives) t ⌝ }
 {
     if Fund::MOST_MEMBERS < n as u64 {
@@ -151,7 +151,13 @@ fn first_totals(fund: Fund, lives: [Life; 1000], n: usize) -> Totals
 }
 
 // D and H of the first n lives, and zeros beyond the horizon.
-fn first_transform(fund: Fund, lives: [Life; 1000], n: usize, transform: &mut [i64], h: &mut [u64])
+fn first_transform(
+    fund: Fund,
+    lives: [Life; Fund::MEMBER_ROWS],
+    n: usize,
+    transform: &mut [i64],
+    h: &mut [u64],
+)
     requires { ⌜ (n ≤ most-members) × Fillable fund (take n lives) (length (now transform)) (length (now h)) ⌝ }
     ensures { λ _. ⌜ TransformFilled fund (take n lives) (length (now (transform .entry))) (length (now (h .entry))) (now (transform .exit)) (now (h .exit)) ⌝ }
 {
@@ -168,7 +174,7 @@ fn first_transform(fund: Fund, lives: [Life; 1000], n: usize, transform: &mut [i
 fn judged(
     fund: Fund,
     t: Totals,
-    lives: [Life; 1000],
+    lives: [Life; Fund::MEMBER_ROWS],
     n: usize,
     transform: &mut [i64],
     h: &mut [u64],
@@ -191,7 +197,7 @@ fn judged(
 // The valuation of the first n lives of a table, into four result slices.
 pub fn value(
     fund: Fund,
-    lives: [Life; 1000],
+    lives: [Life; Fund::MEMBER_ROWS],
     n: usize,
     transform: &mut [i64],
     h: &mut [u64],

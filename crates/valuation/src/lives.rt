@@ -11,7 +11,7 @@ ghost use Rattle.fund.specs.Limits.{most-members};
 ghost use Rattle.valuation.specs.Filling.{TableFits, TableAdded};
 ghost use Rattle.valuation.specs.Totals.{TableTotals};
 
-pub(crate) fn first_totals(fund: Fund, lives: [Life; 1000], n: usize) -> Totals
+pub(crate) fn first_totals(fund: Fund, lives: [Life; Fund::MEMBER_ROWS], n: usize) -> Totals
     requires { ⌜ n ≤ most-members ⌝ }
     ensures { λ t. ⌜ TableTotals fund (take n lives) t ⌝ }
 {
@@ -19,7 +19,7 @@ pub(crate) fn first_totals(fund: Fund, lives: [Life; 1000], n: usize) -> Totals
 }
 
 pub(crate) fn fill_first(
-    lives: [Life; 1000],
+    lives: [Life; Fund::MEMBER_ROWS],
     n: usize,
     x: Filling,
     transform: &mut [i64],

@@ -1,3 +1,4 @@
+-- The line is the definition's part of the caller's bytes.
 use borrow.Author.Needs.{needs}
 use Rattle.claims.proofs.Calls.{line-bytes}
 use Rattle.claims.proofs.line.Statement.{statement}

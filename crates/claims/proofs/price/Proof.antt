@@ -1,3 +1,4 @@
+-- The contract of the pricing call, in plain words.
 use borrow.Author.Needs.{needs}
 use Rattle.claims.proofs.Calls.{price-demands}
 use Rattle.claims.proofs.price.Statement.{statement}

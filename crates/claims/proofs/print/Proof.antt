@@ -1,3 +1,4 @@
+-- The contract of the listing, in plain words.
 use borrow.Author.Needs.{needs}
 use Rattle.claims.proofs.Calls.{prints}
 use Rattle.claims.proofs.print.Statement.{statement}

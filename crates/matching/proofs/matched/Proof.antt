@@ -1,99 +1,84 @@
--- The parts, composed: the room gives what each function asks for, the filled slices are the lives, and the answer is `matched`'s.
-use mathlib.Core.Path.{refl, sym, _∙_}
-use mathlib.Core.Bool.{true≢false}
+-- `matching::matched`: the counts, then 3 and 4, then the members.
+use mathlib.Core.Path.{sym, _∙_}
 use native.Mathlib.Omega.{arith}
-use borrow.Author.Tests.{not-true, not-false}
-use Rattle.matching.specs.Rows.{rateRow, memberRow}
-use Rattle.laws.specs.Tells.{tells-yes, tells-no, tells-not}
-use Rattle.matching.proofs.Filling.{filled-lives}
-use Rattle.matching.proofs.Answering.{answer-is}
 use borrow.Author.Needs.{needs}
+use lib.Seq.{length-take-le}
+use Rattle.fund.specs.Refusals.{firstMember}
+use Rattle.laws.specs.Ranges.{header-length}
+use Rattle.matching.proofs.Answering.{beyond-rates, beyond-members, three, four, then-members}
 use Rattle.matching.proofs.matched.Statement.{statement}
 use Rattle.matching.proofs.matched.Tie as tie
 
-room-requires : tie.Need-room-requires
-room-requires c κs = search needs
-
-same-length : tie.Need-same-length
-same-length c = search needs
-
-same-length-2 : tie.Need-same-length-2
-same-length-2 c = search needs
+refused-requires : tie.Need-refused-requires
+refused-requires c κs = search needs
 
 returns : tie.Need-returns
 returns c =
-    record {
-      room = tells-no (tells-not (c .before .room .ensures) (not-true _ (c .if1 .taken)));
-      verdict = refl;
-      lives = λ e. absurd (true≢false (sym e));
-    }
+    let a = c .before .before .args in
+    beyond-rates (a .fund) (a .rates) (a .rated) (a .members) (a .enrolled) _ (c .before .if1 .taken) (c .refused .ensures)
 
-fill-requires : tie.Need-fill-requires
-fill-requires c κs =
-    let x = c .before .before in
-    let r = x .before .room .ensures .yes (not-false _ (x .if1 .left)) in
-    (r .rates, r .members, r .q-long, r .i-long)
-
-first-unmatched-requires : tie.Need-first-unmatched-requires
-first-unmatched-requires c κs =
-    let x = c .before .before .before .before .before .before .before in
-    let r = x .before .room .ensures .yes (not-false _ (x .if1 .left)) in
-    (r .rates, r .members .ages-long)
-
-first-half-requires : tie.Need-first-half-requires
-first-half-requires c κs =
-    let x = c .before .before .before .before .before .before .before .before .before .before in
-    let r = x .before .room .ensures .yes (not-false _ (x .if1 .left)) in
-    (r .members .groups-long, omega (arith, r .q-long, c .before .before .before .before .before .before .q), omega (arith, r .i-long, c .before .before .before .before .i))
-
-add-first : tie.Need-add-first
-add-first c =
-    let x = c .before .before .before .before .before .before .before .before .before .before .before in
-    let r = x .before .room .ensures .yes (not-false _ (x .if1 .left)) in
-    omega (arith, r .rates .few)
-
-answer-requires : tie.Need-answer-requires
-answer-requires c κs =
-    let x = c .before .before .before .before .before .before .before .before .before .before .before in
-    let r = x .before .room .ensures .yes (not-false _ (x .if1 .left)) in
-    (r .horizon, omega (arith, r .rates .few, r .members .few))
-
-same-length-3 : tie.Need-same-length-3
-same-length-3 c = search needs
-
-same-length-4 : tie.Need-same-length-4
-same-length-4 c = search needs
+refused-requires-2 : tie.Need-refused-requires-2
+refused-requires-2 c κs = search needs
 
 returns-2 : tie.Need-returns-2
 returns-2 c =
-    let x = c .before .before .before .before .before .before .before .before .before .before .before .before in
-    let r = x .before .room .ensures .yes (not-false _ (x .if1 .left)) in
-    let a = c .before .before .before .before .before .before .before .before .before .before .before .before .before .before .before .before .before .before .before .before .before .before .before .before .before .args in
-    let rate = rateRow (a .rated .now) (a .rate-q .now) (a .rate-i .now) in
-    let member = memberRow (a .ages .now) (a .groups .now) (a .d .now) (a .e .now) in
-    let filled = filled-lives (a .fund) (a .members) _ (a .ages .now) (a .groups .now) (a .d .now) (a .e .now) _ _ (c .before .before .before .before .before .before .before .before .before .fill .ensures) in
-    record {
-      room = tells-yes r;
-      verdict =
-          c .answer .ensures
-          ∙ answer-is (a .fund) (a .rates) (a .members) _ _ rate member _ filled
-          (c .before .before .before .before .first-unmatched .ensures (a .groups .now) (a .d .now) (a .e .now)) (c .before .first-half .ensures (a .d .now) (a .e .now));
-      lives = λ e. filled;
-    }
+    let a = c .before .before .before .args in
+    beyond-members (a .fund) (a .rates) (a .rated) (a .members) (a .enrolled) _ (c .before .before .if1 .left) (c .before .if2 .taken) (c .refused2 .ensures)
+
+refused-requires-3 : tie.Need-refused-requires-3
+refused-requires-3 c κs = search needs
+
+returns-3 : tie.Need-returns-3
+returns-3 c =
+    let t = c .before .before .before in
+    let a = t .before .before .args in
+    three (a .fund) (a .rates) (a .rated) (a .members) (a .enrolled) _ (t .before .if1 .left) (t .if2 .left) (c .before .if3 .taken) (c .refused3 .ensures)
+
+is-above-requires : tie.Need-is-above-requires
+is-above-requires c κs = search needs
+
+refused-requires-4 : tie.Need-refused-requires-4
+refused-requires-4 c κs = search needs
+
+returns-4 : tie.Need-returns-4
+returns-4 c =
+    let e = c .before .before .before in
+    let t = e .before .before in
+    let a = t .before .before .args in
+    four (a .fund) (a .rates) (a .rated) (a .members) (a .enrolled) _ (t .before .if1 .left) (t .if2 .left) (e .if3 .left) (sym (c .before .before .is-above .ensures) ∙ c .before .if4 .taken) (c .refused4 .ensures)
+
+add-line : tie.Need-add-line
+add-line c = search needs
+
+add-line-2 : tie.Need-add-line-2
+add-line-2 c = search needs
+
+by-member-requires : tie.Need-by-member-requires
+by-member-requires c κs = search needs
+
+returns-5 : tie.Need-returns-5
+unfolding firstMember
+returns-5 c =
+    let e = c .before .before .before in
+    let t = e .before .before in
+    let a = t .before .before .args in
+    let count = length-take-le (a .rated) (a .rates) (omega arith) in
+    then-members (a .fund) (a .rates) (a .rated) (a .members) (a .enrolled) _ (t .before .if1 .left) (t .if2 .left) (e .if3 .left) _ (sym (c .before .before .is-above .ensures) ∙ c .before .if4 .left) (omega (arith, header-length, count)) (c .by-member .ensures)
 
 pub matched-spec : {M : Type 1} → statement M
 matched-spec =
     tie.close
     (tie.spec
-    room-requires
-    same-length
-    same-length-2
+    refused-requires
     returns
-    fill-requires
-    first-unmatched-requires
-    first-half-requires
-    add-first
-    answer-requires
-    same-length-3
-    same-length-4
-    returns-2)
+    refused-requires-2
+    returns-2
+    refused-requires-3
+    returns-3
+    is-above-requires
+    refused-requires-4
+    returns-4
+    add-line
+    add-line-2
+    by-member-requires
+    returns-5)

@@ -2,7 +2,7 @@
 use mathlib.Core.Path.{_≡_}
 use borrow.Author.Needs.{needs}
 use mir.Syntax.{w64}
-use mir.Val.{toZ, ofZ}
+use mir.Val.{SFits, toZ, ofZ}
 use Rattle.miguepo.proofs.Hosting.{hosts}
 use Rattle.miguepo.proofs.miguepo_price.Statement.{statement}
 use Rattle.miguepo.proofs.miguepo_price.Tie as tie
@@ -10,14 +10,17 @@ use Rattle.miguepo.proofs.miguepo_price.Tie as tie
 price-requires : tie.Need-price-requires
 price-requires c κs = search needs
 
+number-of-requires : tie.Need-number-of-requires
+number-of-requires c κs = search needs
+
 place-of-requires : tie.Need-place-of-requires
 place-of-requires c κs = search needs
 
 sub-line-size : tie.Need-sub-line-size
 sub-line-size c = search needs
 
-number-of-requires : tie.Need-number-of-requires
-number-of-requires c κs = search needs
+bits-requires : tie.Need-bits-requires
+bits-requires c κs = search needs
 
 same-length : tie.Need-same-length
 same-length c = search needs
@@ -33,20 +36,24 @@ same-length-4 c = search needs
 
 returns : tie.Need-returns
 returns c =
-    let place = c .before .before .before .before in
-    let p = place .before .before .before .before .before .before .before .price in
+    let bits = c .before in
+    let place = bits .before .before .before in
+    let number = place .before in
+    let p = number .before .before .before .before .before .before .before .before .price in
     let o = p .last .1 in
     let same : toZ w64 (ofZ w64 (p .result .figures .premium)) ≡ p .result .figures .premium = search needs in
-    hosts _ _ (p .result) (o .0) (o .1 .0) (o .1 .1 .0) (o .1 .1 .1 .0) (p .ensures) _ _ _ (c .number-of .ensures) (place .place-of .ensures) same
+    let fits : SFits w64 (p .result .figures .premium) = search needs in
+    hosts _ _ (p .result) (o .0) (o .1 .0) (o .1 .1 .0) (o .1 .1 .1 .0) (p .ensures) _ _ _ (number .number-of .ensures) (place .place-of .ensures) (rw same at (bits .bits .ensures)) fits
 
 pub miguepo-price-spec : {M : Type 1} → statement M
 miguepo-price-spec =
     tie.close
     (tie.spec
     price-requires
+    number-of-requires
     place-of-requires
     sub-line-size
-    number-of-requires
+    bits-requires
     same-length
     same-length-2
     same-length-3

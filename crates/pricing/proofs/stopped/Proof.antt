@@ -1,4 +1,4 @@
--- The four slices are cleared, and the figures are zero.
+-- `pricing::stopped`: the four slices are cleared, and the figures are zero.
 use borrow.Author.Needs.{needs}
 use Rattle.valuation.specs.Valued.{lengths}
 use Rattle.pricing.proofs.Stopping.{stopped-answers}
@@ -17,6 +17,9 @@ clear-signed-requires-2 c κs = search needs
 clear-requires-2 : tie.Need-clear-requires-2
 clear-requires-2 c κs = search needs
 
+part-of-requires : tie.Need-part-of-requires
+part-of-requires c κs = search needs
+
 no-figures-requires : tie.Need-no-figures-requires
 no-figures-requires c κs = search needs
 
@@ -34,18 +37,17 @@ same-length-4 c = search needs
 
 returns : tie.Need-returns
 returns c =
-    let r = c .before .before .before in
-    let f = r .before .before .before in
-    let h = f .before .before .before .before in
-    let t = h .before .before .before in
-    let s = t .before .before .before .before .before in
-    let a = s .args in
+    let clear-r = c .before .before .before .before in
+    let clear-f = clear-r .before .before .before in
+    let clear-h = clear-f .before .before .before .before in
+    let clear-d = clear-h .before .before .before in
+    let a = clear-d .before .before .before .before .before .args in
     let n = lengths (a .transform .now) (a .h .now) (a .f .now) (a .r .now) in
-    stopped-answers (a .file .now) (a .why) (a .place) (a .line) _ n _ _ _ _ (s .pre)
-    (t .clear-signed .ensures)
-    (h .clear .ensures)
-    (f .clear-signed2 .ensures)
-    (r .clear2 .ensures)
+    stopped-answers (a .file .now) (a .why) (a .place) _ _ n _ _ _ _ (c .before .part-of .ensures)
+    (clear-d .clear-signed .ensures)
+    (clear-h .clear .ensures)
+    (clear-f .clear-signed2 .ensures)
+    (clear-r .clear2 .ensures)
     (c .no-figures .ensures)
 
 pub stopped-spec : {M : Type 1} → statement M
@@ -56,6 +58,7 @@ stopped-spec =
     clear-requires
     clear-signed-requires-2
     clear-requires-2
+    part-of-requires
     no-figures-requires
     same-length
     same-length-2

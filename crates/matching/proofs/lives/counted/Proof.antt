@@ -1,4 +1,4 @@
--- The amount decides.
+-- `matching::lives::counted`: the amount decides.
 use borrow.Author.Tests.{eq-eqb, ne-eqb}
 use Rattle.matching.proofs.lives.counted.Statement.{statement}
 use Rattle.matching.proofs.lives.counted.Tie as tie

@@ -1,109 +1,109 @@
--- `reader::body::read_rows`: the reading from the first row on is that from where it stands, with the rows in the tables.
-use mathlib.Core.Path.{_≡_, refl, _∙_}
-use mathlib.Core.List.{List, []}
-use Prim.Native.Nat.{ℕ, _-_}
+-- `reader::body::read_rows`: the tables hold the rows that are read; one law for each way through the loop.
+use mathlib.Core.Path.{_≡_, sym, _∙_, ap₂, subst}
+use Prim.Native.Nat.{_-_}
 use native.Mathlib.Omega.{arith}
 use borrow.Author.Needs.{needs}
-use lib.ListN.{length}
-use Rattle.fund.specs.declared.Fund.{Fund}
-use Rattle.fund.specs.Base.{table}
-use Rattle.fund.specs.Reading.{readRows}
-use Rattle.reader.specs.declared.body.State.{State}
-use Rattle.reader.specs.Lines.{linesAt}
-use Rattle.reader.specs.Rows.{rateRows, memberRows}
-use Rattle.reader.specs.Body.{rowsFrom, At}
+use lib.ListN.{length, replicate}
+use Rattle.fund.specs.Answer.{lent}
+use Rattle.reader.specs.Read.{rateTable, memberTable}
+use Rattle.reader.proofs.SoFar.{RowsSoFar, start, rates-long, members-long, rate-taken, member-taken, at-end, at-stop}
 use Rattle.reader.proofs.body.read_rows.Statement.{statement}
 use Rattle.reader.proofs.body.read_rows.Tie as tie
 
-record Inv (file : List ℕ) (at : ℕ) (rated₀ q₀ i₀ ages₀ groups₀ d₀ e₀ rated q i ages groups d e : List ℕ) (s : State) : Type 0 where
-  stands : At file s (record { ages = rated; q = q; i = i }) (record { ages = ages; groups = groups; d = d; e = e })
-  same : (fund : Fund) → readRows 7 fund [] [] (linesAt file at) ≡ rowsFrom file fund (record { ages = rated; q = q; i = i }) (record { ages = ages; groups = groups; d = d; e = e }) s
-  rated-length : length rated ≡ length rated₀
-  q-length : length q ≡ length q₀
-  i-length : length i ≡ length i₀
-  ages-length : length ages ≡ length ages₀
-  groups-length : length groups ≡ length groups₀
-  d-length : length d ≡ length d₀
-  e-length : length e ≡ length e₀
-
 abbrev Inv-loop : tie.InvT-loop
-Inv-loop file at rated₀ q₀ i₀ ages₀ groups₀ d₀ e₀ s₀ rated q i ages groups d e s = Inv file at rated₀ q₀ i₀ ages₀ groups₀ d₀ e₀ rated q i ages groups d e s
+Inv-loop file fund start rates₀ members₀ rated₀ enrolled₀ least₀ at₀ rates members rated enrolled least at = RowsSoFar file fund rates members rated enrolled least at
 
 abbrev μ-loop : tie.MeasureT-loop
-μ-loop file at rated₀ q₀ i₀ ages₀ groups₀ d₀ e₀ s₀ rated q i ages groups d e s = length file - s .at
+μ-loop file fund start rates₀ members₀ rated₀ enrolled₀ least₀ at₀ rates members rated enrolled least at = length file - at
+
+no-rate-requires : tie.Need-no-rate-requires Inv-loop μ-loop
+no-rate-requires c κs = search needs
+
+no-member-requires : tie.Need-no-member-requires Inv-loop μ-loop
+no-member-requires c κs = search needs
 
 loop-holds : tie.Need-loop-holds Inv-loop μ-loop
-unfolding rateRows memberRows table
+unfolding rateTable memberTable lent
 loop-holds c =
-    record {
-      stands = c .before .before .before .before .before .before .before .before .pre;
-      same = λ fund. refl;
-      rated-length = refl;
-      q-length = refl;
-      i-length = refl;
-      ages-length = refl;
-      groups-length = refl;
-      d-length = refl;
-      e-length = refl;
-    }
+    let o = c .before .before .before in
+    rw (c .before .no-rate .ensures, c .no-member .ensures) (start (o .args .file .now) (o .args .fund) (o .args .start) (o .pre))
 
 step-requires : tie.Need-step-requires Inv-loop μ-loop
-step-requires c κs = c .before .before .before .before .before .before .before .loop .inv .stands
+step-requires c κs = (c .loop .inv .few-rates, c .loop .inv .few-members)
 
-enum-known-end : tie.Need-enum-known-end Inv-loop μ-loop
-enum-known-end c = search needs
+enum-known-r : tie.Need-enum-known-r Inv-loop μ-loop
+enum-known-r c = search needs
 
-same-length : tie.Need-same-length Inv-loop μ-loop
-same-length c = c .before .before .before .before .before .before .before .before .before .before .before .before .before .before .before .before .before .step .kept .1 .1 .0 ∙ c .before .before .before .before .before .before .before .before .before .before .before .before .before .before .before .before .before .before .before .before .before .before .before .before .before .loop .inv .rated-length
+mul-rates : tie.Need-mul-rates Inv-loop μ-loop
+mul-rates c = omega (arith, c .before .before .before .before .loop .inv .few-rates)
 
-same-length-2 : tie.Need-same-length-2 Inv-loop μ-loop
-same-length-2 c = c .before .before .before .before .before .before .before .before .before .before .before .before .before .before .before .before .before .step .kept .1 .1 .1 .0 ∙ c .before .before .before .before .before .before .before .before .before .before .before .before .before .before .before .before .before .before .before .before .before .before .before .before .before .loop .inv .q-length
+array-set-from-rates : tie.Need-array-set-from-rates Inv-loop μ-loop
+array-set-from-rates c =
+    let l = c .before .before .before .before .loop in
+    let w = rw (c .before .r .given .1) at (c .before .before .before .step .ensures) in
+    omega (arith, w .takes .0 .few, rates-long _ _ _ _ _ _ _ _ (l .inv))
 
-same-length-3 : tie.Need-same-length-3 Inv-loop μ-loop
-same-length-3 c = c .before .before .before .before .before .before .before .before .before .before .before .before .before .before .before .before .before .step .kept .1 .1 .1 .1 .0 ∙ c .before .before .before .before .before .before .before .before .before .before .before .before .before .before .before .before .before .before .before .before .before .before .before .before .before .loop .inv .i-length
+add-rated : tie.Need-add-rated Inv-loop μ-loop
+add-rated c = omega (arith, c .before .before .before .before .loop .inv .few-rates)
 
-same-length-4 : tie.Need-same-length-4 Inv-loop μ-loop
-same-length-4 c = c .before .before .before .before .before .before .before .before .before .before .before .before .before .before .before .before .before .step .kept .1 .1 .1 .1 .1 .0 ∙ c .before .before .before .before .before .before .before .before .before .before .before .before .before .before .before .before .before .before .before .before .before .before .before .before .before .loop .inv .ages-length
-
-same-length-5 : tie.Need-same-length-5 Inv-loop μ-loop
-same-length-5 c = c .before .before .before .before .before .before .before .before .before .before .before .before .before .before .before .before .before .step .kept .1 .1 .1 .1 .1 .1 .0 ∙ c .before .before .before .before .before .before .before .before .before .before .before .before .before .before .before .before .before .before .before .before .before .before .before .before .before .loop .inv .groups-length
-
-same-length-6 : tie.Need-same-length-6 Inv-loop μ-loop
-same-length-6 c = c .before .before .before .before .before .before .before .before .before .before .before .before .before .before .before .before .before .step .kept .1 .1 .1 .1 .1 .1 .1 .0 ∙ c .before .before .before .before .before .before .before .before .before .before .before .before .before .before .before .before .before .before .before .before .before .before .before .before .before .loop .inv .d-length
-
-same-length-7 : tie.Need-same-length-7 Inv-loop μ-loop
-same-length-7 c = c .before .before .before .before .before .before .before .before .before .before .before .before .before .before .before .before .before .step .kept .1 .1 .1 .1 .1 .1 .1 .1 .0 ∙ c .before .before .before .before .before .before .before .before .before .before .before .before .before .before .before .before .before .before .before .before .before .before .before .before .before .loop .inv .e-length
-
-returns : tie.Need-returns Inv-loop μ-loop
-returns c =
-    let l = c .before .before .before .before .before .before .before .before .before .before .before .before .before .before .before .before .before .before .before .before .before .before .before .before .before .loop in
-    let e = rw (c .before .end .given .1) at (c .before .before .before .before .before .before .before .before .before .before .before .before .before .before .before .before .before .step .ensures) in
-    record { ending = e .ending; same = λ fund. l .inv .same fund ∙ e .same fund }
-
-enum-known-next : tie.Need-enum-known-next Inv-loop μ-loop
-enum-known-next c = search needs
+add-least : tie.Need-add-least Inv-loop μ-loop
+add-least c =
+    let w = rw (c .before .before .r .given .1) at (c .before .before .before .before .step .ensures) in
+    omega (arith, w .takes .1)
 
 loop-less : tie.Need-loop-less Inv-loop μ-loop
 loop-less c =
-    let e = rw (c .before .next .given .1) at (c .before .before .before .before .before .before .before .before .before .before .before .before .before .before .before .before .before .step .ensures) in
-    omega (arith, e .later, e .stands .passed .inside)
+    let w = rw (c .before .before .r .given .1) at (c .before .before .before .before .step .ensures) in
+    omega (arith, w .takes .0 .later, w .takes .0 .inside)
 
 loop-again : tie.Need-loop-again Inv-loop μ-loop
 loop-again c =
-    let l = c .before .before .before .before .before .before .before .before .before .before .before .before .before .before .before .before .before .before .before .before .before .before .before .before .before .loop in
-    let k = c .before .before .before .before .before .before .before .before .before .before .before .before .before .before .before .before .before .step .kept in
-    let e = rw (c .before .next .given .1) at (c .before .before .before .before .before .before .before .before .before .before .before .before .before .before .before .before .before .step .ensures) in
-    record {
-      stands = e .stands;
-      same = λ fund. l .inv .same fund ∙ e .same fund;
-      rated-length = k .1 .1 .0 ∙ l .inv .rated-length;
-      q-length = k .1 .1 .1 .0 ∙ l .inv .q-length;
-      i-length = k .1 .1 .1 .1 .0 ∙ l .inv .i-length;
-      ages-length = k .1 .1 .1 .1 .1 .0 ∙ l .inv .ages-length;
-      groups-length = k .1 .1 .1 .1 .1 .1 .0 ∙ l .inv .groups-length;
-      d-length = k .1 .1 .1 .1 .1 .1 .1 .0 ∙ l .inv .d-length;
-      e-length = k .1 .1 .1 .1 .1 .1 .1 .1 .0 ∙ l .inv .e-length;
-    }
+    let w = rw (c .before .before .r .given .1) at (c .before .before .before .before .step .ensures) in
+    rate-taken _ _ _ _ _ _ _ _ (c .before .before .before .before .before .loop .inv) _ _ w
+
+enum-known-m : tie.Need-enum-known-m Inv-loop μ-loop
+enum-known-m c = search needs
+
+mul-members : tie.Need-mul-members Inv-loop μ-loop
+mul-members c = omega (arith, c .before .before .before .before .loop .inv .few-members)
+
+array-set-from-members : tie.Need-array-set-from-members Inv-loop μ-loop
+array-set-from-members c =
+    let l = c .before .before .before .before .loop in
+    let w = rw (c .before .m .given .1) at (c .before .before .before .step .ensures) in
+    omega (arith, w .takes .few, members-long _ _ _ _ _ _ _ _ (l .inv))
+
+add-enrolled : tie.Need-add-enrolled Inv-loop μ-loop
+add-enrolled c = omega (arith, c .before .before .before .before .loop .inv .few-members)
+
+loop-less-2 : tie.Need-loop-less-2 Inv-loop μ-loop
+loop-less-2 c =
+    let w = rw (c .before .m .given .1) at (c .before .before .before .step .ensures) in
+    omega (arith, w .takes .later, w .takes .inside)
+
+loop-again-2 : tie.Need-loop-again-2 Inv-loop μ-loop
+loop-again-2 c =
+    let w = rw (c .before .m .given .1) at (c .before .before .before .step .ensures) in
+    member-taken _ _ _ _ _ _ _ _ (c .before .before .before .before .loop .inv) _ _ w
+
+enum-told : tie.Need-enum-told Inv-loop μ-loop
+enum-told c = search needs
+
+returns : tie.Need-returns Inv-loop μ-loop
+returns c =
+    let w = rw (c .enum-told .given .1) at (c .before .before .step .ensures) in
+    at-end _ _ _ _ _ _ _ _ (c .before .before .before .loop .inv) w
+
+enum-known-why : tie.Need-enum-known-why Inv-loop μ-loop
+enum-known-why c = search needs
+
+refused-requires : tie.Need-refused-requires Inv-loop μ-loop
+refused-requires c κs = search needs
+
+returns-2 : tie.Need-returns-2 Inv-loop μ-loop
+returns-2 c =
+    let w = rw (c .before .before .why .given .1) at (c .before .before .before .before .step .ensures) in
+    at-stop _ _ _ _ _ _ _ _ (c .before .before .before .before .before .loop .inv) _ _ _ w (c .refused .ensures)
 
 pub read-rows-spec : {M : Type 1} → statement M
 read-rows-spec =
@@ -111,17 +111,25 @@ read-rows-spec =
     (tie.spec
     Inv-loop
     μ-loop
+    no-rate-requires
+    no-member-requires
     loop-holds
     step-requires
-    enum-known-end
-    same-length
-    same-length-2
-    same-length-3
-    same-length-4
-    same-length-5
-    same-length-6
-    same-length-7
-    returns
-    enum-known-next
+    enum-known-r
+    mul-rates
+    array-set-from-rates
+    add-rated
+    add-least
     loop-less
-    loop-again)
+    loop-again
+    enum-known-m
+    mul-members
+    array-set-from-members
+    add-enrolled
+    loop-less-2
+    loop-again-2
+    enum-told
+    returns
+    enum-known-why
+    refused-requires
+    returns-2)

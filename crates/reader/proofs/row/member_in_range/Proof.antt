@@ -3,33 +3,55 @@ use mathlib.Core.Path.{sym, _∙_}
 use native.Mathlib.Omega.{arith}
 use borrow.Author.Needs.{needs}
 use borrow.Author.Tests.{lt-ltb, le-ltb, le-leb, lt-leb}
-use Rattle.fund.specs.Reading.{memberInRange}
-use Rattle.reader.proofs.Rows.{length-members}
+use Rattle.fund.specs.Limits.{most-members, most-age, most-amount}
+use Rattle.reader.specs.Rows.{memberFits}
 use Rattle.reader.proofs.row.member_in_range.Statement.{statement}
 use Rattle.reader.proofs.row.member_in_range.Tie as tie
 
 returns : tie.Need-returns
-unfolding memberInRange
-returns c = let a = c .before .args in λ u. rw (length-members, le-ltb (a .n) 1000 (omega arith))
+unfolding memberFits
+returns c = let a = c .before .args in rw (le-ltb (a .enrolled) most-members (omega arith))
 
 returns-2 : tie.Need-returns-2
-unfolding memberInRange
-returns-2 c = let a = c .before .before .before .args in λ u. rw (length-members, lt-ltb (a .n) 1000 (omega arith), lt-leb (a .m .age) 120 (omega arith))
+unfolding memberFits
+returns-2 c =
+    let a = c .before .before .before .args in
+    rw (lt-ltb (a .enrolled) most-members (omega arith), lt-leb (a .m .age) most-age (omega arith))
 
 within-requires : tie.Need-within-requires
 within-requires c κs = search needs
 
 returns-3 : tie.Need-returns-3
-unfolding memberInRange
-returns-3 c = let a = c .before .before .before .before .before .before .before .args in λ u. rw (length-members, lt-ltb (a .n) 1000 (omega arith), le-leb (a .m .age) 120 (omega arith), sym (c .before .before .before .within .ensures) ∙ c .before .before .if3 .taken, lt-leb (a .m .d) 65535 (omega arith))
+unfolding memberFits
+returns-3 c =
+    let a = c .before .before .before .before .before .before .before .args in
+    rw (
+      lt-ltb (a .enrolled) most-members (omega arith),
+      le-leb (a .m .age) most-age (omega arith),
+      sym (c .before .before .before .within .ensures) ∙ c .before .before .if3 .taken,
+      lt-leb (a .m .d) most-amount (omega arith),
+    )
 
 returns-4 : tie.Need-returns-4
-unfolding memberInRange
-returns-4 c = let a = c .before .before .before .before .before .before .before .before .args in λ u. rw (length-members, lt-ltb (a .n) 1000 (omega arith), le-leb (a .m .age) 120 (omega arith), sym (c .before .before .before .before .within .ensures) ∙ c .before .before .before .if3 .taken, le-leb (a .m .d) 65535 (omega arith))
+unfolding memberFits
+returns-4 c =
+    let a = c .before .before .before .before .before .before .before .before .args in
+    rw (
+      lt-ltb (a .enrolled) most-members (omega arith),
+      le-leb (a .m .age) most-age (omega arith),
+      sym (c .before .before .before .before .within .ensures) ∙ c .before .before .before .if3 .taken,
+      le-leb (a .m .d) most-amount (omega arith),
+    )
 
 returns-5 : tie.Need-returns-5
-unfolding memberInRange
-returns-5 c = let a = c .before .before .before .before .before .args in λ u. rw (length-members, lt-ltb (a .n) 1000 (omega arith), le-leb (a .m .age) 120 (omega arith), sym (c .before .within .ensures) ∙ c .if3 .left)
+unfolding memberFits
+returns-5 c =
+    let a = c .before .before .before .before .before .args in
+    rw (
+      lt-ltb (a .enrolled) most-members (omega arith),
+      le-leb (a .m .age) most-age (omega arith),
+      sym (c .before .within .ensures) ∙ c .if3 .left,
+    )
 
 pub member-in-range-spec : {M : Type 1} → statement M
 member-in-range-spec =

@@ -1,0 +1,87 @@
+// The calls that the pricing call is made of, each a public call of its own: what it gives is its definition's, for every input.
+use fund::Figures;
+use fund::Fund;
+use fund::Limits;
+use fund::Member;
+use fund::Rate;
+use fund::Verdict;
+use matching::Matched;
+use reader::FileRead;
+use reader::Part;
+use recursion::Recursed;
+ghost use mathlib.Core.Path.{_≡_};
+ghost use lib.ListN.{length};
+ghost use Rattle.fund.specs.Limits.{limits};
+ghost use Rattle.fund.specs.Reading.{reading};
+ghost use Rattle.fund.specs.Answer.{part};
+ghost use Rattle.reader.specs.Read.{fileRead};
+ghost use Rattle.reader.specs.Part.{Spans};
+ghost use Rattle.matching.specs.Matching.{matchedTables};
+ghost use Rattle.recursion.specs.Recursion.{left, recursion};
+ghost use Rattle.text.specs.Shown.{printing, shown};
+ghost use Rattle.text.specs.Writing.{Written};
+
+// The named constants are the definitions' limits.
+pub fn limits() -> Limits
+    ensures { λ r. ⌜ r ≡ limits ⌝ }
+{
+    Fund::limits()
+}
+
+// Refusals 1 and 2, or the header and the rows.
+pub fn read(file: &[u8]) -> FileRead
+    ensures { λ r. ⌜ r ≡ fileRead (reading (now (file .entry))) ⌝ }
+{
+    reader::read(file)
+}
+
+// The line of a verdict.
+pub fn part_of(file: &[u8], verdict: Verdict) -> Part
+    ensures { λ r. ⌜ Spans (now (file .entry)) (part (now (file .entry)) verdict) r ⌝ }
+{
+    reader::part_of(file, verdict)
+}
+
+// Refusals 3 to 6, or the lives.
+pub fn matched(
+    fund: Fund,
+    rates: [Rate; Fund::RATE_ROWS],
+    rated: usize,
+    members: [Member; Fund::MEMBER_ROWS],
+    enrolled: usize,
+) -> Matched
+    ensures { λ r. ⌜ r ≡ matchedTables fund rates rated members enrolled ⌝ }
+{
+    matching::matched(fund, rates, rated, members, enrolled)
+}
+
+// The recursion on any transform and start.
+pub fn recursed(
+    horizon: usize,
+    d: &[i64],
+    h: &[u64],
+    first: i64,
+    bound: u64,
+    f: &mut [i64],
+    r: &mut [u64],
+) -> Recursed
+    ensures { λ a. ⌜ left a (now (f .exit)) (now (r .exit)) ≡
+        recursion horizon (now (d .entry)) (now (h .entry)) (record { f = first; R = bound }) (length (now (f .entry))) (length (now (r .entry))) ⌝ }
+{
+    recursion::recursion(horizon, d, h, first, bound, f, r)
+}
+
+// The text of an answer.
+pub fn listing(
+    verdict: Verdict,
+    figures: Figures,
+    horizon: usize,
+    f: &[i64],
+    r: &[u64],
+    text: &mut [u8],
+) -> usize
+    ensures { λ size. ⌜ Written (shown (printing verdict figures (now (f .entry)) (now (r .entry))) horizon (length (now (text .entry))))
+        (now (text .entry)) (now (text .exit)) size ⌝ }
+{
+    text::listing(verdict, figures, horizon, f, r, text)
+}

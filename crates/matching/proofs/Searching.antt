@@ -1,0 +1,54 @@
+-- The first n rows of a table from a place on: the rate row of an age, and the first member that meets a condition.
+use mathlib.Core.Path.{_≡_, refl, sym, _∙_, ap}
+use mathlib.Core.Bool.{Bool, true, false}
+use mathlib.Core.List.{List, [], _∷_}
+use mathlib.Core.Option.{none, some}
+use Prim.Native.Nat.{ℕ, suc, _+_, _≤_, _<_}
+use native.Mathlib.Numerals.{add-one}
+use native.Mathlib.Omega.{arith}
+use borrow.Author.Tests.{eq-eqb, ne-eqb}
+use lib.ListN.{length, take, drop, getD, drop-of-length-le}
+use lib.Seq.{drop-cons, length-take-le, getD-take}
+use Rattle.fund.specs.declared.Rate.{Rate}
+use Rattle.fund.specs.Base.{if_then_else_}
+use Rattle.fund.specs.Folding.{rateAt}
+use Rattle.fund.specs.Refusals.{first}
+
+module _ {A : Type 0} (l : List A) (n : ℕ) (room : n ≤ length l) (blank : A) where
+  pub row-at : (k : ℕ) → k < n → drop k (take n l) ≡ getD l k blank ∷ drop (suc k) (take n l)
+  row-at k h = drop-cons (take n l) k blank (rw (length-take-le n l room) h) ∙ rw (getD-take n l k blank h)
+
+  pub no-row-at : (k : ℕ) → n ≤ k → drop k (take n l) ≡ []
+  no-row-at k h = drop-of-length-le (take n l) {i = k} (omega (arith, length-take-le n l room))
+
+  -- The first that meets a condition, by the place of the first row.
+  module _ (met : A → Bool) (at : ℕ) where
+    pub first-here : (k : ℕ) → k < n → met (getD l k blank) ≡ true → first met (at + k) (drop k (take n l)) ≡ some (at + k)
+    unfolding first
+    first-here k h e = rw (row-at k h, e)
+
+    pub first-later : (k : ℕ) → k < n → met (getD l k blank) ≡ false → first met (at + k) (drop k (take n l)) ≡ first met (at + (k + 1)) (drop (k + 1) (take n l))
+    unfolding first
+    first-later k h e =
+        let z : suc (at + k) ≡ at + suc k = omega arith in
+        rw (add-one k, row-at k h, e, z)
+
+    pub first-none : (k : ℕ) → n ≤ k → first met (at + k) (drop k (take n l)) ≡ none
+    unfolding first
+    first-none k h = rw (no-row-at k h)
+
+abbrev pub blankRate : Rate
+blankRate = record { age = 0; q = 0; i = 0 }
+
+module _ (l : List Rate) (n : ℕ) (room : n ≤ length l) (age : ℕ) where
+  pub rate-here : (j : ℕ) → j < n → getD l j blankRate .age ≡ age → rateAt (drop j (take n l)) age ≡ some (getD l j blankRate)
+  unfolding rateAt
+  rate-here j h e = rw (row-at l n room blankRate j h, eq-eqb _ _ e)
+
+  pub rate-later : (j : ℕ) → j < n → (getD l j blankRate .age ≡ age → ⊥) → rateAt (drop j (take n l)) age ≡ rateAt (drop (j + 1) (take n l)) age
+  unfolding rateAt
+  rate-later j h e = rw (add-one j, row-at l n room blankRate j h, ne-eqb _ _ e)
+
+  pub rate-none : (j : ℕ) → n ≤ j → rateAt (drop j (take n l)) age ≡ none
+  unfolding rateAt
+  rate-none j h = rw (no-row-at l n room blankRate j h)

@@ -1,0 +1,101 @@
+-- Where the matching stands: the lives of the first k members are there, and the member k has no rate among the first j rows.
+use mathlib.Core.Path.{_≡_, refl, sym, _∙_, ap}
+use mathlib.Core.Bool.{true, false}
+use mathlib.Core.List.{List, [], _∷_, _++_, map, map-append}
+use mathlib.Core.Option.{Option, none, some}
+use Prim.Native.Nat.{ℕ, suc, _+_, _≤_, _<_}
+use native.Mathlib.Numerals.{add-one}
+use native.Mathlib.Omega.{arith}
+use lib.ListN.{length, take, drop, set, getD, length-map}
+use lib.Seq.{take-suc, length-take-le}
+use Rattle.fund.specs.declared.Rate.{Rate}
+use Rattle.fund.specs.declared.Member.{Member}
+use Rattle.fund.specs.declared.Life.{Life}
+use Rattle.fund.specs.declared.Refusal.the-variants.{Unmatched}
+use Rattle.fund.specs.declared.Verdict.the-variants.{Accepted, Refused}
+use Rattle.fund.specs.Limits.{most-rates, most-members}
+use Rattle.fund.specs.Folding.{rateAt, folded, life}
+use Rattle.fund.specs.Refusals.{first, unmatched, refuse}
+use Rattle.laws.specs.Rows.{rows-length, rows-put}
+use Rattle.matching.specs.declared.table.Matched.{Matched}
+use Rattle.matching.specs.Matching.{noLife, lifeTable, withLives}
+use Rattle.matching.specs.Lives.{livesFrom}
+use Rattle.matching.proofs.Searching.{blankRate, first-here, first-later, first-none, rate-here, rate-later, rate-none}
+
+abbrev pub blankMember : Member
+blankMember = record { age = 0; group = 0; d = 0; e = 0 }
+
+pub record LivesSoFar (rates : List Rate) (rated : ℕ) (members : List Member) (enrolled line : ℕ) (lives : List Life) (k j : ℕ) : Type 0 where
+  pub members-within : k ≤ enrolled
+  pub rates-within : j ≤ rated
+  pub lives-are : lives ≡ lifeTable (map (life (take rated rates)) (take k members))
+  pub all-matched : first (unmatched (take rated rates)) line (take enrolled members) ≡ first (unmatched (take rated rates)) (line + k) (drop k (take enrolled members))
+  pub no-rate-yet : rateAt (take rated rates) (getD members k blankMember .age) ≡ rateAt (drop j (take rated rates)) (getD members k blankMember .age)
+
+module _ (rates : List Rate) (rated : ℕ) (members : List Member) (enrolled line : ℕ) where
+  pub start : LivesSoFar rates rated members enrolled line (lifeTable []) 0 0
+  start =
+      let z : line ≡ line + 0 = omega arith in
+      record {
+        members-within = omega arith;
+        rates-within = omega arith;
+        lives-are = refl;
+        all-matched = ap (λ n. first (unmatched (take rated rates)) n (take enrolled members)) z;
+        no-rate-yet = refl;
+      }
+
+  module _ (few-rates : rated ≤ length rates) (few-members : enrolled ≤ length members) (long : length members ≡ most-members) (lives : List Life) (k j : ℕ) (s : LivesSoFar rates rated members enrolled line lives k j) where
+    so-far : length (map (life (take rated rates)) (take k members)) ≡ k
+    so-far = length-map (take k members) (life (take rated rates)) ∙ length-take-le k members (omega (arith, s .members-within))
+
+    pub lives-long : length lives ≡ most-members
+    unfolding lifeTable
+    lives-long =
+        ap length (s .lives-are)
+        ∙ rows-length noLife most-members (map (life (take rated rates)) (take k members)) (omega (arith, so-far, s .members-within))
+
+    module _ (member-left : k < enrolled) where
+      -- all rate rows were compared with the member k
+      pub no-rate : rated ≤ j → (r : Matched) → r ≡ withLives [] (Refused Unmatched (line + k)) → r ≡ livesFrom (take rated rates) (take enrolled members) line
+      unfolding livesFrom unmatched refuse withLives
+      no-rate h r e =
+          let n : rateAt (take rated rates) (getD members k blankMember .age) ≡ none = s .no-rate-yet ∙ rate-none rates rated few-rates (getD members k blankMember .age) j h in
+          let u : unmatched (take rated rates) (getD members k blankMember) ≡ true = rw (n, unmatched) in
+          e ∙ rw (s .all-matched ∙ first-here members enrolled few-members blankMember (unmatched (take rated rates)) line k member-left u)
+
+      module _ (rate-left : j < rated) where
+        pub other-rate : (getD rates j blankRate .age ≡ getD members k blankMember .age → ⊥) → LivesSoFar rates rated members enrolled line lives k (j + 1)
+        other-rate d =
+            record {
+              members-within = s .members-within;
+              rates-within = omega arith;
+              lives-are = s .lives-are;
+              all-matched = s .all-matched;
+              no-rate-yet = s .no-rate-yet ∙ rate-later rates rated few-rates (getD members k blankMember .age) j rate-left d;
+            }
+
+        pub its-rate : (x : Life) → getD rates j blankRate .age ≡ getD members k blankMember .age → x ≡ folded (some (getD rates j blankRate)) (getD members k blankMember) → LivesSoFar rates rated members enrolled line (set lives k x) (k + 1) 0
+        unfolding life unmatched lifeTable
+        its-rate x e f =
+            let found : rateAt (take rated rates) (getD members k blankMember .age) ≡ some (getD rates j blankRate) = s .no-rate-yet ∙ rate-here rates rated few-rates (getD members k blankMember .age) j rate-left e in
+            let u : unmatched (take rated rates) (getD members k blankMember) ≡ false = rw (found, unmatched) in
+            let is : x ≡ life (take rated rates) (getD members k blankMember) = f ∙ rw found in
+            let more : map (life (take rated rates)) (take (k + 1) members) ≡ map (life (take rated rates)) (take k members) ++ (x ∷ []) =
+            rw (add-one k, take-suc members k blankMember (omega arith), map-append, is) in
+            record {
+              members-within = omega arith;
+              rates-within = omega arith;
+              lives-are =
+                  ap (λ l. set l k x) (s .lives-are)
+                  ∙ ap (λ n. set (lifeTable (map (life (take rated rates)) (take k members))) n x) (sym so-far)
+                  ∙ rows-put noLife x most-members (map (life (take rated rates)) (take k members)) (omega (arith, so-far))
+                  ∙ ap lifeTable (sym more);
+              all-matched = s .all-matched ∙ first-later members enrolled few-members blankMember (unmatched (take rated rates)) line k member-left u;
+              no-rate-yet = refl;
+            }
+
+    pub all-lives : enrolled ≤ k → record { verdict = Accepted; lives = lives } ≡ livesFrom (take rated rates) (take enrolled members) line
+    unfolding livesFrom refuse withLives
+    all-lives h =
+        let z : k ≡ enrolled = omega (arith, s .members-within) in
+        rw (s .all-matched ∙ first-none members enrolled few-members blankMember (unmatched (take rated rates)) line k h, s .lives-are, z)

@@ -1,0 +1,135 @@
+-- `matching::lives::lives_of`: one law for each way through the loop. A turn takes a member, or a rate row of the member.
+use mathlib.Core.Path.{_≡_}
+use mathlib.Core.List.{[]}
+use Prim.Native.Nat.{suc, _+_, _-_, _*_, _≤_}
+use native.Mathlib.Omega.{arith}
+use borrow.Author.Needs.{needs}
+use lib.ListN.{length}
+use Rattle.fund.specs.Limits.{most-rates, most-members}
+use Rattle.fund.specs.Answer.{lent}
+use Rattle.matching.specs.Matching.{lifeTable}
+use Rattle.matching.proofs.SoFar.{LivesSoFar, start, lives-long, no-rate, other-rate, its-rate, all-lives}
+use Rattle.matching.proofs.lives.lives_of.Statement.{statement}
+use Rattle.matching.proofs.lives.lives_of.Tie as tie
+
+abbrev Inv-loop : tie.InvT-loop
+Inv-loop rated enrolled line rates members lives₀ k₀ j₀ lives k j = LivesSoFar rates rated members enrolled line lives k j
+
+abbrev μ-loop : tie.MeasureT-loop
+μ-loop rated enrolled line rates members lives₀ k₀ j₀ lives k j = (enrolled - k) * suc most-rates + (rated - j)
+
+no-life-requires : tie.Need-no-life-requires Inv-loop μ-loop
+no-life-requires c κs = search needs
+
+loop-holds : tie.Need-loop-holds Inv-loop μ-loop
+unfolding lifeTable lent
+loop-holds c =
+    let a = c .before .args in
+    rw (c .no-life .ensures) (start (a .t1) (a .rated) (a .t3) (a .enrolled) (a .line))
+
+add-refused : tie.Need-add-refused Inv-loop μ-loop
+add-refused c = search needs
+
+refused-requires : tie.Need-refused-requires Inv-loop μ-loop
+refused-requires c κs = search needs
+
+returns : tie.Need-returns Inv-loop μ-loop
+returns c =
+    let l = c .before .before .before in
+    let a = l .before .before .args in
+    let few-rates : a .rated ≤ length (a .t1) = omega arith in
+    let few-members : a .enrolled ≤ length (a .t3) = omega arith in
+    let long : length (a .t3) ≡ most-members = omega arith in
+    no-rate (a .t1) (a .rated) (a .t3) (a .enrolled) (a .line) few-rates few-members long _ (l .loop .k) (l .loop .j) (l .loop .inv) (c .before .before .loop-test .taken) (c .before .if1 .taken) _ (c .refused .ensures)
+
+mul-m : tie.Need-mul-m Inv-loop μ-loop
+mul-m c = search needs
+
+array-copy-out-m : tie.Need-array-copy-out-m Inv-loop μ-loop
+array-copy-out-m c = search needs
+
+mul-r : tie.Need-mul-r Inv-loop μ-loop
+mul-r c = search needs
+
+array-copy-out-r : tie.Need-array-copy-out-r Inv-loop μ-loop
+array-copy-out-r c = search needs
+
+folded-requires : tie.Need-folded-requires Inv-loop μ-loop
+folded-requires c κs = search needs
+
+mul-lives : tie.Need-mul-lives Inv-loop μ-loop
+mul-lives c = search needs
+
+array-set-from-lives : tie.Need-array-set-from-lives Inv-loop μ-loop
+array-set-from-lives c =
+    let l = c .before .before .before .before .before .before .before .before in
+    let a = l .before .before .args in
+    let few-rates : a .rated ≤ length (a .t1) = omega arith in
+    let few-members : a .enrolled ≤ length (a .t3) = omega arith in
+    let long : length (a .t3) ≡ most-members = omega arith in
+    omega (arith, lives-long (a .t1) (a .rated) (a .t3) (a .enrolled) (a .line) few-rates few-members long _ (l .loop .k) (l .loop .j) (l .loop .inv))
+
+add-k : tie.Need-add-k Inv-loop μ-loop
+add-k c = search needs
+
+loop-less : tie.Need-loop-less Inv-loop μ-loop
+loop-less c = omega arith
+
+loop-again : tie.Need-loop-again Inv-loop μ-loop
+loop-again c =
+    let l = c .before .before .before .before .before .before .before .before in
+    let a = l .before .before .args in
+    let few-rates : a .rated ≤ length (a .t1) = omega arith in
+    let few-members : a .enrolled ≤ length (a .t3) = omega arith in
+    let long : length (a .t3) ≡ most-members = omega arith in
+    its-rate (a .t1) (a .rated) (a .t3) (a .enrolled) (a .line) few-rates few-members long _ (l .loop .k) (l .loop .j) (l .loop .inv) (omega arith) (omega arith) _ (c .before .if2 .taken) (c .folded .ensures)
+
+add-j : tie.Need-add-j Inv-loop μ-loop
+add-j c = search needs
+
+loop-less-2 : tie.Need-loop-less-2 Inv-loop μ-loop
+loop-less-2 c = omega arith
+
+loop-again-2 : tie.Need-loop-again-2 Inv-loop μ-loop
+loop-again-2 c =
+    let l = c .before .before .before .before .before .before .before in
+    let a = l .before .before .args in
+    let few-rates : a .rated ≤ length (a .t1) = omega arith in
+    let few-members : a .enrolled ≤ length (a .t3) = omega arith in
+    let long : length (a .t3) ≡ most-members = omega arith in
+    other-rate (a .t1) (a .rated) (a .t3) (a .enrolled) (a .line) few-rates few-members long _ (l .loop .k) (l .loop .j) (l .loop .inv) (omega arith) (omega arith) (c .if2 .left)
+
+returns-2 : tie.Need-returns-2 Inv-loop μ-loop
+returns-2 c =
+    let l = c .before in
+    let a = l .before .before .args in
+    let few-rates : a .rated ≤ length (a .t1) = omega arith in
+    let few-members : a .enrolled ≤ length (a .t3) = omega arith in
+    let long : length (a .t3) ≡ most-members = omega arith in
+    all-lives (a .t1) (a .rated) (a .t3) (a .enrolled) (a .line) few-rates few-members long _ (l .loop .k) (l .loop .j) (l .loop .inv) (omega arith)
+
+pub lives-of-spec : {M : Type 1} → statement M
+lives-of-spec =
+    tie.close
+    (tie.spec
+    Inv-loop
+    μ-loop
+    no-life-requires
+    loop-holds
+    add-refused
+    refused-requires
+    returns
+    mul-m
+    array-copy-out-m
+    mul-r
+    array-copy-out-r
+    folded-requires
+    mul-lives
+    array-set-from-lives
+    add-k
+    loop-less
+    loop-again
+    add-j
+    loop-less-2
+    loop-again-2
+    returns-2)

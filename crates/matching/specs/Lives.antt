@@ -1,0 +1,21 @@
+-- What the searches over the members answer, from the line of the first member.
+use mathlib.Core.List.{List, map}
+use Prim.Native.Nat.{ℕ}
+use Rattle.fund.specs.declared.Rate.{Rate}
+use Rattle.fund.specs.declared.Member.{Member}
+use Rattle.fund.specs.declared.Refusal.the-variants.{Unmatched, Half}
+use Rattle.fund.specs.declared.Verdict.the-variants.{Accepted}
+use Rattle.fund.specs.Folding.{life}
+use Rattle.fund.specs.Refusals.{first, unmatched, half, refuse}
+use Rattle.matching.specs.declared.table.Matched.{Matched}
+use Rattle.matching.specs.Matching.{withLives}
+
+-- 5, or the lives of the members.
+unfoldable pub livesFrom : List Rate → List Member → ℕ → Matched
+livesFrom rates members at = withLives (map (life rates) members) (refuse Unmatched (first (unmatched rates) at members) Accepted)
+
+-- 5, then 6, each over all members, or the lives.
+unfoldable pub byMember : List Rate → List Member → ℕ → Matched
+byMember rates members at =
+    let ms = map (life rates) members in
+    withLives ms (refuse Unmatched (first (unmatched rates) at members) (refuse Half (first half at ms) Accepted))
