@@ -1,6 +1,7 @@
 // The calls that the pricing call is made of, each a public call of its own: what it gives is its definition's, for every input.
 use fund::Figures;
 use fund::Fund;
+use fund::Life;
 use fund::Limits;
 use fund::Member;
 use fund::Rate;
@@ -9,8 +10,9 @@ use matching::Matched;
 use reader::FileRead;
 use reader::Part;
 use recursion::Recursed;
+use valuation::Valued;
 ghost use mathlib.Core.Path.{_≡_};
-ghost use lib.ListN.{length};
+ghost use lib.ListN.{length, take};
 ghost use Rattle.fund.specs.Limits.{limits};
 ghost use Rattle.fund.specs.Reading.{reading};
 ghost use Rattle.fund.specs.Answer.{part};
@@ -18,6 +20,7 @@ ghost use Rattle.reader.specs.Read.{fileRead};
 ghost use Rattle.reader.specs.Part.{Spans};
 ghost use Rattle.matching.specs.Matching.{matchedTables};
 ghost use Rattle.recursion.specs.Recursion.{left, recursion};
+ghost use Rattle.valuation.specs.Valued.{left as leftOf, lengths, valuation};
 ghost use Rattle.text.specs.Shown.{shownAnswer, listingOf};
 ghost use Rattle.text.specs.Writing.{Written};
 
@@ -53,6 +56,22 @@ pub fn matched(
     ensures { λ r. ⌜ r ≡ matchedTables fund rates rated members enrolled ⌝ }
 {
     matching::matched(fund, rates, rated, members, enrolled)
+}
+
+// Refusals 7 to 10, or the figures and the cells.
+pub fn valued(
+    fund: Fund,
+    lives: [Life; Fund::MEMBER_ROWS],
+    n: usize,
+    transform: &mut [i64],
+    h: &mut [u64],
+    f: &mut [i64],
+    r: &mut [u64],
+) -> Valued
+    ensures { λ v. ⌜ leftOf v (now (transform .exit)) (now (h .exit)) (now (f .exit)) (now (r .exit)) ≡
+        valuation fund n (take n lives) (lengths (now (transform .entry)) (now (h .entry)) (now (f .entry)) (now (r .entry))) ⌝ }
+{
+    valuation::value(fund, lives, n, transform, h, f, r)
 }
 
 // The recursion on any transform and start.
