@@ -26,7 +26,9 @@ use Rattle.laws.specs.Ranges.{read-ranges}
 use Rattle.widths.specs.Lives.{InRange}
 use Rattle.valuation.specs.declared.Valued.{Valued}
 use Rattle.valuation.specs.Inside.{HeaderIn}
-use Rattle.valuation.specs.Valued.{left as valuedLeft, outcome, Answered, ValuedAs}
+use Rattle.valuation.specs.Valued.{left as valuedLeft, outcome, valuation}
+use Rattle.valuation.proofs.InsideTells.{valuation-inside}
+use Rattle.fund.specs.declared.Figures.{Figures}
 use Rattle.pricing.specs.declared.Priced.{Priced}
 use Rattle.pricing.specs.Joining.{lives-in, answer-matched, answer-valued, no-line}
 use Rattle.pricing.specs.Priced.{left, horizonWith, Answers}
@@ -52,19 +54,16 @@ outcome-answer file n fund Accepted k = refl
 outcome-answer file n fund (Refused why place) k = no-line file n why place k
 
 -- what the valuation answers, as the answer of the call
-abbrev pub handed : Valued → ℕ → ℤ → Priced
-handed v X premium = record { verdict = v .verdict; start = 0; end = 0; horizon = X; figures = record { truncation = v .truncation; mean = v .mean; premium = premium; within = v .within } }
-
-pub under-header : (f g : Fund) (ms : List Life) (n : Lengths) (v : Valued) (a : Answer) → f ≡ g → ValuedAs f ms n v a → ValuedAs g ms n v a
-under-header f g ms n v a e k = subst (λ (x : Fund). ValuedAs x ms n v a) e k
+abbrev pub handed : Verdict → ℕ → Figures → Priced
+handed v X figures = record { verdict = v; start = 0; end = 0; horizon = X; figures = figures }
 
 module _ (file : List ℕ) (n : Lengths) (fund : FundFile) (is : reading file ≡ read fund) where
-  pub handed-answers : (answer : Answer) (v : Valued) (X : ℕ) (premium : ℤ) (d : List ℤ) (h : List ℕ) (f : List ℤ) (r : List ℕ) → X ≡ horizonWith (v .verdict) (fund .header .horizon) → premium ≡ v .premium → valuedLeft v d h f r ≡ answer
-      → Answers file (handed v X premium) (left (handed v X premium) d h f r) answer
+  pub handed-answers : (answer : Answer) (v : Valued) (X : ℕ) (figures : Figures) (d : List ℤ) (h : List ℕ) (f : List ℤ) (r : List ℕ) → X ≡ horizonWith (v .verdict) (fund .header .horizon) → figures ≡ v .figures → valuedLeft v d h f r ≡ answer
+      → Answers file (handed (v .verdict) X figures) (left (handed (v .verdict) X figures) d h f r) answer
   unfolding horizonIn
-  handed-answers answer v X premium d h f r x e k =
+  handed-answers answer v X figures d h f r x e k =
       record {
-        answer = ap (λ (z : ℤ). left (handed v X z) d h f r) e ∙ k;
+        answer = ap (λ (z : Figures). left (handed (v .verdict) X z) d h f r) e ∙ k;
         horizon = x ∙ ap (λ z. horizonWith (v .verdict) (horizonIn z)) (sym is);
         ordered = omega arith;
         inside = omega arith;
@@ -86,13 +85,11 @@ module _ (file : List ℕ) (n : Lengths) (fund : FundFile) (is : reading file �
         let e4 = refuse-accepted _ _ _ (e3 .1) in
         record { horizon = ok .horizon; order = ok .order-most; frequency = ok .frequency; deductible = ltb-false _ _ (at0-none _ (e4 .0)) }
 
-    answered : (v : Valued) (a : Answer) (inside : Bool) → inside ≡ true → Answered (fund .header) ms n inside a → a ≡ answer file n
-    answered v a false z k = absurd (let w : _≡_ {A = ℕ} 0 1 = cc in omega arith)
-    answered v a true z k =
+    pub valued-answers : (a : Answer) (header : Fund) (count : ℕ) → header ≡ fund .header → count ≤ most-members → a ≡ valuation header count ms n → a ≡ answer file n
+    valued-answers a header count e few k =
         k
+        ∙ ap (λ x. valuation x count ms n) e
+        ∙ valuation-inside (fund .header) count ms n few header-in in-range
         ∙ ap (λ (ls : List Life). outcome (fund .header) ls n (valued (fund .header) ls n (fundCells (fund .header) ls))) same
         ∙ outcome-answer file n fund _ (valued-unlined (fund .header) (lives fund) n _)
         ∙ sym (answer-valued file n fund is m)
-
-    pub valued-answers : (v : Valued) (a : Answer) → length ms ≤ most-members → ValuedAs (fund .header) ms n v a → a ≡ answer file n
-    valued-answers v a few k = answered v a (v .inside) (k .inside .no (record { few = few; in-range = in-range }, header-in)) (k .answered)

@@ -1,13 +1,11 @@
 // One call prices a fund: from the bytes of its file to its figures and cells, or to the refusal and its line.
-mod lives;
-
 use fund::Figures;
 use fund::Fund;
 use fund::Refusal;
 use fund::Verdict;
 use matching::Matched;
-use valuation::clear;
-use valuation::clear_signed;
+use whole::clear;
+use whole::clear_signed;
 ghost use mathlib.Core.Path.{_≡_};
 ghost use Rattle.fund.specs.declared.Verdict;
 ghost use Rattle.fund.specs.Answer.{refused, answer};
@@ -83,19 +81,15 @@ fn valued(
         Verdict::Refused(why, place) => stopped(file, why, place, transform, h, f, r),
         Verdict::Accepted => {
             let table = matched.lives;
-            let value = lives::lent(fund, table, enrolled, transform, h, f, r);
+            let value = valuation::value(fund, table, enrolled, transform, h, f, r);
             let outcome = value.verdict;
+            let figures = value.figures;
             Priced {
                 verdict: outcome,
                 start: 0,
                 end: 0,
                 horizon: horizon_of(outcome, fund.horizon),
-                figures: Figures {
-                    truncation: value.truncation,
-                    mean: value.mean,
-                    premium: value.premium,
-                    within: value.within,
-                },
+                figures,
             }
         }
     }

@@ -1,12 +1,14 @@
 -- A read behind `size` bytes keeps the first `start` of them (extends-more), also where the loop stops (read-behind).
 use mathlib.Core.Path.{_≡_, refl, sym, _∙_, ap}
-use mathlib.Core.Bool.{Bool, true, false}
+use mathlib.Core.Bool.{true, false}
 use mathlib.Core.List.{List}
-use Prim.Native.Nat.{ℕ, _≤_}
+use Prim.Native.Nat.{ℕ, _≤_, _<_}
 use native.Mathlib.Omega.{arith}
+use lib.IntN.{ℤ, pos, negsuc}
 use lib.ListN.{length, take}
 use lib.Seq.{take-take}
-use Rattle.printing.specs.Input.{Extends, ReadBehind, HoldsFirst, PrintsFirst, PrintsInput}
+use Rattle.io.specs.Counts.{clamped}
+use Rattle.printing.specs.Input.{Extends, AtMostZero, ReadBehind, HoldsFirst, PrintsFirst, PrintsInput}
 
 pub extends-none : (buffer : List ℕ) (start : ℕ) → Extends buffer start buffer
 extends-none buffer start = record { long = refl; kept = refl }
@@ -18,10 +20,14 @@ extends-more {before} {now} {after} {start} {size} h a b =
       kept = sym (take-take start size after h) ∙ ap (take start) (b .kept) ∙ take-take start size now h ∙ a .kept;
     }
 
--- where the loop stops behind one more read, whatever this read put there
-pub read-behind : {before now after : List ℕ} {start size : ℕ} {failed : Bool} → (start ≤ size) × (size ≤ length now) × Extends before start now → Extends now size after →
-    ReadBehind before start after (record { size = size; failed = failed })
-read-behind i e = record { extends = extends-more (i .0) (i .2) e; least = i .0; most = omega (arith, i .1, e .long) }
+-- where the loop stops behind a read that counted none
+pub read-behind : {before now after : List ℕ} {start size : ℕ} {last : ℤ} → (start ≤ size) × (size ≤ length now) × Extends before start now → Extends now size after →
+    (size < length after → AtMostZero last) → ReadBehind before start after (record { size = size; last = last })
+read-behind i e stopped = record { extends = extends-more (i .0) (i .2) e; least = i .0; most = omega (arith, i .1, e .long); stopped = stopped }
+
+pub none-counted : (last : ℤ) (most count : ℕ) → count ≡ clamped last most → count ≡ 0 → 0 < most → AtMostZero last
+none-counted (pos k) most count e z h = omega (arith, e, z, h)
+none-counted (negsuc k) most count e z h = tt
 
 -- ---- what is printed of it
 clash : {A : Type 0} → true ≡ false → A

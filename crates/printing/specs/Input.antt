@@ -3,7 +3,8 @@
 use mathlib.Core.Path.{_≡_}
 use mathlib.Core.Bool.{true, false}
 use mathlib.Core.List.{List}
-use Prim.Native.Nat.{ℕ, _≤_}
+use Prim.Native.Nat.{ℕ, _≤_, _<_}
+use lib.IntN.{ℤ, pos, negsuc}
 use lib.ListN.{length, take}
 use Rattle.prefix.specs.Prefix.{most-bytes}
 use Rattle.text.specs.Writing.{Written}
@@ -16,11 +17,17 @@ pub record Extends (before : List ℕ) (size : ℕ) (after : List ℕ) : Type 0 
   pub long : length after ≡ length before
   pub kept : take size after ≡ take size before
 
--- The same of the first `start` bytes; those that were read follow them in the buffer.
+-- What a read answers that counts no bytes.
+abbrev pub AtMostZero : ℤ → Type 0
+AtMostZero (pos n) = n ≡ 0
+AtMostZero (negsuc n) = Unit {0}
+
+-- The same of the first `start` bytes; those that were read follow them. The buffer is full, or the last read counted none.
 pub record ReadBehind (before : List ℕ) (start : ℕ) (after : List ℕ) (r : Input) : Type 0 where
   pub extends : Extends before start after
   pub least : start ≤ r .size
   pub most : r .size ≤ length after
+  pub stopped : r .size < length after → AtMostZero (r .last)
 
 -- A buffer that has room for all that is read of a file, and how many of its bytes were read.
 pub record HoldsFirst (buffer : List ℕ) (size : ℕ) : Type 0 where

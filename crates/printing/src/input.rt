@@ -4,10 +4,10 @@ ghost use Prim.Native.Nat.{_≤_};
 ghost use lib.ListN.{length};
 ghost use Rattle.printing.specs.Input.{Extends, ReadBehind};
 
-// How many bytes of the buffer were read, and whether a read failed.
+// How many bytes of the buffer were read; and where it is not full, what the last read answered: 0, or -1 where it failed.
 pub(crate) struct Input {
     pub(crate) size: usize,
-    pub(crate) failed: bool,
+    pub(crate) last: isize,
 }
 
 // One read behind the first `size` bytes, which stay as they are. Which bytes it puts there, the assumed contract of `read` does not
@@ -27,20 +27,11 @@ pub(crate) fn read_input(buffer: &mut [u8], start: usize) -> Input
     let mut size = start;
     while size < buffer.len() {
         let got = read_more(buffer, size);
-        if got < 0 {
-            return Input { size, failed: true };
-        }
         let count = io::count(got, &buffer[size..]);
         if count == 0 {
-            return Input {
-                size,
-                failed: false,
-            };
+            return Input { size, last: got };
         }
         size += count;
     }
-    Input {
-        size,
-        failed: false,
-    }
+    Input { size, last: 0 }
 }

@@ -54,7 +54,7 @@ pub fn print_input(buffer: &mut [u8], text: &mut [u8]) -> PrintedInput
     ensures { λ p. ⌜ (p .size ≤ length (now (text .exit))) × (p .size ≡ length (take (p .size) (now (text .exit)))) ⌝ }
 {
     let found = input::read_input(buffer, 0);
-    if found.failed || buffer.len() < MOST_BYTES {
+    if found.last < 0 || buffer.len() < MOST_BYTES {
         return PrintedInput {
             read: found.size,
             size: 0,

@@ -1,9 +1,9 @@
-mod Growing
+pub mod Growing
 mod Opposite
 mod Added
 mod SumsTo
 mod CellsFilled
 mod ListedPlaces
 mod SmallProduct
-mod Tested
-mod Outcomes
+pub mod Tested
+pub mod Outcomes

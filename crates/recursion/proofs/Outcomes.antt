@@ -92,10 +92,10 @@ stopped-at at (suc n) (suc x) g a l h s =
     ∙ stopped-at (suc at) n x (λ k. g (suc k)) a (omega arith) (λ k q. h (suc k) (omega arith)) (subst (λ m. (after : Recursed) → step m (g (suc x)) after ≡ a) (let e : at + suc x ≡ suc at + x = omega arith in e) s)
 
 -- ---- what is left
-not-done : OneOf (1 ∷ 2 ∷ 3 ∷ 4 ∷ []) 0 → ⊥
+pub not-done : OneOf (1 ∷ 2 ∷ 3 ∷ 4 ∷ []) 0 → ⊥
 not-done o = ⊎-elim (λ e. omega arith) (λ o. ⊎-elim (λ e. omega arith) (λ o. ⊎-elim (λ e. omega arith) (λ e. omega arith) o) o) o
 
-drop-replicate : {A : Type 0} (k n : ℕ) (a : A) → drop k (replicate n a) ≡ replicate (n - k) a
+pub drop-replicate : {A : Type 0} (k n : ℕ) (a : A) → drop k (replicate n a) ≡ replicate (n - k) a
 drop-replicate zero n a = ap (λ m. replicate m a) (let z : n ≡ n - 0 = omega arith in z)
 drop-replicate (suc k) zero a = ap (λ m. replicate m a) (let z : 0 ≡ 0 - suc k = omega arith in z)
 drop-replicate (suc k) (suc n) a = drop-replicate k n a ∙ ap (λ m. replicate m a) (let z : n - k ≡ suc n - suc k = omega arith in z)

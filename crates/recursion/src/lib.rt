@@ -5,6 +5,7 @@ mod places;
 mod products;
 mod steps;
 
+pub use limits::short;
 ghost use mathlib.Core.Path.{_≡_};
 ghost use lib.ListN.{length};
 ghost use Rattle.recursion.specs.Recursion.{left, recursion};

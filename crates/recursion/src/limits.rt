@@ -19,7 +19,7 @@ const MOST_ERROR: u64 = 1000000000;
 pub(crate) const MOST_CELL: u64 = 2 * rounding::UNIT;
 
 // Whether one of four slices has fewer than X + 1 cells.
-fn short(horizon: usize, d: usize, h: usize, f: usize, r: usize) -> bool
+pub fn short(horizon: usize, d: usize, h: usize, f: usize, r: usize) -> bool
     ensures { λ s. ⌜ s ≡ shortOf (record { D = d; H = h; f = f; R = r }) horizon ⌝ }
 {
     if d <= horizon {

@@ -1,18 +1,12 @@
+pub mod LifeElement
 pub mod LifeSums
 pub mod TableFilled
-mod Growing
-mod Signs
-mod Added
-mod SumsTo
-pub mod Filled
 mod Terms
-mod Weighed
-mod Clearing
-pub mod Listed
-pub mod SmallProduct
-mod Totalling
+mod WeighedCells
+mod TableTotals
 mod TableCalls
-mod Lending
-mod Answering
-mod Valuing
-mod Completing
+mod FirstLives
+pub mod InsideTells
+mod Judging
+mod Recursing
+mod Settling

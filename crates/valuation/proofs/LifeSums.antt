@@ -26,7 +26,9 @@ use Rattle.laws.specs.Accepted.{All}
 use Rattle.widths.specs.Lives.{InRange}
 use Rattle.valuation.specs.Table.{Members}
 use Rattle.walks.specs.Walks.{Stated}
-use Rattle.walks.specs.WalkTable.{word, stepEnded, walkEnded, stepClauses, walkClauses, function, Says, Extra, First, Facts, meets}
+use Rattle.walks.specs.WalkForm.{word, stepEnded, walkEnded, stepClauses, walkClauses, function, Says, Extra, First, Facts}
+use Rattle.walks.specs.WalkTable.{meets}
+use Rattle.valuation.proofs.LifeElement.{life}
 
 -- a sum is 0 at first
 abbrev zero : RValue
@@ -57,7 +59,7 @@ module _ (part : ℕ → Life → ℕ) (Ok : ℕ → Type 0) (whole : ℕ → Li
   Needs ms x = Members ms × Ok x
 
   -- a sum that fits
-  abbrev pub adds : Says u64 u64 true true
+  abbrev pub adds : Says life u64 u64 true true
   adds = record {
     asks = λ r m x. InRange m × Ok x × (r + part x m < 2 ^ 64);
     gives = λ r m x r′. r′ ≡ r + part x m;
@@ -72,7 +74,7 @@ module _ (part : ℕ → Life → ℕ) (Ok : ℕ → Type 0) (whole : ℕ → Li
       small : whole x ms < 2 ^ 64
       sum-is : r + total (part x) rest ≡ whole x ms
 
-    pub adding : Facts u64 u64 true true adds (λ x. 0)
+    pub adding : Facts life u64 u64 true true adds (λ x. 0)
     unfolding total
     adding = record {
       free = λ e. absurd (true≢false e);
@@ -85,7 +87,7 @@ module _ (part : ℕ → Life → ℕ) (Ok : ℕ → Type 0) (whole : ℕ → Li
 
   -- a sum of which those above a cap are not told apart
   module _ (cap : ℕ) where
-    abbrev pub caps : Says u64 u64 true true
+    abbrev pub caps : Says life u64 u64 true true
     caps = record {
       asks = λ r m x. InRange m × Ok x × (r ≤ cap);
       gives = λ r m x r′. r′ ≡ min (r + part x m) cap;
@@ -99,7 +101,7 @@ module _ (part : ℕ → Life → ℕ) (Ok : ℕ → Type 0) (whole : ℕ → Li
       within : r ≤ cap
       sum-is : min (r + total (part x) rest) cap ≡ min (whole x ms) cap
 
-    pub capping : Facts u64 u64 true true caps (λ x. 0)
+    pub capping : Facts life u64 u64 true true caps (λ x. 0)
     unfolding total
     capping = record {
       free = λ e. absurd (true≢false e);
@@ -111,8 +113,8 @@ module _ (part : ℕ → Life → ℕ) (Ok : ℕ → Type 0) (whole : ℕ → Li
     }
 
 -- a walk whose sum is 0 at first meets its contract
-pub sums : {M : Type 1} (𝓤 : URA M) (H : Heap 𝓤) (𝓜 : Model 𝓤 H) (𝓖 : GhostRules 𝓤 H) (𝓡 : Running 𝓤 H 𝓜) (S : Says u64 u64 true true) → Facts u64 u64 true true S (λ x. 0) → (env : Routines) (name step : Name)
-    → Closed 𝓤 H (tables 𝓤 H 𝓜 𝓡 env .C) (tables 𝓤 H 𝓜 𝓡 env .Λ) name (function word word zero true step)
-    → Triple 𝓤 (𝓡 .run (env step)) (Stated (givenOf 𝓤 H 𝓜 𝓖) (stepEnded u64 u64 true) (stepClauses u64 u64 true true S 𝓤)) → Triple 𝓤 (𝓡 .run (env name)) (Stated (givenOf 𝓤 H 𝓜 𝓖) (walkEnded u64 u64) (walkClauses u64 u64 true true S 𝓤))
+pub sums : {M : Type 1} (𝓤 : URA M) (H : Heap 𝓤) (𝓜 : Model 𝓤 H) (𝓖 : GhostRules 𝓤 H) (𝓡 : Running 𝓤 H 𝓜) (S : Says life u64 u64 true true) → Facts life u64 u64 true true S (λ x. 0) → (env : Routines) (name step : Name)
+    → Closed 𝓤 H (tables 𝓤 H 𝓜 𝓡 env .C) (tables 𝓤 H 𝓜 𝓡 env .Λ) name (function life word word zero true step)
+    → Triple 𝓤 (𝓡 .run (env step)) (Stated (givenOf 𝓤 H 𝓜 𝓖) (stepEnded life u64 u64 true) (stepClauses life u64 u64 true true S 𝓤)) → Triple 𝓤 (𝓡 .run (env name)) (Stated (givenOf 𝓤 H 𝓜 𝓖) (walkEnded life u64 u64) (walkClauses life u64 u64 true true S 𝓤))
 unfolding from-zero
-sums 𝓤 H 𝓜 𝓖 𝓡 S facts = meets 𝓤 H 𝓜 𝓖 𝓡 u64 u64 word word zero u64-local u64-local from-zero true true S facts
+sums 𝓤 H 𝓜 𝓖 𝓡 S facts = meets 𝓤 H 𝓜 𝓖 𝓡 life u64 u64 word word zero u64-local u64-local from-zero true true S facts

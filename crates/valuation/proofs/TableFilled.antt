@@ -1,7 +1,6 @@
 -- Filling the cells by a walk over the table: the cells so far, with the terms of the lives to come added, are the cells at the end, and there is
--- room for those terms. Where the cells are not to be filled they stay as they are.
+-- room for those terms.
 use mathlib.Core.Path.{_≡_, refl, sym, _∙_, ap}
-use mathlib.Core.Bool.{Bool, true, false}
 use mathlib.Core.List.{List, [], _∷_}
 use Prim.Native.Nat.{ℕ}
 use lib.IntN.{ℤ}
@@ -14,15 +13,7 @@ use Rattle.widths.specs.AddingLaws.{addD-append, addH-append, roomD-first, room
 use Rattle.widths.specs.TermLaws.{terms-sound, cleared-room, filled-d, filled-h}
 use Rattle.widths.specs.Widths.{width-D, width-H}
 use Rattle.valuation.specs.declared.transform.Filling.{Filling}
-use Rattle.valuation.specs.Filling.{where-filled, LifeFits, LifeAdded, Same, TableFits, TableAdded, StepAsks, StepGives, FillAsks, FillGives}
-
-also : (b : Bool) (P Q P′ Q′ : Type 0) → (P → P′) → (Q → Q′) → where-filled b P Q → where-filled b P′ Q′
-also true P Q P′ Q′ f g h = f h
-also false P Q P′ Q′ f g h = g h
-
-both : (b : Bool) (P Q P′ Q′ P″ Q″ : Type 0) → (P → P′ → P″) → (Q → Q′ → Q″) → where-filled b P Q → where-filled b P′ Q′ → where-filled b P″ Q″
-both true P Q P′ Q′ P″ Q″ f g h k = f h k
-both false P Q P′ Q′ P″ Q″ f g h k = g h k
+use Rattle.valuation.specs.Filling.{LifeFits, LifeAdded, TableFits, TableAdded}
 
 abbrev lives-terms : Filling → List Life → List Term
 lives-terms x ms = terms (x .horizon) (x .order) (x .frequency) ms
@@ -30,27 +21,24 @@ lives-terms x ms = terms (x .horizon) (x .order) (x .frequency) ms
 abbrev life-terms : Filling → Life → List Term
 life-terms x m = lifeTerms (x .horizon) (x .order) (x .frequency) m
 
-record Fills (ms : List Life) (x : Filling) (d₀ : List ℤ) (h₀ : List ℕ) (rest : List Life) (d : List ℤ) (h : List ℕ) : Type 0 where
-  fits : TableFits ms x d₀ h₀
-  rest-in : All InRange rest
-  room : Room (x .horizon) d h (lives-terms x rest)
-  d-is : addD d (lives-terms x rest) ≡ addD d₀ (lives-terms x ms)
-  h-is : addH h (lives-terms x rest) ≡ addH h₀ (lives-terms x ms)
-
-pub Inv : List Life → Filling → List ℤ → List ℕ → List Life → List ℤ → List ℕ → Type 0
-Inv ms x d₀ h₀ rest d h = where-filled (x .go) (Fills ms x d₀ h₀ rest d h) (Same d₀ h₀ d h)
+pub record Fills (ms : List Life) (x : Filling) (d₀ : List ℤ) (h₀ : List ℕ) (rest : List Life) (d : List ℤ) (h : List ℕ) : Type 0 where
+  pub fits : TableFits ms x d₀ h₀
+  pub rest-in : All InRange rest
+  pub room : Room (x .horizon) d h (lives-terms x rest)
+  pub d-is : addD d (lives-terms x rest) ≡ addD d₀ (lives-terms x ms)
+  pub h-is : addH h (lives-terms x rest) ≡ addH h₀ (lives-terms x ms)
 
 module _ (ms : List Life) (x : Filling) (d₀ : List ℤ) (h₀ : List ℕ) where
-  starts : TableFits ms x d₀ h₀ → Fills ms x d₀ h₀ ms d₀ h₀
-  starts f =
+  pub fills-first : TableFits ms x d₀ h₀ → Fills ms x d₀ h₀ ms d₀ h₀
+  fills-first f =
       let c = f .cleared in
       let wide = width-D (x .horizon) (x .order) (x .frequency) ms (c .horizon) (f .order) (f .members .few) (f .members .in-range) (f .load-within) in
       let tall = width-H (x .horizon) (x .order) (x .frequency) ms (c .horizon) (f .order) (f .members .few) (f .members .in-range) in
       record { fits = f; rest-in = f .members .in-range; room = cleared-room c (lives-terms x ms) wide tall; d-is = refl; h-is = refl }
 
-  steps : (m : Life) (rest : List Life) (d : List ℤ) (h : List ℕ) (d′ : List ℤ) (h′ : List ℕ) → Fills ms x d₀ h₀ (m ∷ rest) d h → LifeAdded d h m x d′ h′ → Fills ms x d₀ h₀ rest d′ h′
+  pub fills-more : (m : Life) (rest : List Life) (d : List ℤ) (h : List ℕ) (d′ : List ℤ) (h′ : List ℕ) → Fills ms x d₀ h₀ (m ∷ rest) d h → LifeAdded d h m x d′ h′ → Fills ms x d₀ h₀ rest d′ h′
   unfolding terms
-  steps m rest d h d′ h′ i a =
+  fills-more m rest d h d′ h′ i a =
       let R = i .room in
       record {
         fits = i .fits;
@@ -60,9 +48,9 @@ module _ (ms : List Life) (x : Filling) (d₀ : List ℤ) (h₀ : List ℕ) wher
         h-is = ap (λ c. addH c (lives-terms x rest)) (a .h-is) ∙ sym (addH-append h (life-terms x m) (lives-terms x rest)) ∙ i .h-is;
       }
 
-  asks : (m : Life) (rest : List Life) (d : List ℤ) (h : List ℕ) → Fills ms x d₀ h₀ (m ∷ rest) d h → LifeFits d h m x
+  pub fills-asks : (m : Life) (rest : List Life) (d : List ℤ) (h : List ℕ) → Fills ms x d₀ h₀ (m ∷ rest) d h → LifeFits d h m x
   unfolding terms
-  asks m rest d h i =
+  fills-asks m rest d h i =
       record {
         in-range = i .rest-in .0;
         order = i .fits .order;
@@ -70,24 +58,8 @@ module _ (ms : List Life) (x : Filling) (d₀ : List ℤ) (h₀ : List ℕ) wher
         room = record { inD = roomD-first (life-terms x m) (lives-terms x rest) (i .room .inD); inH = roomH-first (life-terms x m) (lives-terms x rest) (i .room .inH) };
       }
 
-  finish : (d : List ℤ) (h : List ℕ) → Fills ms x d₀ h₀ [] d h → TableAdded ms x d₀ h₀ d h
+  pub fills-all : (d : List ℤ) (h : List ℕ) → Fills ms x d₀ h₀ [] d h → TableAdded ms x d₀ h₀ d h
   unfolding terms addD addH
-  finish d h i =
+  fills-all d h i =
       let sound = terms-sound (x .horizon) (x .order) (x .frequency) ms in
       record { d-is = i .d-is ∙ filled-d (i .fits .cleared) (lives-terms x ms) sound; h-is = i .h-is ∙ filled-h (i .fits .cleared) (lives-terms x ms) sound }
-
-  pub none : FillAsks ms x d₀ h₀ → Inv ms x d₀ h₀ ms d₀ h₀
-  unfolding Inv
-  none = also (x .go) _ _ _ _ starts (λ u. record { d-is = refl; h-is = refl })
-
-  pub asked : (m : Life) (rest : List Life) (d : List ℤ) (h : List ℕ) → Inv ms x d₀ h₀ (m ∷ rest) d h → StepAsks d h m x
-  unfolding Inv
-  asked m rest d h = also (x .go) _ _ _ _ (asks m rest d h) (λ i. tt)
-
-  pub more : (m : Life) (rest : List Life) (d : List ℤ) (h : List ℕ) (d′ : List ℤ) (h′ : List ℕ) → Inv ms x d₀ h₀ (m ∷ rest) d h → StepGives d h m x d′ h′ → Inv ms x d₀ h₀ rest d′ h′
-  unfolding Inv
-  more m rest d h d′ h′ = both (x .go) _ _ _ _ _ _ (steps m rest d h d′ h′) (λ i s. record { d-is = s .d-is ∙ i .d-is; h-is = s .h-is ∙ i .h-is })
-
-  pub all : (d : List ℤ) (h : List ℕ) → Inv ms x d₀ h₀ [] d h → FillGives ms x d₀ h₀ d h
-  unfolding Inv
-  all d h = also (x .go) _ _ _ _ (finish d h) (λ i. i)

@@ -16,9 +16,9 @@ use Rattle.fund.specs.Base.{sum, sumℤ, alternate}
 use Rattle.fund.specs.Limits.{most-load}
 use Rattle.fund.specs.Transform.{unit}
 use Rattle.fund.specs.Recursion.{t, c}
-use Rattle.valuation.specs.declared.whole.Sums.{Sums}
-use Rattle.widths.specs.Sign.{signed}
-use Rattle.valuation.specs.Sums.{WithPart}
+use Rattle.whole.specs.declared.Sums.{Sums}
+use Rattle.whole.specs.Sign.{signed}
+use Rattle.whole.specs.Sums.{WithPart}
 use Rattle.valuation.specs.Start.{most-t, most-c, nextC, TermsTo}
 
 -- ---- bounds

@@ -1,6 +1,5 @@
--- What filling the cells asks and gives, by a life and by a table. Nothing is asked and nothing changes where they are not to be filled.
+-- What filling the transform asks and gives, by a life and by a table.
 use mathlib.Core.Path.{_≡_}
-use mathlib.Core.Bool.{Bool, true, false}
 use mathlib.Core.List.{List, _++_}
 use Prim.Native.Nat.{ℕ, suc, _≤_}
 use lib.IntN.{ℤ}
@@ -25,20 +24,6 @@ pub record LifeAdded (d : List ℤ) (h : List ℕ) (m : Life) (x : Filling) (d�
   pub d-is : d′ ≡ addD d (lifeTerms (x .horizon) (x .order) (x .frequency) m)
   pub h-is : h′ ≡ addH h (lifeTerms (x .horizon) (x .order) (x .frequency) m)
 
-pub record Same (d : List ℤ) (h : List ℕ) (d′ : List ℤ) (h′ : List ℕ) : Type 0 where
-  pub d-is : d′ ≡ d
-  pub h-is : h′ ≡ h
-
-abbrev pub where-filled : Bool → Type 0 → Type 0 → Type 0
-where-filled true P Q = P
-where-filled false P Q = Q
-
-abbrev pub StepAsks : List ℤ → List ℕ → Life → Filling → Type 0
-StepAsks d h m x = where-filled (x .go) (LifeFits d h m x) (Unit {0})
-
-abbrev pub StepGives : List ℤ → List ℕ → Life → Filling → List ℤ → List ℕ → Type 0
-StepGives d h m x d′ h′ = where-filled (x .go) (LifeAdded d h m x d′ h′) (Same d h d′ h′)
-
 -- ---- a table
 pub record TableFits (ms : List Life) (x : Filling) (d : List ℤ) (h : List ℕ) : Type 0 where
   pub members : Members ms
@@ -50,9 +35,3 @@ pub record TableFits (ms : List Life) (x : Filling) (d : List ℤ) (h : List ℕ
 pub record TableAdded (ms : List Life) (x : Filling) (d : List ℤ) (h : List ℕ) (d′ : List ℤ) (h′ : List ℕ) : Type 0 where
   pub d-is : d′ ≡ table (suc (x .horizon)) (D (terms (x .horizon) (x .order) (x .frequency) ms)) ++ drop (suc (x .horizon)) d
   pub h-is : h′ ≡ table (suc (x .horizon)) (H (terms (x .horizon) (x .order) (x .frequency) ms)) ++ drop (suc (x .horizon)) h
-
-abbrev pub FillAsks : List Life → Filling → List ℤ → List ℕ → Type 0
-FillAsks ms x d h = where-filled (x .go) (TableFits ms x d h) (Unit {0})
-
-abbrev pub FillGives : List Life → Filling → List ℤ → List ℕ → List ℤ → List ℕ → Type 0
-FillGives ms x d h d′ h′ = where-filled (x .go) (TableAdded ms x d h d′ h′) (Same d h d′ h′)

@@ -1,7 +1,12 @@
--- What the tests of a header and of lives tell.
-use Prim.Native.Nat.{suc, _≤_}
+-- The ranges that reading and refusal 6 leave: of a header, of a life, and of a table with its count.
+use mathlib.Core.Bool.{Bool, true, not, _&&_, _||_}
+use mathlib.Core.List.{List, [], _∷_}
+use Prim.Native.Nat.{ℕ, suc, _≤_}
+use lib.Dec.{leb, ltb, eqb}
 use Rattle.fund.specs.declared.Fund.{Fund}
-use Rattle.fund.specs.Limits.{most-horizon, most-order, most-frequency}
+use Rattle.fund.specs.declared.Life.{Life}
+use Rattle.fund.specs.Folding.{claim, single}
+use Rattle.fund.specs.Limits.{most-horizon, most-order, most-frequency, most-members, least-group, most-group, most-rate, half-rate, most-amount}
 
 -- The header's figures that the valuation uses are in their ranges.
 pub record HeaderIn (fund : Fund) : Type 0 where
@@ -9,3 +14,25 @@ pub record HeaderIn (fund : Fund) : Type 0 where
   pub order : fund .order ≤ most-order
   pub frequency : fund .frequency ≤ most-frequency
   pub deductible : fund .deductible ≤ suc (fund .horizon)
+
+-- The same as tests.
+unfoldable pub headerInside : Fund → Bool
+headerInside fund =
+    leb (fund .horizon) most-horizon && (leb (fund .order) most-order && (leb (fund .frequency) most-frequency && leb (fund .deductible) (suc (fund .horizon))))
+
+-- A rate with amount 0 is 0.
+unfoldable pub foldedRate : ℕ → ℕ → Bool
+foldedRate rate amount = not (eqb amount 0) || eqb rate 0
+
+unfoldable pub lifeInside : Life → Bool
+lifeInside m =
+    leb least-group (m .group) && (leb (m .group) most-group && (leb (claim m) most-rate && ((not (single m) || ltb (claim m) half-rate)
+    && (leb (m .d) most-amount && (leb (m .e) most-amount && (foldedRate (m .q) (m .d) && foldedRate (m .i) (m .e)))))))
+
+unfoldable pub allInside : List Life → Bool
+allInside [] = true
+allInside (m ∷ ms) = lifeInside m && allInside ms
+
+-- A header, and lives that are `count` of a table.
+unfoldable pub inside : Fund → ℕ → List Life → Bool
+inside fund count ms = leb count most-members && (headerInside fund && allInside ms)

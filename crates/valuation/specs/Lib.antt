@@ -1,10 +1,8 @@
-pub mod Sums
 pub mod Table
-pub mod Lent
-pub mod Recursion
 pub mod Start
 pub mod Filling
 pub mod Premium
 pub mod Inside
-pub mod Valued
 pub mod Totals
+pub mod Valued
+pub mod Steps

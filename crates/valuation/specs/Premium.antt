@@ -9,17 +9,14 @@ use Rattle.fund.specs.Base.{table}
 use Rattle.fund.specs.Limits.{most-deductible, most-bound}
 use Rattle.fund.specs.Premium.{premium, within}
 use Rattle.fund.specs.Recursion.{Cell}
-use Rattle.valuation.specs.declared.whole.Sums.{Sums}
-use Rattle.valuation.specs.declared.premium.Priced.{Priced}
-use Rattle.valuation.specs.Sums.{sumOf}
-use Rattle.valuation.specs.Lent.{cellIn, most-cell}
+use Rattle.whole.specs.declared.Sums.{Sums}
+use Rattle.valuation.specs.declared.premium.StopLoss.{StopLoss}
+use Rattle.whole.specs.Sums.{sumOf}
+use Rattle.recursion.specs.Slices.{cellIn, most-cell}
 
 -- |f(0)| + .. + |f(n-1)|
 abbrev pub levels : List ℤ → ℕ → ℕ
 levels f n = sumN n (λ x. natAbs (getD f x (pos 0)))
-
-abbrev pub most-mean : ℕ
-most-mean = 6 * 10 ^ 17
 
 -- the cells below M
 pub record Cells (M : ℕ) (f : List ℤ) (r : List ℕ) : Type 0 where
@@ -30,7 +27,7 @@ pub record Cells (M : ℕ) (f : List ℤ) (r : List ℕ) : Type 0 where
   pub narrow : (x : ℕ) → x < M → getD r x 0 ≤ most-bound
 
 -- one cell with its weight M - x
-pub record Weighed (s : Sums) (weight : ℕ) (y : Cell) (t : Sums) : Type 0 where
+pub record CellWeighed (s : Sums) (weight : ℕ) (y : Cell) (t : Sums) : Type 0 where
   pub sum-is : sumOf t ≡ sumOf s +ℤ pos weight *ℤ y .f
   pub bound-is : t .bound ≡ s .bound + weight * y .R
   pub plus-within : t .plus ≤ s .plus + weight * natAbs (y .f)
@@ -45,6 +42,6 @@ pub record BelowTo (M : ℕ) (f : List ℤ) (r : List ℕ) (n : ℕ) (s : Sums) 
   pub bound-within : s .bound ≤ n * (most-deductible * most-bound)
 
 -- the premium and its bound, by any number of cells from M on
-pub record PricedAs (M mean E : ℕ) (f : List ℤ) (r : List ℕ) (p : Priced) : Type 0 where
+pub record StopLossIs (M mean E : ℕ) (f : List ℤ) (r : List ℕ) (p : StopLoss) : Type 0 where
   pub premium-is : (n : ℕ) → M ≤ n → p .premium ≡ premium M mean (table n (cellIn f r))
   pub within-is : (n : ℕ) → M ≤ n → p .within ≡ within M E (table n (cellIn f r))

@@ -11,10 +11,10 @@ use Rattle.fund.specs.Base.{if_then_else_, sum, sumℤ, total, alternate}
 use Rattle.fund.specs.Folding.{stay, single}
 use Rattle.fund.specs.Limits.{most-rate}
 use Rattle.fund.specs.Recursion.{t, c, multiplied}
-use Rattle.widths.specs.Sign.{signed}
+use Rattle.whole.specs.Sign.{signed}
 use Rattle.valuation.specs.declared.start.Product.{Product}
-use Rattle.valuation.specs.declared.whole.Sums.{Sums}
-use Rattle.valuation.specs.Sums.{sumOf}
+use Rattle.whole.specs.declared.Sums.{Sums}
+use Rattle.whole.specs.Sums.{sumOf}
 
 -- a t(n) and a c(n) are at most these, for lambda up to the most load
 abbrev pub most-t : ℕ

@@ -1,7 +1,10 @@
 // The figures of a fund that add up over its lives: lambda, load, truncation figure and mean. Each is one walk over the table.
-use super::whole::UNIT;
 use fund::Fund;
 use fund::Life;
+use rounding::MILLION;
+use rounding::UNIT;
+use whole::least;
+use whole::up;
 ghost use mathlib.Core.Path.{_≡_};
 ghost use Prim.Native.Nat.{min, _+_, _-_, _*_, _^_, _<_, _≤_};
 ghost use Rattle.rounding.specs.Rounding.{up as upOf};
@@ -12,19 +15,8 @@ ghost use Rattle.widths.specs.Lives.{InRange};
 ghost use Rattle.widths.specs.Parts.{lambdaPart, singlePart, loadPart, truncationPart, meanPart};
 ghost use Rattle.valuation.specs.Table.{Members, most-mean};
 
-// A certain rate, in millionths.
-pub(crate) const MILLION: u64 = 1000000;
-
 // A mean of a fund that is not refused is at most this.
 const MOST_MEAN: u64 = Fund::MOST_AMOUNT * Fund::MOST_LOAD;
-
-// a / b, up.
-pub(crate) fn up(a: u64, b: u64) -> u64
-    requires { ⌜ (0 < b) × (a + b ≤ 2 ^ 63) ⌝ }
-    ensures { λ r. ⌜ r ≡ upOf a b ⌝ }
-{
-    (a + (b - 1)) / b
-}
 
 // What a life adds to lambda.
 fn lambda_part(m: Life, a: u64) -> u64
@@ -129,16 +121,6 @@ fn truncation_part(m: Life, r: u64) -> u64
     0
 }
 
-// The least of two.
-fn least(x: u64, y: u64) -> u64
-    ensures { λ r. ⌜ r ≡ min x y ⌝ }
-{
-    if y < x {
-        return y;
-    }
-    x
-}
-
 // The truncation figure of one life more. Sums above the largest are not told apart: a thousand shares can pass a word.
 fn truncation_step(sum: u64, m: Life, r: u64) -> u64
     requires { ⌜ InRange m × (r ≤ most-order) × (sum ≤ most-truncation + 1) ⌝ }
@@ -162,7 +144,7 @@ pub(crate) fn truncation(members: &[Life], r: u64) -> u64
 }
 
 // An amount by its rate.
-fn weighed(rate: u64, amount: u64) -> u64
+fn by_rate(rate: u64, amount: u64) -> u64
     requires { ⌜ rate * amount ≤ 2 ^ 40 ⌝ }
     ensures { λ r. ⌜ r ≡ rate * amount ⌝ }
 {
@@ -174,7 +156,7 @@ fn mean_part(m: Life, a: u64) -> u64
     requires { ⌜ InRange m × (a ≤ most-frequency) ⌝ }
     ensures { λ r. ⌜ r ≡ meanPart a m ⌝ }
 {
-    let amount = weighed(m.q, m.d) + weighed(m.i, m.e);
+    let amount = by_rate(m.q, m.d) + by_rate(m.i, m.e);
     if m.group == 1 {
         return amount * MILLION;
     }

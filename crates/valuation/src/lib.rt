@@ -1,19 +1,14 @@
 // The valuation of a fund: from its lives to the transform, the start, the recursion, the premium and their bounds, or the first of
 // the refusals 7 to 10.
-mod cells;
 mod figures;
 mod inside;
-mod places;
+mod lives;
 mod premium;
-mod products;
-mod recursion;
 mod start;
 mod totals;
 mod transform;
-mod whole;
 
-pub use cells::clear;
-pub use cells::clear_signed;
+use fund::Figures;
 use fund::Fund;
 use fund::Life;
 use fund::Refusal;
@@ -22,203 +17,196 @@ use recursion::Recursed;
 use totals::Totals;
 use transform::Filling;
 ghost use mathlib.Core.Path.{_≡_};
-ghost use Prim.Native.Nat.{_<_};
+ghost use Prim.Native.Nat.{_≤_};
 ghost use lib.IntN.{pos};
-ghost use lib.ListN.{length, set};
-ghost use Rattle.laws.specs.Tells.{Tells};
-ghost use Rattle.valuation.specs.Valued.{left, lengths, Zeros, ValuedAs};
-ghost use Rattle.valuation.specs.Totals.{Cleared, Fits, Ready, RecursOf, FinishedOf, KnownSome, AnsweredOf};
+ghost use lib.ListN.{length, replicate, take};
+ghost use Rattle.fund.specs.Answer.{noFigures};
+ghost use Rattle.fund.specs.Limits.{most-members};
+ghost use Rattle.valuation.specs.Valued.{left, lengths, Zeros, valuation};
+ghost use Rattle.valuation.specs.Steps.{TotalsFor, Tested, Ready, refusalOf, RecursedFor, SettledFor, AnsweredFor, Fillable, TransformFilled};
 
-// What a valuation answers beside the result slices: whether the header and the lives are in their ranges, the verdict, and the
-// figures.
+// What a valuation answers beside the result slices.
 pub struct Valued {
-    pub inside: bool,
     pub verdict: Verdict,
-    pub truncation: u64,
-    pub mean: u64,
-    pub premium: i64,
-    pub within: u64,
+    pub figures: Figures,
 }
 
-// The figures of a refusal are zero.
-fn refused(inside: bool, verdict: Verdict) -> Valued
-    ensures { λ v. ⌜ v ≡ record { inside = inside; verdict = verdict; truncation = 0; mean = 0; premium = pos 0; within = 0 } ⌝ }
+fn refused(verdict: Verdict) -> Valued
+    ensures { λ v. ⌜ v ≡ record { verdict = verdict; figures = noFigures } ⌝ }
 {
     Valued {
-        inside,
         verdict,
-        truncation: 0,
-        mean: 0,
-        premium: 0,
-        within: 0,
+        figures: fund::no_figures(),
     }
+}
+
+fn clear_transform(transform: &mut [i64], h: &mut [u64])
+    ensures { λ _. ⌜ (now (transform .exit) ≡ replicate (length (now (transform .entry))) (pos 0)) × (now (h .exit) ≡ replicate (length (now (h .entry))) 0) ⌝ }
+{
+    whole::clear_signed(transform);
+    whole::clear(h);
 }
 
 fn clear_all(transform: &mut [i64], h: &mut [u64], f: &mut [i64], r: &mut [u64])
     ensures { λ _. ⌜ Zeros (lengths (now (transform .entry)) (now (h .entry)) (now (f .entry)) (now (r .entry))) (now (transform .exit)) (now (h .exit)) (now (f .exit)) (now (r .exit)) ⌝ }
 {
-    clear_signed(transform);
-    clear(h);
-    clear_signed(f);
-    clear(r);
+    clear_transform(transform, h);
+    clear_transform(f, r);
 }
 
-// Refusals 7 to 9.
-fn fits(fund: Fund, t: Totals, d: usize, h: usize, f: usize, r: usize) -> bool
-    ensures { λ go. ⌜ Tells go (Fits fund t d h f r) ⌝ }
+// The ranges that a file's header and lives have, then the refusals 7, 8 and 9.
+fn tested(fund: Fund, t: Totals, d: usize, h: usize, f: usize, r: usize) -> Verdict
+    ensures { λ v. ⌜ Tested fund t (record { D = d; H = h; f = f; R = r }) v ⌝ }
 {
     if !t.inside {
-        return false;
+        return Verdict::Refused(Refusal::Range, 0);
     }
-    if t.load > Fund::MOST_LOAD {
-        return false;
+    if Fund::MOST_LOAD < t.load {
+        return Verdict::Refused(Refusal::Load, 0);
     }
-    if t.truncation > Fund::MOST_TRUNCATION {
-        return false;
+    if Fund::MOST_TRUNCATION < t.truncation {
+        return Verdict::Refused(Refusal::Order, 0);
     }
-    let limit = fund.horizon;
-    if d as u64 <= limit {
-        return false;
+    if recursion::short(fund.horizon as usize, d, h, f, r) {
+        return Verdict::Refused(Refusal::Short, 0);
     }
-    if h as u64 <= limit {
-        return false;
-    }
-    if f as u64 <= limit {
-        return false;
-    }
-    limit < r as u64
+    Verdict::Accepted
 }
 
-// The slices are cleared, and it is told how they are to be filled.
-fn cleared(
+// Refusal 10. A fund's own transform has no other answer than a wide cell: any other breaks a limit.
+fn refusal(answer: Recursed) -> Verdict
+    ensures { λ v. ⌜ v ≡ refusalOf answer ⌝ }
+{
+    match answer {
+        Recursed::Wide(x) => Verdict::Refused(Refusal::Wide, x),
+        Recursed::Large(_) => Verdict::Refused(Refusal::Range, 0),
+        Recursed::Outside(_) => Verdict::Refused(Refusal::Range, 0),
+        Recursed::Short => Verdict::Refused(Refusal::Range, 0),
+        Recursed::Done => Verdict::Refused(Refusal::Range, 0),
+    }
+}
+
+// The figures of a fund whose cells stand, or refusal 10 with a transform of zeros.
+fn settled(
     fund: Fund,
     t: Totals,
+    answer: Recursed,
     transform: &mut [i64],
     h: &mut [u64],
-    f: &mut [i64],
-    r: &mut [u64],
-) -> Filling
-    ensures { λ x. ⌜ Cleared fund t (lengths (now (transform .entry)) (now (h .entry)) (now (f .entry)) (now (r .entry))) x (now (transform .exit)) (now (h .exit)) (now (f .exit)) (now (r .exit)) ⌝ }
+    f: &[i64],
+    r: &[u64],
+) -> Valued
+    requires { ⌜ RecursedFor fund t answer (now transform) (now h) (now f) (now r) ⌝ }
+    ensures { λ v. ⌜ SettledFor fund t answer (now (transform .entry)) (now (h .entry)) (now (f .entry)) (now (r .entry)) v (now (transform .exit)) (now (h .exit)) ⌝ }
 {
-    clear_all(transform, h, f, r);
-    let go = fits(fund, t, transform.len(), h.len(), f.len(), r.len());
-    Filling {
-        go,
-        horizon: fund.horizon,
-        order: fund.order,
-        frequency: fund.frequency,
+    let Recursed::Done = answer else {
+        clear_transform(transform, h);
+        return refused(refusal(answer));
+    };
+    let priced = premium::premium(fund.deductible as usize, t.mean, t.truncation, f, r);
+    Valued {
+        verdict: Verdict::Accepted,
+        figures: Figures {
+            truncation: t.truncation,
+            mean: t.mean,
+            premium: priced.premium,
+            within: priced.within,
+        },
     }
 }
 
-// f(0) and R(0) in their cells.
-fn put_start(f: &mut [i64], r: &mut [u64], cell: i64, bound: u64)
-    requires { ⌜ (0 < length (now f)) × (0 < length (now r)) ⌝ }
-    ensures { λ _. ⌜ (now (f .exit) ≡ set (now (f .entry)) 0 cell) × (now (r .exit) ≡ set (now (r .entry)) 0 bound) ⌝ }
-{
-    f[0] = cell;
-    r[0] = bound;
-}
-
-// The start and the recursion, for cells that are filled.
+// The recursion and what follows it, for a transform that is filled.
 fn recursed(
     fund: Fund,
     t: Totals,
-    transform: &[i64],
-    h: &[u64],
-    f: &mut [i64],
-    r: &mut [u64],
-) -> Recursed
-    requires { ⌜ Ready fund t (now transform) (now h) (now f) (now r) ⌝ }
-    ensures { λ s. ⌜ RecursOf fund t (now (transform .entry)) (now (h .entry)) (now (f .entry)) (now (r .entry)) (now (f .exit)) (now (r .exit)) s ⌝ }
-{
-    put_start(f, r, t.cell, t.bound);
-    recursion::recursion(fund.horizon as usize, transform, h, f, r)
-}
-
-// Refusal 10, or the figures of a fund that is accepted.
-fn finished(
-    fund: Fund,
-    t: Totals,
     transform: &mut [i64],
     h: &mut [u64],
     f: &mut [i64],
     r: &mut [u64],
 ) -> Valued
-    requires { ⌜ Ready fund t (now transform) (now h) (now f) (now r) ⌝ }
-    ensures { λ v. ⌜ FinishedOf fund t (now (transform .entry)) (now (h .entry)) (now (f .entry)) (now (r .entry)) v
+    requires { ⌜ Ready fund t (now transform) (now h) (length (now f)) (length (now r)) ⌝ }
+    ensures { λ v. ⌜ AnsweredFor fund t (now (transform .entry)) (now (h .entry)) (length (now (f .entry))) (length (now (r .entry)))
         (left v (now (transform .exit)) (now (h .exit)) (now (f .exit)) (now (r .exit))) ⌝ }
 {
-    match recursed(fund, t, &transform[..], &h[..], f, r) {
-        Recursed::Wide(x) => {
-            clear_all(transform, h, f, r);
-            return refused(true, Verdict::Refused(Refusal::Wide, x));
-        }
-        Recursed::Large(x) => {
-            clear_all(transform, h, f, r);
-            return refused(true, Verdict::Refused(Refusal::Wide, x));
-        }
-        Recursed::Done => {}
-    }
-    let priced = premium::price(
-        fund.deductible as usize,
-        t.mean,
-        t.truncation,
-        &f[..],
-        &r[..],
+    let answer = recursion::recursion(
+        fund.horizon as usize,
+        &transform[..],
+        &h[..],
+        t.cell,
+        t.bound,
+        f,
+        r,
     );
-    Valued {
-        inside: true,
-        verdict: Verdict::Accepted,
-        truncation: t.truncation,
-        mean: t.mean,
-        premium: priced.premium,
-        within: priced.within,
-    }
+    settled(fund, t, answer, transform, h, &f[..], &r[..])
 }
 
-// Refusals 7 to 9, or the rest of the valuation.
-fn completed(
+// The totals of the first n lives.
+fn first_totals(fund: Fund, lives: [Life; Fund::MEMBER_ROWS], n: usize) -> Totals
+    ensures { λ t. ⌜ TotalsFor fund n (take n lives) t ⌝ }
+{
+    if Fund::MOST_MEMBERS < n as u64 {
+        return totals::outside();
+    }
+    lives::first_totals(fund, lives, n)
+}
+
+// D and H of the first n lives, and zeros beyond the horizon.
+fn first_transform(
+    fund: Fund,
+    lives: [Life; Fund::MEMBER_ROWS],
+    n: usize,
+    transform: &mut [i64],
+    h: &mut [u64],
+)
+    requires { ⌜ (n ≤ most-members) × Fillable fund (take n lives) (length (now transform)) (length (now h)) ⌝ }
+    ensures { λ _. ⌜ TransformFilled fund (take n lives) (length (now (transform .entry))) (length (now (h .entry))) (now (transform .exit)) (now (h .exit)) ⌝ }
+{
+    clear_transform(transform, h);
+    let filling = Filling {
+        horizon: fund.horizon,
+        order: fund.order,
+        frequency: fund.frequency,
+    };
+    lives::fill_first(lives, n, filling, transform, h);
+}
+
+// What follows the totals of the first n lives.
+fn judged(
     fund: Fund,
     t: Totals,
+    lives: [Life; Fund::MEMBER_ROWS],
+    n: usize,
     transform: &mut [i64],
     h: &mut [u64],
     f: &mut [i64],
     r: &mut [u64],
 ) -> Valued
-    requires { ⌜ KnownSome fund t (now transform) (now h) (now f) (now r) ⌝ }
-    ensures { λ v. ⌜ AnsweredOf fund t (now (transform .entry)) (now (h .entry)) (now (f .entry)) (now (r .entry)) v
-        (left v (now (transform .exit)) (now (h .exit)) (now (f .exit)) (now (r .exit))) ⌝ }
+    requires { ⌜ TotalsFor fund n (take n lives) t ⌝ }
+    ensures { λ v. ⌜ left v (now (transform .exit)) (now (h .exit)) (now (f .exit)) (now (r .exit)) ≡
+        valuation fund n (take n lives) (lengths (now (transform .entry)) (now (h .entry)) (now (f .entry)) (now (r .entry))) ⌝ }
 {
-    if !t.inside {
-        return refused(false, Verdict::Accepted);
-    }
-    if Fund::MOST_LOAD < t.load {
-        return refused(true, Verdict::Refused(Refusal::Load, 0));
-    }
-    if Fund::MOST_TRUNCATION < t.truncation {
-        return refused(true, Verdict::Refused(Refusal::Order, 0));
-    }
-    if !fits(fund, t, transform.len(), h.len(), f.len(), r.len()) {
-        return refused(true, Verdict::Refused(Refusal::Short, 0));
-    }
-    finished(fund, t, transform, h, f, r)
+    let verdict = tested(fund, t, transform.len(), h.len(), f.len(), r.len());
+    let Verdict::Accepted = verdict else {
+        clear_all(transform, h, f, r);
+        return refused(verdict);
+    };
+    first_transform(fund, lives, n, transform, h);
+    recursed(fund, t, transform, h, f, r)
 }
 
-// The valuation of a lent table of lives, into four result slices.
+// The valuation of the first n lives of a table, into four result slices.
 pub fn value(
     fund: Fund,
-    members: &[Life],
+    lives: [Life; Fund::MEMBER_ROWS],
+    n: usize,
     transform: &mut [i64],
     h: &mut [u64],
     f: &mut [i64],
     r: &mut [u64],
 ) -> Valued
-    ensures { λ v. ⌜ ValuedAs fund (now (members .entry))
-        (lengths (now (transform .entry)) (now (h .entry)) (now (f .entry)) (now (r .entry))) v
-        (left v (now (transform .exit)) (now (h .exit)) (now (f .exit)) (now (r .exit))) ⌝ }
+    ensures { λ v. ⌜ left v (now (transform .exit)) (now (h .exit)) (now (f .exit)) (now (r .exit)) ≡
+        valuation fund n (take n lives) (lengths (now (transform .entry)) (now (h .entry)) (now (f .entry)) (now (r .entry))) ⌝ }
 {
-    let totals = totals::totalled(fund, members);
-    let x = cleared(fund, totals, transform, h, f, r);
-    transform::fill(members, x, transform, h);
-    completed(fund, totals, transform, h, f, r)
+    let t = first_totals(fund, lives, n);
+    judged(fund, t, lives, n, transform, h, f, r)
 }

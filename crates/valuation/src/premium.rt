@@ -1,26 +1,33 @@
 // The premium of document 01 and its bound: the sums over the cells below the deductible M, each with its weight M - x.
-use crate::whole;
-use crate::whole::Sums;
+use rounding::UNIT;
+use whole::Sums;
 ghost use Prim.Native.Nat.{_+_, _*_, _^_, _<_, _≤_};
 ghost use lib.IntN.{natAbs};
 ghost use Rattle.fund.specs.Limits.{most-deductible, most-bound, most-truncation};
-ghost use Rattle.valuation.specs.Lent.{most-cell};
-ghost use Rattle.valuation.specs.Premium.{most-mean, Cells, Weighed, BelowTo, PricedAs};
+ghost use Rattle.recursion.specs.Slices.{most-cell};
+ghost use Rattle.valuation.specs.Table.{most-mean};
+ghost use Rattle.valuation.specs.Premium.{Cells, CellWeighed, BelowTo, StopLossIs};
 
-pub(crate) struct Priced {
+pub(crate) struct StopLoss {
     pub(crate) premium: i64,
     pub(crate) within: u64,
 }
 
-pub(crate) fn price(deductible: usize, mean: u64, truncation: u64, f: &[i64], r: &[u64]) -> Priced
+pub(crate) fn premium(
+    deductible: usize,
+    mean: u64,
+    truncation: u64,
+    f: &[i64],
+    r: &[u64],
+) -> StopLoss
     requires { ⌜ Cells deductible (now f) (now r) ⌝ }
     requires { ⌜ (mean ≤ most-mean) × (truncation ≤ most-truncation) ⌝ }
-    ensures { λ p. ⌜ PricedAs deductible mean truncation (now (f .entry)) (now (r .entry)) p ⌝ }
+    ensures { λ p. ⌜ StopLossIs deductible mean truncation (now (f .entry)) (now (r .entry)) p ⌝ }
 {
     let s = below(deductible, f, r);
     let m = deductible as u64;
-    let excess = whole::difference(mean + s.plus, m * whole::UNIT + s.minus);
-    Priced {
+    let excess = whole::difference(mean + s.plus, m * UNIT + s.minus);
+    StopLoss {
         premium: whole::value(excess),
         within: s.bound + 2 * m * truncation,
     }
@@ -38,16 +45,17 @@ fn below(deductible: usize, f: &[i64], r: &[u64]) -> Sums
     };
     let mut x: usize = 0;
     while x < deductible {
-        s = weighed(s, (deductible - x) as u64, f[x], r[x]);
+        s = with_cell(s, (deductible - x) as u64, f[x], r[x]);
         x += 1;
     }
     s
 }
 
-fn weighed(s: Sums, weight: u64, f: i64, r: u64) -> Sums
+// One cell more, with its weight.
+fn with_cell(s: Sums, weight: u64, f: i64, r: u64) -> Sums
     requires { ⌜ (s .plus ≤ most-deductible * most-cell) × (s .minus ≤ most-deductible * most-cell) × (s .bound ≤ 10 ^ 18) ⌝ }
     requires { ⌜ (weight ≤ most-deductible) × (natAbs f ≤ most-cell) × (r ≤ most-bound) ⌝ }
-    ensures { λ t. ⌜ Weighed s weight (record { f = f; R = r }) t ⌝ }
+    ensures { λ t. ⌜ CellWeighed s weight (record { f = f; R = r }) t ⌝ }
 {
     whole::with_part(s, f < 0, weight * whole::magnitude(f), weight * r)
 }

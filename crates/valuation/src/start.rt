@@ -1,9 +1,9 @@
 // The start of document 01's recursion: the sums of t and c, and the product with p of each group 1 member.
-use crate::figures;
-use crate::whole;
-use crate::whole::Sums;
 use fund::Fund;
 use fund::Life;
+use rounding::UNIT;
+use whole::Signed;
+use whole::Sums;
 ghost use mathlib.Core.Path.{_≡_};
 ghost use Prim.Native.Nat.{_+_, _*_, _^_, _<_, _≤_};
 ghost use Rattle.fund.specs.Limits.{most-load, most-rate, most-members};
@@ -22,7 +22,7 @@ pub(crate) fn terms(lambda: u64) -> Sums
         minus: 0,
         bound: 0,
     };
-    let mut t = whole::UNIT;
+    let mut t = UNIT;
     let mut c: u64 = 0;
     let mut n: u64 = 0;
     while n < 64 {
@@ -53,7 +53,7 @@ fn next_bound(c: u64, lambda: u64, n: u64) -> u64
     if lambda == 0 {
         return 0;
     }
-    figures::up(c * lambda, n * whole::UNIT) + 1
+    whole::up(c * lambda, n * UNIT) + 1
 }
 
 // The magnitude of the product so far, and how many group 1 members are in it.

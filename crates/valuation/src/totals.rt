@@ -3,10 +3,9 @@ use super::figures;
 use super::inside;
 use super::start;
 use super::start::Product;
-use super::whole;
-use super::whole::Signed;
 use fund::Fund;
 use fund::Life;
+use whole::Signed;
 ghost use mathlib.Core.Path.{_≡_};
 ghost use mathlib.Core.Bool.{true, false};
 ghost use Prim.Native.Nat.{_+_, _*_, _≤_};
@@ -14,7 +13,7 @@ ghost use Rattle.fund.specs.Limits.{most-members};
 ghost use Rattle.valuation.specs.Table.{Members};
 ghost use Rattle.valuation.specs.Inside.{HeaderIn};
 ghost use Rattle.valuation.specs.Start.{most-t};
-ghost use Rattle.valuation.specs.Totals.{StartSums, MadeOf, Summed, Totalled};
+ghost use Rattle.valuation.specs.Totals.{StartSums, StartedWith, LivesTotals, TableTotals};
 
 // What a table adds up to, or that it or the header is outside its ranges.
 pub(crate) struct Totals {
@@ -33,7 +32,7 @@ pub(crate) struct StartSum {
     pub(crate) bound: u64,
 }
 
-fn outside() -> Totals
+pub(crate) fn outside() -> Totals
     ensures { λ r. ⌜ r .inside ≡ false ⌝ }
 {
     Totals {
@@ -46,19 +45,11 @@ fn outside() -> Totals
     }
 }
 
-// The sums of t and c, where the load is not refused.
-fn first_sums(lambda: u64, load: u64) -> StartSum
-    requires { ⌜ lambda ≤ load ⌝ }
-    ensures { λ r. ⌜ StartSums lambda load r ⌝ }
+// The sums of t and c, of a lambda up to the largest load: a fund with more is refused.
+fn first_sum(lambda: u64) -> StartSum
+    ensures { λ r. ⌜ StartSums lambda r ⌝ }
 {
-    if Fund::MOST_LOAD < load {
-        return StartSum {
-            negative: false,
-            size: 0,
-            bound: 0,
-        };
-    }
-    let sums = start::terms(lambda);
+    let sums = start::terms(whole::least(lambda, Fund::MOST_LOAD));
     let sum = whole::difference(sums.plus, sums.minus);
     StartSum {
         negative: sum.negative,
@@ -67,9 +58,10 @@ fn first_sums(lambda: u64, load: u64) -> StartSum
     }
 }
 
-fn made(load: u64, truncation: u64, mean: u64, first: StartSum, product: Product) -> Totals
+// The totals with f(0) and R(0).
+fn with_start(load: u64, truncation: u64, mean: u64, first: StartSum, product: Product) -> Totals
     requires { ⌜ (product .size ≤ 200 * most-t) × (first .bound ≤ 64000) × (product .singles ≤ most-members) ⌝ }
-    ensures { λ r. ⌜ MadeOf load truncation mean first product r ⌝ }
+    ensures { λ r. ⌜ StartedWith load truncation mean first product r ⌝ }
 {
     let cell = whole::value(Signed {
         negative: first.negative,
@@ -86,25 +78,26 @@ fn made(load: u64, truncation: u64, mean: u64, first: StartSum, product: Product
 }
 
 // One walk for each sum, and one for the product, which starts from the sum of t.
-fn summed(fund: Fund, members: &[Life]) -> Totals
+fn lives_totals(fund: Fund, members: &[Life]) -> Totals
     requires { ⌜ Members (now members) × HeaderIn fund ⌝ }
-    ensures { λ t. ⌜ Summed fund (now (members .entry)) t ⌝ }
+    ensures { λ t. ⌜ LivesTotals fund (now (members .entry)) t ⌝ }
 {
     let lambda = figures::lambda(members, fund.frequency);
     let load = figures::load(members, fund.frequency);
     let truncation = figures::truncation(members, fund.order);
     let mean = figures::mean(members, fund.frequency);
-    let first = first_sums(lambda, load);
+    let first = first_sum(lambda);
     let product = start::multiplied(members, first.size);
-    made(load, truncation, mean, first, product)
+    with_start(load, truncation, mean, first, product)
 }
 
-pub(crate) fn totalled(fund: Fund, members: &[Life]) -> Totals
-    ensures { λ t. ⌜ Totalled fund (now (members .entry)) t ⌝ }
+// The totals of a table, or that it or the header is outside its ranges.
+pub(crate) fn table_totals(fund: Fund, members: &[Life]) -> Totals
+    ensures { λ t. ⌜ TableTotals fund (now (members .entry)) t ⌝ }
 {
     let inside = inside::all_inside(members, inside::headed(fund, members.len()));
     if inside {
-        return summed(fund, members);
+        return lives_totals(fund, members);
     }
     outside()
 }

@@ -1,7 +1,8 @@
 // The transform: each life's terms, added to D and H at their places.
-use super::figures::MILLION;
-use super::whole::UNIT;
 use fund::Life;
+use rounding::MILLION;
+use rounding::UNIT;
+use whole::nearest;
 ghost use mathlib.Core.Path.{_≡_};
 ghost use mathlib.Core.Bool.{true, _||_};
 ghost use Prim.Native.Nat.{suc, _+_, _*_, _-_, _^_, _<_, _≤_};
@@ -15,24 +16,15 @@ ghost use Rattle.fund.specs.Folding.{claim, stay, single};
 ghost use Rattle.fund.specs.Transform.{nextRow, placeOf, placed as placedOf, replacedTerm, replacedTerms, row as rowOf, rowTerms, singleTerms, unit, weight};
 ghost use Rattle.laws.specs.Accepted.{All};
 ghost use Rattle.widths.specs.Lives.{InRange};
-ghost use Rattle.widths.specs.Adding.{addD, addH, Room, RoomD, Row, TermRoom, termsAt, lifeTerms};
-ghost use Rattle.widths.specs.Sign.{signed};
-ghost use Rattle.valuation.specs.Filling.{StepAsks, StepGives, FillAsks, FillGives};
+ghost use Rattle.widths.specs.Adding.{addD, addH, Room, RoomD, Row, TermRoom, termsAt};
+ghost use Rattle.whole.specs.Sign.{signed};
+ghost use Rattle.valuation.specs.Filling.{LifeFits, LifeAdded, TableFits, TableAdded};
 
-// How the cells are filled: whether they are, up to which horizon, by which order and at which frequency.
+// How the cells are filled: up to which horizon, by which order and at which frequency.
 pub(crate) struct Filling {
-    pub(crate) go: bool,
     pub(crate) horizon: u64,
     pub(crate) order: u64,
     pub(crate) frequency: u64,
-}
-
-// a / b to the nearest, halves up.
-fn nearest(a: u64, b: u64) -> u64
-    requires { ⌜ (0 < b) × (b ≤ most-rate) × (a ≤ 2 ^ 61) ⌝ }
-    ensures { λ r. ⌜ r ≡ near a b ⌝ }
-{
-    (2 * a + b) / (2 * b)
 }
 
 // A number of a row, from the two above it. Most are 0, and are not divided.
@@ -203,37 +195,25 @@ fn add_replaced(d: &mut [i64], horizon: u64, m: Life, a: u64)
 }
 
 // The terms of a life.
-fn add_life(d: &mut [i64], h: &mut [u64], horizon: u64, m: Life, order: u64, a: u64)
-    requires { ⌜ InRange m × (order ≤ most-order) × (a ≤ most-frequency)
-        × Room horizon (now d) (now h) (lifeTerms horizon order a m) ⌝ }
-    ensures { λ r. ⌜ now (d .exit) ≡ addD (now (d .entry)) (lifeTerms horizon order a m) ⌝ }
-    ensures { λ r. ⌜ now (h .exit) ≡ addH (now (h .entry)) (lifeTerms horizon order a m) ⌝ }
+fn add_life(d: &mut [i64], h: &mut [u64], m: Life, x: Filling)
+    requires { ⌜ LifeFits (now d) (now h) m x ⌝ }
+    ensures { λ _. ⌜ LifeAdded (now (d .entry)) (now (h .entry)) m x (now (d .exit)) (now (h .exit)) ⌝ }
 {
     if m.group == 1 {
-        add_single(d, h, horizon, m, order);
+        add_single(d, h, x.horizon, m, x.order);
         return;
     }
-    add_replaced(d, horizon, m, a);
-}
-
-// The terms of one life more, where the cells are filled.
-fn fill_step(d: &mut [i64], h: &mut [u64], m: Life, x: Filling)
-    requires { ⌜ StepAsks (now d) (now h) m x ⌝ }
-    ensures { λ _. ⌜ StepGives (now (d .entry)) (now (h .entry)) m x (now (d .exit)) (now (h .exit)) ⌝ }
-{
-    if x.go {
-        add_life(d, h, x.horizon, m, x.order, x.frequency);
-    }
+    add_replaced(d, x.horizon, m, x.frequency);
 }
 
 // D and H of all lives, into slices that are 0 up to the horizon. Cells beyond it stay as they are.
-pub(crate) fn fill(members: &[Life], x: Filling, transform: &mut [i64], h: &mut [u64])
-    requires { ⌜ FillAsks (now members) x (now transform) (now h) ⌝ }
-    ensures { λ _. ⌜ FillGives (now (members .entry)) x (now (transform .entry)) (now (h .entry)) (now (transform .exit)) (now (h .exit)) ⌝ }
+pub(crate) fn fill_transform(members: &[Life], x: Filling, transform: &mut [i64], h: &mut [u64])
+    requires { ⌜ TableFits (now members) x (now transform) (now h) ⌝ }
+    ensures { λ _. ⌜ TableAdded (now (members .entry)) x (now (transform .entry)) (now (h .entry)) (now (transform .exit)) (now (h .exit)) ⌝ }
 {
     let mut k: usize = 0;
     while k < members.len() {
-        fill_step(transform, h, members[k], x);
+        add_life(transform, h, members[k], x);
         k += 1;
     }
 }

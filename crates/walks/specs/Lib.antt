@@ -2,6 +2,7 @@ pub mod Walks
 pub mod Freeing
 pub mod Reborrow
 pub mod Element
+pub mod WalkForm
 pub mod WalkTable
 pub mod Again
 pub mod LentArray

@@ -1,15 +1,10 @@
--- A walk over a lent table of lives, for any step: functions of the form
---     fn walk(members: &[Life], x: X) -> R { let mut r = FIRST; let mut k: usize = 0; while k < members.len() { r = step(r, members[k], x); k += 1; } r }
--- with `fn step(r: R, m: Life, x: X) -> R`, or with `step(r, members[k])`. Their MIR is `function`, but for R, X, FIRST and the step.
---     Extra, First     what is to be known of the type X, and of R and the value that r has at first
---     Says             what the step and the walk ask and give
---     Facts            what is to be shown of a walk, of lists and values alone: an invariant that holds at first, that a step keeps, and
---                      that says at the end what the walk gives
+-- A walk over a lent table, of the form that `WalkForm` writes out.
 --     meets            a function of this form meets its contract, if its step meets its own
 use mathlib.Core.Path.{_≡_, refl, sym, _∙_, ap, subst}
 use mathlib.Core.Bool.{Bool, true, false, not}
 use mathlib.Core.WellFounded.{WellFounded, InvImage·wf}
 use Prim.Native.Nat.{ℕ, _+_, _-_, _*_, _<_, _≤_, _^_}
+use native.Mathlib.Nat as N
 use native.Mathlib.Numerals.{add-one}
 use native.Mathlib.Omega.{arith}
 use mathlib.Core.List.{List, [], _∷_}
@@ -46,122 +41,10 @@ use denote.Triple.Clauses.{Clauses, Ended, lasts}
 use denote.Triple.Statement.{Triple}
 use denote.Triple.Table.{entered, framed}
 use denote.Triple.Walked.{needs}
-use Rattle.fund.specs.declared.Life.{Life}
-use Rattle.fund.proofs.Life as L
-use Rattle.fund.proofs.Life.Laws as L′
-use Rattle.walks.specs.Element.{no-one, borrowed, takes-life}
+use Rattle.walks.specs.Element.{Element, Of, rowOf, mirOf, bytesOf, valueOf, borrowed, copies-element}
 use Rattle.walks.specs.Freeing.{frees-cell, frees-room}
 use Rattle.walks.specs.Walks.{Stated, tokens, passed, Walk, starts, calls-for, ends, cell}
-
-abbrev pub word : Ty
-word = tyInt w64
-
-abbrev pub slice : Ty
-slice = sliceTy (tyRef (named 0) imm (pointee (L.the-row .written)))
-
--- ---- the MIR. The locals: the result, the members, x, the running value, k, the count and the byte offset, the test, the element's place, the element
--- p: whether the step is passed x too
-abbrev operands : Bool → List Operand
-operands true = copy (place 3 []) ∷ copy (place 8 []) ∷ copy (place 2 []) ∷ []
-operands false = copy (place 3 []) ∷ copy (place 8 []) ∷ []
-
-abbrev turn : Bool → Name → Body
-turn p f =
-    seq (assign (place 5 []) (rvOpd (copy (place 1 (field 1 ∷ [])))))
-    (seq (assign (place 6 []) (op2 (lt unsigned) (copy (place 4 [])) (copy (place 5 []))))
-    (seq (cond (copy (place 6 [])) skip (exit 1))
-    (seq (assign (place 5 []) (op2 (mul unsigned) (copy (place 4 [])) (int w64 40)))
-    (seq (assign (place 7 []) (op2 offset (copy (place 1 (field 0 ∷ []))) (copy (place 5 []))))
-    (seq (assign (place 8 []) (rvOpd (copy (place 7 (deref L′.mir ∷ [])))))
-    (seq (call f (operands p) (place 3 []))
-    (assign (place 4 []) (op2 (add unsigned) (copy (place 4 [])) (int w64 1)))))))))
-
-abbrev rest : Body
-rest = seq (assign (place 0 []) (rvOpd (copy (place 3 [])))) return
-
-abbrev pub function : Ty → Ty → RValue → Bool → Name → Fn
-function τ σ rv p f = record {
-  lifetimes = 1;
-  outlives = [];
-  params = 2;
-  locals = local τ valueLocal ∷ local slice valueLocal ∷ local σ valueLocal ∷ local τ valueLocal ∷ local word valueLocal ∷ local word valueLocal ∷ local tyBool valueLocal ∷ local tyPtr valueLocal ∷ local L′.mir valueLocal ∷ [];
-  body = seq (assign (place 3 []) rv) (seq (assign (place 4 []) (rvOpd (int w64 0))) (seq (block (loop (turn p f))) rest));
-}
-
--- ---- the contracts. t: whether there is a `requires`
-abbrev clause : Bool → {M : Type 1} (𝓤 : URA M) → Type 0 → SProp 𝓤
-clause true 𝓤 φ = fact 𝓤 φ
-clause false 𝓤 φ = emp 𝓤
-
-clause-in : (t : Bool) {M : Type 1} (𝓤 : URA M) (φ : Type 0) → φ → ent 𝓤 (emp 𝓤) (clause t 𝓤 φ)
-clause-in true 𝓤 φ h = factI 𝓤 φ (emp 𝓤) h
-clause-in false 𝓤 φ h = id⊢ 𝓤 (emp 𝓤)
-
-clause-out : (t : Bool) {M : Type 1} (𝓤 : URA M) (φ : Type 0) (P : SProp 𝓤) {Q : SProp 𝓤} → (t ≡ false → φ) → (φ → ent 𝓤 P Q) → ent 𝓤 (sep 𝓤 P (clause t 𝓤 φ)) Q
-clause-out true 𝓤 φ P h k = needs 𝓤 φ P k
-clause-out false 𝓤 φ P h k = via 𝓤 P (fst∗ 𝓤 P (emp 𝓤)) (k (h refl))
-
-module _ (R X : RattleType) where
-  abbrev pub stepEnded : Bool → Ended
-  stepEnded true = record {
-    signature = record { lifetimes = 0; outlives = []; params = plain (λ _. R) ∷ plain (λ _. L.the-row) ∷ plain (λ _. X) ∷ []; result = plain (λ _. R) };
-    kept = (yes, (yes, (yes, tt)));
-  }
-  stepEnded false = record { signature = record { lifetimes = 0; outlives = []; params = plain (λ _. R) ∷ plain (λ _. L.the-row) ∷ []; result = plain (λ _. R) }; kept = (yes, (yes, tt)) }
-
-  abbrev pub walkEnded : Ended
-  walkEnded = record {
-    signature = record { lifetimes = 1; outlives = []; params = SliceRefOf (0 ∷ []) tt (plain (λ _. L.the-row)) (λ _. tt) ∷ plain (λ _. X) ∷ []; result = plain (λ _. R) };
-    kept = (yes, (yes, tt));
-  }
-
-  -- what a step is passed of x
-  abbrev pub Passed : Bool → Type 0
-  Passed true = X .Denot
-  Passed false = Unit {0}
-
-  abbrev pub pass : (p : Bool) → X .Denot → Passed p
-  pass true x = x
-  pass false x = tt
-
-  pub record Says (p t : Bool) : Type 1 where
-    pub asks : R .Denot → Life → Passed p → Type 0
-    pub gives : R .Denot → Life → Passed p → R .Denot → Type 0
-    pub needs : List Life → X .Denot → Type 0
-    pub ends : List Life → X .Denot → R .Denot → Type 0
-
-  abbrev pub stepClauses : (p t : Bool) → Says p t → {M : Type 1} (𝓤 : URA M) → Clauses 𝓤 (stepEnded p)
-  stepClauses true t S 𝓤 κs a = record { ghost = Unit {0}; requires = λ _. clause t 𝓤 (S .asks (a .0) (a .1 .0) (a .1 .1 .0)); ensures = λ _ r _. fact 𝓤 (S .gives (a .0) (a .1 .0) (a .1 .1 .0) r) }
-  stepClauses false t S 𝓤 κs a = record { ghost = Unit {0}; requires = λ _. clause t 𝓤 (S .asks (a .0) (a .1 .0) tt); ensures = λ _ r _. fact 𝓤 (S .gives (a .0) (a .1 .0) tt r) }
-
-  abbrev pub walkClauses : (p t : Bool) → Says p t → {M : Type 1} (𝓤 : URA M) → Clauses 𝓤 walkEnded
-  walkClauses p t S 𝓤 κs a = record { ghost = Unit {0}; requires = λ _. clause t 𝓤 (S .needs (now (a .0)) (a .1 .0)); ensures = λ _ r _. fact 𝓤 (S .ends (now (a .0)) (a .1 .0) r) }
-
-  -- Inv ms x rest r, where r is the running value and rest the members still to come
-  pub record Facts (p t : Bool) (S : Says p t) (start : X .Denot → R .Denot) : Type 1 where
-    pub free : t ≡ false → (ms : List Life) (x : X .Denot) → S .needs ms x
-    pub Inv : List Life → X .Denot → List Life → R .Denot → Type 0
-    pub none : (ms : List Life) (x : X .Denot) → S .needs ms x → Inv ms x ms (start x)
-    pub asked : (ms : List Life) (x : X .Denot) (m : Life) (rest : List Life) (r : R .Denot) → Inv ms x (m ∷ rest) r → S .asks r m (pass p x)
-    pub more : (ms : List Life) (x : X .Denot) (m : Life) (rest : List Life) (r : R .Denot) → Inv ms x (m ∷ rest) r → (r′ : R .Denot) → S .gives r m (pass p x) r′ → Inv ms x rest r′
-    pub all : (ms : List Life) (x : X .Denot) (r : R .Denot) → Inv ms x [] r → S .ends ms x r
-
--- plain data that a local of the MIR type σ holds, and that a function leaves as it is
-pub record Extra (X : RattleType) (σ : Ty) : Type 2 where
-  pub val : X .Denot → Val
-  pub tells : Tells X (Is X) (λ x. val x ∷ [])
-  pub typed : {M : Type 1} (𝓤 : URA M) (H : Heap 𝓤) (A : Atoms 𝓤) (W : Given 𝓤 H A) (x : X .Denot) (v : Val) → Is X x (v ∷ []) → T (hasTy σ v) × WT v
-  pub copies : {M : Type 1} (𝓤 : URA M) (H : Heap 𝓤) (A : Atoms 𝓤) (W : Given 𝓤 H A) → Copy 𝓤 H A X
-  pub makes : {M : Type 1} (𝓤 : URA M) (H : Heap 𝓤) (A : Atoms 𝓤) (W : Given 𝓤 H A) → Makes 𝓤 H A X (Is X)
-  pub last : (x : X .Denot) → Last (X .exit yes) x
-  pub silent : {M : Type 1} (𝓤 : URA M) (H : Heap 𝓤) (A : Atoms 𝓤) (x : X .Denot) → ent 𝓤 (emp 𝓤) (sem 𝓤 H A (left (X .exit yes) x (last x)))
-
--- the running value at first, made of x
-pub record First (R X : RattleType) (x-val : X .Denot → Val) (rv : RValue) : Type 2 where
-  pub start : X .Denot → R .Denot
-  pub val : X .Denot → Val
-  pub is : (x : X .Denot) → Is X x (x-val x ∷ []) → Is R (start x) (val x ∷ [])
-  pub runs : {M : Type 1} {𝓤 : URA M} {H : Heap 𝓤} {A : Atoms 𝓤} (W : Given 𝓤 H A) (Γ : List (Item 𝓤)) (E : Env 𝓤 H) (x : X .Denot) → Opd (Go {0}) W Γ E (copy (place 2 [])) (x-val x) → Rv (Go {0}) W Γ E rv (val x)
+use Rattle.walks.specs.WalkForm.{word, slice, operands, turn, rest, function, clause-in, clause-out, stepEnded, walkEnded, pass, Says, stepClauses, walkClauses, Facts, Extra, First}
 
 -- the test of a `while`: it holds and the turn goes on, or it fails and the `exit` is taken
 module _ {M : Type 1} {𝓤 : URA M} {H : Heap 𝓤} {A : Atoms 𝓤} {K : Type 0} {W : Given 𝓤 H A} {Γ : List (Item 𝓤)} {E : Env 𝓤 H} {C : Calls 𝓤 H} {Λ : Loops 𝓤 H} {q : Post 𝓤 H} where
@@ -170,29 +53,29 @@ module _ {M : Type 1} {𝓤 : URA M} {H : Heap 𝓤} {A : Atoms 𝓤} {K : Type 
   tests k o held failed = first k $ branches k o (λ h. skips k $ record { prf = held h .prf }) (λ h. jumps k $ record { prf = failed h .prf })
 
 -- the call of a step, with x or without
-module _ {M : Type 1} (𝓤 : URA M) (H : Heap 𝓤) (A : Atoms 𝓤) (W : Given 𝓤 H A) {C : Calls 𝓤 H} {Λ : Loops 𝓤 H} (fm : FmC 𝓤 H (W .laws) C) (R X : RattleType) (r : R .Denot) (w : Val) (m : Life) (x : X .Denot) (u : Val)
+module _ {M : Type 1} (𝓤 : URA M) (H : Heap 𝓤) (A : Atoms 𝓤) (W : Given 𝓤 H A) {C : Calls 𝓤 H} {Λ : Loops 𝓤 H} (fm : FmC 𝓤 H (W .laws) C) (L : Element) (R X : RattleType) (r : R .Denot) (w : Val) (m : Of L) (x : X .Denot) (u : Val)
     {Γ : List (Item 𝓤)} {E : Env 𝓤 H} {q : Post 𝓤 H} {rest : Body} {f : Name} where
-  calls-step : (p t : Bool) (S : Says R X p t) → Triple 𝓤 (C f) (Stated W (stepEnded R X p) (stepClauses R X p t S 𝓤)) → S .asks r m (pass R X p x)
-      → ((i : Item 𝓤) → Opd (Go {0}) W (i ∷ Γ) E (copy (place 3 [])) w) → ((i : Item 𝓤) → Opd (Go {0}) W (i ∷ Γ) E (copy (place 8 [])) (L′.lowered m)) → ((i : Item 𝓤) → Opd (Go {0}) W (i ∷ Γ) E (copy (place 2 [])) u)
-      → ((w′ : Val) (r′ : R .Denot) → S .gives r m (pass R X p x) r′ → Is R r′ (w′ ∷ []) → Seq (Go {0}) W (‵ (R .own r′ (w′ ∷ [])) ∷ Γ) (lands C Λ E (place 3 []) w′ rest q))
-      → Seq (Go {0}) W (‵ (R .own r (w ∷ [])) ∷ ‵ (L.the-row .own m (L′.lowered m ∷ [])) ∷ ‵ (X .own x (u ∷ [])) ∷ Γ) (runs C Λ E (seq (call f (operands p) (place 3 [])) rest) q)
+  calls-step : (p t : Bool) (S : Says L R X p t) → Triple 𝓤 (C f) (Stated W (stepEnded L R X p) (stepClauses L R X p t S 𝓤)) → S .asks r m (pass L R X p x)
+      → ((i : Item 𝓤) → Opd (Go {0}) W (i ∷ Γ) E (copy (place 3 [])) w) → ((i : Item 𝓤) → Opd (Go {0}) W (i ∷ Γ) E (copy (place 8 [])) (valueOf L m)) → ((i : Item 𝓤) → Opd (Go {0}) W (i ∷ Γ) E (copy (place 2 [])) u)
+      → ((w′ : Val) (r′ : R .Denot) → S .gives r m (pass L R X p x) r′ → Is R r′ (w′ ∷ []) → Seq (Go {0}) W (‵ (R .own r′ (w′ ∷ [])) ∷ Γ) (lands C Λ E (place 3 []) w′ rest q))
+      → Seq (Go {0}) W (‵ (R .own r (w ∷ [])) ∷ ‵ ((rowOf L) .own m (valueOf L m ∷ [])) ∷ ‵ (X .own x (u ∷ [])) ∷ Γ) (runs C Λ E (seq (call f (operands p) (place 3 [])) rest) q)
   calls-step true t S met asks or om ox k =
-      let to : Stated W (stepEnded R X true) (stepClauses R X true t S 𝓤) .Ghost = ((tt, tt, tt, (r, (m, (x, tt))), (w ∷ [], (L′.lowered m ∷ [], (u ∷ [], tt)))), tt) in
+      let to : Stated W (stepEnded L R X true) (stepClauses L R X true t S 𝓤) .Ghost = ((tt, tt, tt, (r, (m, (x, tt))), (w ∷ [], (valueOf L m ∷ [], (u ∷ [], tt)))), tt) in
       nothing ! $ move ! (3 ∷ 0 ∷ []) $ fjoin ! $ move ! (2 ∷ 0 ∷ []) $ fjoin ! $ move ! (1 ∷ 0 ∷ []) $ fjoin ! $
-      use0 W (tokens W (stepEnded R X true) (stepClauses R X true t S 𝓤) to) (id⊢ 𝓤 _) $
-      calls-for W (stepEnded R X true) (stepClauses R X true t S 𝓤) to ! fm met (clause-in t 𝓤 _ asks) (S .gives r m x) (λ r e. id⊢ 𝓤 _)
+      use0 W (tokens W (stepEnded L R X true) (stepClauses L R X true t S 𝓤) to) (id⊢ 𝓤 _) $
+      calls-for W (stepEnded L R X true) (stepClauses L R X true t S 𝓤) to ! fm met (clause-in t 𝓤 _ asks) (S .gives r m x) (λ r e. id⊢ 𝓤 _)
       (and-then ! (or _) (and-then ! (om _) (and-then ! (ox _) (no-more !))))
       (λ w′ r′ gave is. move ! (1 ∷ []) $ let-go ! $ k w′ r′ gave is)
   calls-step false t S met asks or om ox k =
-      let to : Stated W (stepEnded R X false) (stepClauses R X false t S 𝓤) .Ghost = ((tt, tt, tt, (r, (m, tt)), (w ∷ [], (L′.lowered m ∷ [], tt))), tt) in
+      let to : Stated W (stepEnded L R X false) (stepClauses L R X false t S 𝓤) .Ghost = ((tt, tt, tt, (r, (m, tt)), (w ∷ [], (valueOf L m ∷ [], tt))), tt) in
       move ! (2 ∷ []) $ let-go ! $ nothing ! $ move ! (2 ∷ 0 ∷ []) $ fjoin ! $ move ! (1 ∷ 0 ∷ []) $ fjoin ! $
-      use0 W (tokens W (stepEnded R X false) (stepClauses R X false t S 𝓤) to) (id⊢ 𝓤 _) $
-      calls-for W (stepEnded R X false) (stepClauses R X false t S 𝓤) to ! fm met (clause-in t 𝓤 _ asks) (S .gives r m tt) (λ r e. id⊢ 𝓤 _)
+      use0 W (tokens W (stepEnded L R X false) (stepClauses L R X false t S 𝓤) to) (id⊢ 𝓤 _) $
+      calls-for W (stepEnded L R X false) (stepClauses L R X false t S 𝓤) to ! fm met (clause-in t 𝓤 _ asks) (S .gives r m tt) (λ r e. id⊢ 𝓤 _)
       (and-then ! (or _) (and-then ! (om _) (no-more !)))
       (λ w′ r′ gave is. move ! (1 ∷ []) $ let-go ! $ k w′ r′ gave is)
 
-pub byte-fits : (n k : ℕ) → k < n → n * 40 < 2 ^ 63 → k * 40 < 2 ^ 64
-byte-fits n k h g = omega arith
+pub byte-fits : (s n k : ℕ) → k < n → n * s < 2 ^ 63 → k * s < 2 ^ 64
+byte-fits s n k h g = let m = N.mul-le-mul-right s (N.le-of-lt h) in omega arith
 
 pub next-fits : (n k : ℕ) → k < n → n < 2 ^ 64 → k + 1 < 2 ^ 64
 next-fits n k h g = omega arith
@@ -203,8 +86,8 @@ nearer n k h = omega arith
 pub ended : (n k : ℕ) → k ≤ n → n ≤ k → k ≡ n
 ended n k h g = omega arith
 
-pub next-life : (ms : List Life) (k : ℕ) → k < length ms → drop k ms ≡ getD ms k no-one ∷ drop (k + 1) ms
-next-life ms k h = drop-cons ms k no-one h ∙ ap (λ (j : ℕ). getD ms k no-one ∷ drop j ms) (sym (add-one k))
+pub next-element : {T : Type 0} (blank : T) (ms : List T) (k : ℕ) → k < length ms → drop k ms ≡ getD ms k blank ∷ drop (k + 1) ms
+next-element blank ms k h = drop-cons ms k blank h ∙ ap (λ (j : ℕ). getD ms k blank ∷ drop j ms) (sym (add-one k))
 
 pub nothing-in : (n : ℕ) → 0 ≤ n
 nothing-in n = omega arith
@@ -212,19 +95,19 @@ nothing-in n = omega arith
 pub next-in : (n k : ℕ) → k < n → k + 1 ≤ n
 next-in n k h = omega arith
 
-module _ {M : Type 1} (𝓤 : URA M) (H : Heap 𝓤) (A : Atoms 𝓤) (W : Given 𝓤 H A) (𝓣 : Tables 𝓤 H) (fm : FmC 𝓤 H (W .laws) (𝓣 .C)) (R X : RattleType) (τ σ : Ty) (rv : RValue) (ρ : Extra R τ) (ξ : Extra X σ) (F : First R X (ξ .val) rv)
-    (p t : Bool) (S : Says R X p t) (facts : Facts R X p t S (F .start)) (f : Name) (met : Triple 𝓤 (𝓣 .C f) (Stated W (stepEnded R X p) (stepClauses R X p t S 𝓤))) where
+module _ {M : Type 1} (𝓤 : URA M) (H : Heap 𝓤) (A : Atoms 𝓤) (W : Given 𝓤 H A) (𝓣 : Tables 𝓤 H) (fm : FmC 𝓤 H (W .laws) (𝓣 .C)) (L : Element) (R X : RattleType) (τ σ : Ty) (rv : RValue) (ρ : Extra R τ) (ξ : Extra X σ) (F : First R X (ξ .val) rv)
+    (p t : Bool) (S : Says L R X p t) (facts : Facts L R X p t S (F .start)) (f : Name) (met : Triple 𝓤 (𝓣 .C f) (Stated W (stepEnded L R X p) (stepClauses L R X p t S 𝓤))) where
   abbrev T′ : Ended
-  T′ = walkEnded R X
+  T′ = walkEnded L R X
 
   abbrev c : Clauses 𝓤 T′
-  c = walkClauses R X p t S 𝓤
+  c = walkClauses L R X p t S 𝓤
 
   abbrev Run : Fun 𝓤
-  Run = WpFn 𝓤 H (𝓣 .C) (𝓣 .Λ) (function τ σ rv p f)
+  Run = WpFn 𝓤 H (𝓣 .C) (𝓣 .Λ) (function L τ σ rv p f)
 
-  module _ (κ : Lft) (q : Share) (members : RefT (List Life)) (x : X .Denot) where
-    abbrev ms : List Life
+  module _ (κ : Lft) (q : Share) (members : RefT (List (Of L))) (x : X .Denot) where
+    abbrev ms : List (Of L)
     ms = members .now
 
     abbrev b : ℕ
@@ -260,17 +143,17 @@ module _ {M : Type 1} (𝓤 : URA M) (H : Heap 𝓤) (A : Atoms 𝓤) (W : Given
     unsaid : ent 𝓤 (emp 𝓤) (sem 𝓤 H A (lasts T′ (κ, tt) (members, (x, tt)) (tt, (ξ .last x, tt))))
     unsaid = qed W [] ∵ nothing ! $ frame ! $ nothing ! $ use0 W (‵ (left (X .exit yes) x (ξ .last x))) (ξ .silent 𝓤 H A x) $ frame ! $ done !
 
-    module _ (g : length ms < 2 ^ 64) (gb : length ms * 40 < 2 ^ 63) (l₀ l₁ l₂ l₃ l₄ l₅ l₆ l₇ l₈ : ℕ) where
+    module _ (g : length ms < 2 ^ 64) (gb : length ms * bytesOf L < 2 ^ 63) (l₀ l₁ l₂ l₃ l₄ l₅ l₆ l₇ l₈ : ℕ) where
       abbrev En : Env 𝓤 H
-      En = (τ, l₀) ∷ (slice, l₁) ∷ (σ, l₂) ∷ (τ, l₃) ∷ (word, l₄) ∷ (word, l₅) ∷ (tyBool, l₆) ∷ (tyPtr, l₇) ∷ (L′.mir, l₈) ∷ []
+      En = (τ, l₀) ∷ (slice L, l₁) ∷ (σ, l₂) ∷ (τ, l₃) ∷ (word, l₄) ∷ (word, l₅) ∷ (tyBool, l₆) ∷ (tyPtr, l₇) ∷ ((mirOf L), l₈) ∷ []
 
       abbrev At : State → List (Item 𝓤)
-      At s = ‵ (R .own (s .r) (s .w ∷ [])) ∷ ‵ (borrowed κ ms b o) ∷ ‵ (flft κ q) ∷ ‵ (X .own x (u ∷ []))
-          ∷ ‵ (fat fullShare τ l₃ 0 (s .w)) ∷ ‵ (fat fullShare word l₄ 0 (vint w64 (s .k))) ∷ ‵ (froom word l₅ 0) ∷ ‵ (froom tyBool l₆ 0) ∷ ‵ (froom tyPtr l₇ 0) ∷ ‵ (froom L′.mir l₈ 0)
-          ∷ ‵ (fat fullShare slice l₁ 0 v) ∷ ‵ (fat fullShare σ l₂ 0 u) ∷ ‵ (froom τ l₀ 0)
-          ∷ ‵ (fdies τ l₀) ∷ ‵ (fdies slice l₁) ∷ ‵ (fdies σ l₂) ∷ ‵ (fdies τ l₃) ∷ ‵ (fdies word l₄) ∷ ‵ (fdies word l₅) ∷ ‵ (fdies tyBool l₆) ∷ ‵ (fdies tyPtr l₇) ∷ ‵ (fdies L′.mir l₈) ∷ ‵ ftrue ∷ []
+      At s = ‵ (R .own (s .r) (s .w ∷ [])) ∷ ‵ (borrowed L κ ms b o) ∷ ‵ (flft κ q) ∷ ‵ (X .own x (u ∷ []))
+          ∷ ‵ (fat fullShare τ l₃ 0 (s .w)) ∷ ‵ (fat fullShare word l₄ 0 (vint w64 (s .k))) ∷ ‵ (froom word l₅ 0) ∷ ‵ (froom tyBool l₆ 0) ∷ ‵ (froom tyPtr l₇ 0) ∷ ‵ (froom (mirOf L) l₈ 0)
+          ∷ ‵ (fat fullShare (slice L) l₁ 0 v) ∷ ‵ (fat fullShare σ l₂ 0 u) ∷ ‵ (froom τ l₀ 0)
+          ∷ ‵ (fdies τ l₀) ∷ ‵ (fdies (slice L) l₁) ∷ ‵ (fdies σ l₂) ∷ ‵ (fdies τ l₃) ∷ ‵ (fdies word l₄) ∷ ‵ (fdies word l₅) ∷ ‵ (fdies tyBool l₆) ∷ ‵ (fdies tyPtr l₇) ∷ ‵ (fdies (mirOf L) l₈) ∷ ‵ ftrue ∷ []
 
-      turns : (s : State) → Seq (Go {0}) W (At s) (runs (𝓣 .C) (𝓣 .Λ) En (turn p f)
+      turns : (s : State) → Seq (Go {0}) W (At s) (runs (𝓣 .C) (𝓣 .Λ) En (turn L p f)
           (anyQ (afterTurn 𝓤 H (Below 𝓤 H A ≺ At s) (afterBlock 𝓤 H (afterSeq 𝓤 H (Wp 𝓤 H (𝓣 .C) (𝓣 .Λ) En rest (atReturn 𝓤 H En (Stated W T′ c .post y))) (atReturn 𝓤 H En (Stated W T′ c .post y)))))))
       unfolding afterTurn
       turns s =
@@ -278,18 +161,18 @@ module _ {M : Type 1} (𝓤 : URA M) (H : Heap 𝓤) (A : Atoms 𝓤) (W : Given
           assigns ! (bin ! (cell ! 5 refl) (cell ! 6 refl) tt) (from ! (stop !)) (init ! 7 refl (tt, tt)) $
           tests ! (cell ! 7 refl) (λ yes.
           let inside = ltb→lt (s .k) (length ms) yes in
-          let small = byte-fits (length ms) (s .k) inside gb in
+          let small = byte-fits (bytesOf L) (length ms) (s .k) inside gb in
           let next = next-fits (length ms) (s .k) inside g in
-          let m = getD ms (s .k) no-one in
+          let m = getD ms (s .k) (L .blank) in
           let to-come = drop (s .k + 1) ms in
-          let inv = subst (λ (l : List Life). facts .Inv ms x l (s .r)) (next-life ms (s .k) inside) (s .inv) in
+          let inv = subst (λ (l : List (Of L)). facts .Inv ms x l (s .r)) (next-element (L .blank) ms (s .k) inside) (s .inv) in
           -- [what the running value owns; the borrow; the token; what x owns; _3; _4; _5; _6; _7; _8; _1; _2; _0; …]
-          assigns ! (bin ! (cell ! 5 refl) (lit ! tt) (record { fits = small })) (from ! (stop !)) (store ! 6 refl (tt, record { fits = small })) $
+          assigns ! (bin ! (cell ! 5 refl) (lit ! (L .sized)) (record { fits = small })) (from ! (stop !)) (store ! 6 refl (tt, record { fits = small })) $
           assigns ! (bin ! (load ! (from ! (fld ! refl (stop !))) (look-in ! 10 (sub ! 0 refl (whole !)))) (cell ! 6 refl) tt) (from ! (stop !)) (init ! 8 refl (tt, tt)) $
-          move ! (1 ∷ 2 ∷ []) $ takes-life ! 6 7 ms (s .k) b o inside refl refl refl refl $
+          move ! (1 ∷ 2 ∷ []) $ copies-element ! L 6 7 ms (s .k) b o inside refl refl refl refl $
           -- [the token; what the element owns; the borrow; what the running value owns; what x owns; _3; _4; _5; _6; _7; _8; _1; _2; _0; …]: what the step is passed
           move ! (4 ∷ []) $ use1 W (‵ (X .own x (u ∷ [])) ⊛ ‵ (X .own x (u ∷ []))) (ξ .copies 𝓤 H A W .twice x _) $ split ! $ move ! (5 ∷ 3 ∷ 0 ∷ []) $
-          calls-step 𝓤 H A W fm R X (s .r) (s .w) m x u p t S met (facts .asked ms x m to-come (s .r) inv)
+          calls-step 𝓤 H A W fm L R X (s .r) (s .w) m x u p t S met (facts .asked ms x m to-come (s .r) inv)
           (λ i. cell ! 4 refl) (λ i. cell ! 9 refl) (λ i. cell ! 11 refl) (λ w r gave is.
           -- [what the new value owns; what x owns; the token; the borrow; _3; _4; _5; _6; _7; _8; _1; _2; _0; …]
           land ! (from ! (stop !)) (store ! 4 refl (ρ .typed 𝓤 H A W r w is)) $
@@ -304,14 +187,14 @@ module _ {M : Type 1} (𝓤 : URA M) (H : Heap 𝓤) (A : Atoms 𝓤) (W : Given
           frees-cell ! 4 7 refl refl $ frees-cell ! 4 6 refl refl $ frees-room ! 4 5 refl refl $ frees-room ! 4 4 refl refl $ free0 ! $
           -- [what the result owns; the borrow; the token; what x owns; true]
           keep ! (2 ∷ 4 ∷ 0 ∷ []) $ join ! $ use1 W (tokens W T′ c y) (id⊢ 𝓤 _) $ move ! (1 ∷ 0 ∷ []) $
-          by ! (ends W T′ c y (s .w) (s .r) (tt, (ξ .last x, tt)) unsaid (factI 𝓤 _ (emp 𝓤) (facts .all ms x (s .r) (subst (λ (l : List Life). facts .Inv ms x l (s .r)) (ap (λ (k : ℕ). drop k ms) done ∙ drop-length ms) (s .inv))))))
+          by ! (ends W T′ c y (s .w) (s .r) (tt, (ξ .last x, tt)) unsaid (factI 𝓤 _ (emp 𝓤) (facts .all ms x (s .r) (subst (λ (l : List (Of L)). facts .Inv ms x l (s .r)) (ap (λ (k : ℕ). drop k ms) done ∙ drop-length ms) (s .inv))))))
 
-    walk : Is (ShrSlice (named 0) κ L.the-row) members (v ∷ []) → Is X x (u ∷ []) → S .needs ms x → Walk W T′ c y Run
+    walk : Is (ShrSlice (named 0) κ (rowOf L)) members (v ∷ []) → Is X x (u ∷ []) → S .needs ms x → Walk W T′ c y Run
     walk is is-x needed =
         let zero = F .is x is-x in
         qed W (tokens W T′ c y ∷ passed W T′ c y ∷ []) ∵ enter ! _ _ _ _ _ $
         alloc1 ! (λ l₀. alloc1 ! (λ l₁. alloc1 ! (λ l₂. alloc1 ! (λ l₃. alloc1 ! (λ l₄. alloc1 ! (λ l₅. alloc1 ! (λ l₆. alloc1 ! (λ l₇. alloc1 ! (λ l₈. alloc0 ! $ params1 ! $
-        pass1 ! (init ! 14 refl (shr-slice-lawful 𝓤 H A W (named 0) κ L.the-row .typed members (v ∷ []) is .0)) $
+        pass1 ! (init ! 14 refl (shr-slice-lawful 𝓤 H A W (named 0) κ (rowOf L) .typed members (v ∷ []) is .0)) $
         pass1 ! (init ! 12 refl (ξ .typed 𝓤 H A W x u is-x)) $ pass0 ! $
         -- [room for _8; …; _7; …; _6; …; _5; …; _4; …; _3; …; _2; …; _1; …; room for _0; …; the token; what the members and x own]
         assigns ! (F .runs W _ _ x (cell ! 12 refl)) (from ! (stop !)) (init ! 10 refl (ρ .typed 𝓤 H A W (F .start x) (F .val x) zero)) $
@@ -325,15 +208,15 @@ module _ {M : Type 1} (𝓤 : URA M) (H : Heap 𝓤) (A : Atoms 𝓤) (W : Given
 
   pub walks : Triple 𝓤 Run (Stated W T′ c)
   walks y = clause-out t 𝓤 _ _ (λ e. facts .free e (now (y .0 .3 .0)) (y .0 .3 .1 .0)) (λ needed.
-      starts W T′ c y (slice-vals, ((λ x. ξ .val x ∷ []), tt)) (shr-slice-tells (named 0) (y .0 .0 .0) L.the-row, (ξ .tells, tt)) Run
+      starts W T′ c y (slice-vals, ((λ x. ξ .val x ∷ []), tt)) (shr-slice-tells (named 0) (y .0 .0 .0) (rowOf L), (ξ .tells, tt)) Run
       (λ are. walk (y .0 .0 .0) (y .0 .1 .0) (y .0 .3 .0) (y .0 .3 .1 .0) (are .0) (are .1 .0) needed))
 
 -- the same of a function's own routine: `name` and `env` are its key and what its calls mean
-pub meets : {M : Type 1} (𝓤 : URA M) (H : Heap 𝓤) (𝓜 : Model 𝓤 H) (𝓖 : GhostRules 𝓤 H) (𝓡 : Running 𝓤 H 𝓜) (R X : RattleType) (τ σ : Ty) (rv : RValue) (ρ : Extra R τ) (ξ : Extra X σ) (F : First R X (ξ .val) rv)
-    (p t : Bool) (S : Says R X p t) (facts : Facts R X p t S (F .start)) (env : Routines) (name step : Name)
-    → Closed 𝓤 H (tables 𝓤 H 𝓜 𝓡 env .C) (tables 𝓤 H 𝓜 𝓡 env .Λ) name (function τ σ rv p step)
-    → Triple 𝓤 (𝓡 .run (env step)) (Stated (givenOf 𝓤 H 𝓜 𝓖) (stepEnded R X p) (stepClauses R X p t S 𝓤)) → Triple 𝓤 (𝓡 .run (env name)) (Stated (givenOf 𝓤 H 𝓜 𝓖) (walkEnded R X) (walkClauses R X p t S 𝓤))
+pub meets : {M : Type 1} (𝓤 : URA M) (H : Heap 𝓤) (𝓜 : Model 𝓤 H) (𝓖 : GhostRules 𝓤 H) (𝓡 : Running 𝓤 H 𝓜) (L : Element) (R X : RattleType) (τ σ : Ty) (rv : RValue) (ρ : Extra R τ) (ξ : Extra X σ) (F : First R X (ξ .val) rv)
+    (p t : Bool) (S : Says L R X p t) (facts : Facts L R X p t S (F .start)) (env : Routines) (name step : Name)
+    → Closed 𝓤 H (tables 𝓤 H 𝓜 𝓡 env .C) (tables 𝓤 H 𝓜 𝓡 env .Λ) name (function L τ σ rv p step)
+    → Triple 𝓤 (𝓡 .run (env step)) (Stated (givenOf 𝓤 H 𝓜 𝓖) (stepEnded L R X p) (stepClauses L R X p t S 𝓤)) → Triple 𝓤 (𝓡 .run (env name)) (Stated (givenOf 𝓤 H 𝓜 𝓖) (walkEnded L R X) (walkClauses L R X p t S 𝓤))
 unfolding tablesOf
-meets 𝓤 H 𝓜 𝓖 𝓡 R X τ σ rv ρ ξ F p t S facts env name step unfolded met =
-    entered 𝓤 H (Stated (givenOf 𝓤 H 𝓜 𝓖) (walkEnded R X) (walkClauses R X p t S 𝓤)) (tables 𝓤 H 𝓜 𝓡 env .C) (tables 𝓤 H 𝓜 𝓡 env .Λ) name (function τ σ rv p step) unfolded
-    (walks 𝓤 H (𝓖 .A) (givenOf 𝓤 H 𝓜 𝓖) (tablesOf 𝓤 H 𝓜 (tables 𝓤 H 𝓜 𝓡 env)) (framed 𝓤 H 𝓜 (tables 𝓤 H 𝓜 𝓡 env)) R X τ σ rv ρ ξ F p t S facts step met)
+meets 𝓤 H 𝓜 𝓖 𝓡 L R X τ σ rv ρ ξ F p t S facts env name step unfolded met =
+    entered 𝓤 H (Stated (givenOf 𝓤 H 𝓜 𝓖) (walkEnded L R X) (walkClauses L R X p t S 𝓤)) (tables 𝓤 H 𝓜 𝓡 env .C) (tables 𝓤 H 𝓜 𝓡 env .Λ) name (function L τ σ rv p step) unfolded
+    (walks 𝓤 H (𝓖 .A) (givenOf 𝓤 H 𝓜 𝓖) (tablesOf 𝓤 H 𝓜 (tables 𝓤 H 𝓜 𝓡 env)) (framed 𝓤 H 𝓜 (tables 𝓤 H 𝓜 𝓡 env)) L R X τ σ rv ρ ξ F p t S facts step met)

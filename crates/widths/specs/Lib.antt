@@ -1,4 +1,3 @@
-pub mod Sign
 pub mod Lives
 pub mod Parts
 pub mod Adding

@@ -19,7 +19,7 @@ use Rattle.fund.specs.Base.{if_then_else_, total, alternate}
 use Rattle.fund.specs.Folding.{single}
 use Rattle.fund.specs.Transform.{row, placeOf, placed, termOf, rowTerms, singleTerms, weight, replacedTerm, replacedTerms}
 use Rattle.widths.specs.Adding.{addD, addH, sizeD, sizeH, Room, TermRoom, Row, termsAt, lifeTerms}
-use Rattle.widths.specs.Sign.{signed}
+use Rattle.whole.specs.Sign.{signed}
 use Rattle.widths.specs.AddingLaws.{addH-append}
 use Rattle.widths.specs.Signed.{natAbs-neg}
 use Rattle.widths.specs.Triangle.{row-within, within-at}

@@ -9,7 +9,7 @@ use lib.IntN.{ℤ, pos, negsuc, negℤ, natAbs, subℕ, _+ℤ_, _-ℤ_}
 use mir.Syntax.{w64}
 use mir.Val.{SFits, toZ, ofZ}
 use mir.Facts.{toZ-ofZ, toZ-pos}
-use Rattle.widths.specs.Sign.{signed}
+use Rattle.whole.specs.Sign.{signed}
 
 natAbs-sub : (a b : ℕ) → natAbs (subℕ a b) ≤ a + b
 natAbs-sub a b = go (ltb a b) (ltb→lt a b) (nltb→le a b)

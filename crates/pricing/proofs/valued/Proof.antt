@@ -1,14 +1,12 @@
 -- `pricing::valued`: where refusals 3 to 6 stop, the call stops with their line; else the answer is that of the valuation.
-use mathlib.Core.Path.{sym, _∙_, ap}
-use borrow.Author.Needs.{needs, sfits-of}
-use mir.Syntax.{w64}
-use mir.Facts.{toZ-ofZ}
+use mathlib.Core.Path.{refl, sym, _∙_, ap}
+use borrow.Author.Needs.{needs}
 use Rattle.fund.specs.declared.Fund.{Fund}
 use Rattle.fund.specs.Answer.{answer}
 use Rattle.valuation.specs.Valued.{lengths}
 use Rattle.pricing.specs.Priced.{horizonWith}
-use Rattle.pricing.proofs.Valuing.{under-header, handed-answers, matched-answers, valued-answers}
-use Rattle.pricing.proofs.Reading.{matched-verdict, matched-lives, few-enrolled, few-lives}
+use Rattle.pricing.proofs.Valuing.{handed-answers, matched-answers, valued-answers}
+use Rattle.pricing.proofs.Reading.{matched-verdict, matched-lives, few-enrolled}
 use Rattle.pricing.proofs.valued.Statement.{statement}
 use Rattle.pricing.proofs.valued.Tie as tie
 
@@ -21,10 +19,8 @@ stopped-requires c κs = search needs
 enum-told : tie.Need-enum-told
 enum-told c = search needs
 
-lent-requires : tie.Need-lent-requires
-lent-requires c κs =
-    let o = c .before .before .before .before .before .before .before .before .before .before in
-    few-enrolled _ _ _ _ (o .pre)
+value-requires : tie.Need-value-requires
+value-requires c κs = search needs
 
 horizon-of-requires : tie.Need-horizon-of-requires
 horizon-of-requires c κs = search needs
@@ -71,13 +67,13 @@ returns-2 c =
     let a = o .args in
     let k = o .pre in
     let m = a .matched in
-    let v = lent .lent in
+    let v = lent .value in
     let n = lengths (a .transform .now) (a .h .now) (a .f .now) (a .r .now) in
     let accepted = told .enum-told .given .1 in
-    let horizon = c .before .horizon-of .ensures ∙ ap (λ (x : Fund). horizonWith (v .result .verdict) (x .horizon)) (k .header) in
+    let horizon = c .horizon-of .ensures ∙ ap (λ (x : Fund). horizonWith (v .result .verdict) (x .horizon)) (k .header) in
     let same = matched-lives _ _ m _ k accepted in
-    handed-answers _ n (k .of) (k .is) (answer (a .file .now) n) (v .result) _ _ _ _ _ _ horizon (toZ-ofZ (sfits-of {w = w64} (v .ok .1 .1 .1 .1 .1 .1 .0 .1)))
-    (valued-answers _ n (k .of) (k .is) _ (sym (matched-verdict _ _ m _ k) ∙ accepted) same _ _ (few-lives _ _ m _ k) (under-header _ _ _ _ _ _ (k .header) (v .ensures)))
+    handed-answers _ n (k .of) (k .is) (answer (a .file .now) n) (v .result) _ _ _ _ _ _ horizon refl
+    (valued-answers _ n (k .of) (k .is) _ (sym (matched-verdict _ _ m _ k) ∙ accepted) same _ _ _ (k .header) (few-enrolled _ _ _ _ k) (v .ensures))
 
 pub valued-spec : {M : Type 1} → statement M
 valued-spec =
@@ -86,7 +82,7 @@ valued-spec =
     enum-known-verdict
     stopped-requires
     enum-told
-    lent-requires
+    value-requires
     horizon-of-requires
     same-length
     same-length-2

@@ -1,34 +1,26 @@
--- The transform is within the recursion's limits, and so is the start in its cells.
-use borrow.Author.Needs.{needs}
-use Rattle.valuation.specs.Valued.{lengths}
-use Rattle.valuation.proofs.Valuing.{cells-same, recurs-as, above, kept-long, limits, first-in, inside, summed, fit}
+-- The recursion's answer is settled; the slices keep their lengths.
+use borrow.Author.Needs.{needs, sfits-of}
+use mir.Syntax.{w64}
+use mir.Val.{SFits}
+use mir.Facts.{toZ-ofZ}
+use Rattle.valuation.proofs.Settling.{recursed-for, answered-for}
 use Rattle.valuation.proofs.recursed.Statement.{statement}
 use Rattle.valuation.proofs.recursed.Tie as tie
 
-put-start-requires : tie.Need-put-start-requires
-put-start-requires c κs =
-    let k = c .before .before .before .before .before .pre .ready .fits in
-    (above (k .f-long), above (k .r-long))
-
 recursion-requires : tie.Need-recursion-requires
-recursion-requires c κs =
-    let s = c .before .before .before .before .before .before .before .before .before .before .before in
+recursion-requires c κs = search needs
+
+-- f(0) is held as it is
+cell-fits : (s : tie.Start) → SFits w64 (s .args .t .cell)
+cell-fits s = sfits-of {w = w64} (s .good .1 .0 .1 .1 .1 .1 .1 .1 .0 .1)
+
+settled-requires : tie.Need-settled-requires
+settled-requires c κs =
+    let o = c .before .before .before .before .before .before .before in
+    let s = o .before .before .before .before .before .before .before .before in
     let a = s .args in
-    let ms = s .pre .ms in
-    let k = s .pre .ready in
-    let n = lengths (a .transform .now) (a .h .now) (a .f .now) (a .r .now) in
-    let m = inside (a .fund) ms (a .t) (a .transform .now) (a .h .now) (a .f .now) (a .r .now) k in
-    let ok = fit (a .fund) ms (a .t) (a .transform .now) (a .h .now) (a .f .now) (a .r .now) k in
-    let put = c .before .before .before .before .before .put-start in
-    let cells = k .known .filled (k .fits) in
-    let start = first-in ms (m .0) (a .fund) n (m .1) ok (a .t) (summed (a .fund) ms (a .t) (a .transform .now) (a .h .now) (a .f .now) (a .r .now) k) (a .f .now) _ (a .r .now) _ (put .ensures .0) (put .ensures .1) (above (ok .f-long)) (above (ok .r-long)) in (
-      limits ms (m .0) (a .fund) n (m .1) ok _ _ _ _ (cells .0) (cells .1),
-      (
-        kept-long (a .fund .horizon) (a .f .now) _ _ (put .ensures .0) (ok .f-long),
-        kept-long (a .fund .horizon) (a .r .now) _ _ (put .ensures .1) (ok .r-long),
-        start .limited,
-      ),
-    )
+    let k = o .recursion .kept .1 .1 .1 .1 .1 in
+    recursed-for (a .fund) (a .t) (o .recursion .result) (a .transform .now) (a .h .now) _ _ _ _ (k .0) (k .1 .0) (s .pre) (rw (toZ-ofZ (cell-fits s)) at (o .recursion .ensures))
 
 same-length : tie.Need-same-length
 same-length c = search needs
@@ -36,21 +28,27 @@ same-length c = search needs
 same-length-2 : tie.Need-same-length-2
 same-length-2 c = search needs
 
+same-length-3 : tie.Need-same-length-3
+same-length-3 c = search needs
+
+same-length-4 : tie.Need-same-length-4
+same-length-4 c = search needs
+
 returns : tie.Need-returns
-returns c ms k =
-    let s = c .before .before .before .before .before .before .before .before .before .before .before .before .before .before .before in
-    let a = s .args in
-    let n = lengths (a .transform .now) (a .h .now) (a .f .now) (a .r .now) in
-    let m = inside (a .fund) ms (a .t) (a .transform .now) (a .h .now) (a .f .now) (a .r .now) k in
-    let ok = fit (a .fund) ms (a .t) (a .transform .now) (a .h .now) (a .f .now) (a .r .now) k in
-    let put = c .before .before .before .before .before .before .before .before .before .put-start in
-    let rec = c .before .before .before .recursion in
-    let cells = k .known .filled (k .fits) in
-    let start = first-in ms (m .0) (a .fund) n (m .1) ok (a .t) (summed (a .fund) ms (a .t) (a .transform .now) (a .h .now) (a .f .now) (a .r .now) k) (a .f .now) _ (a .r .now) _ (put .ensures .0) (put .ensures .1) (above (ok .f-long)) (above (ok .r-long)) in
-    recurs-as (a .fund .horizon) _ _ (a .f .now) _ (rec .last .1 .1 .1 .0) (a .r .now) _ (rec .last .1 .1 .1 .1 .0) _ _ (rec .result)
-    (cells-same (a .fund) ms _ _ _ _ (put .last .0) (put .last .1 .0) (cells .0) (cells .1) (start .is))
-    (put .ensures .0) (put .ensures .1) (rec .ensures)
+returns c =
+    let o = c .before .before .before .before .before .before .before .before .before .before .before in
+    let a = o .before .before .before .before .before .before .before .before .args in
+    let k = o .recursion .kept .1 .1 .1 .1 .1 in
+    answered-for (a .fund) (a .t) (o .recursion .result) (a .transform .now) (a .h .now) _ _ _ _ (k .0) (k .1 .0) _ _ _ (c .before .before .before .settled .ensures)
 
 pub recursed-spec : {M : Type 1} → statement M
 recursed-spec =
-    tie.close (tie.spec put-start-requires recursion-requires same-length same-length-2 returns)
+    tie.close
+    (tie.spec
+    recursion-requires
+    settled-requires
+    same-length
+    same-length-2
+    same-length-3
+    same-length-4
+    returns)

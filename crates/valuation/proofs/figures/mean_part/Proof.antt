@@ -18,14 +18,14 @@ most c = omega (arith, amount-le (c .args .m) (c .pre .0), c .pre .0 .rates)
 by-frequency : (c : tie.Start) → amount (c .args .m) * c .args .a ≤ 65535000000 * 5000
 by-frequency c = mul-le-mul (most c) (c .pre .1)
 
-weighed-requires : tie.Need-weighed-requires
-weighed-requires c κs = omega (arith, most c)
+by-rate-requires : tie.Need-by-rate-requires
+by-rate-requires c κs = omega (arith, most c)
 
-weighed-requires-2 : tie.Need-weighed-requires-2
-weighed-requires-2 c κs = omega (arith, most (c .before))
+by-rate-requires-2 : tie.Need-by-rate-requires-2
+by-rate-requires-2 c κs = omega (arith, most (c .before))
 
-both : (c : tie.After-weighed2) → c .before .weighed .result + c .weighed2 .result ≡ amount (c .before .before .args .m)
-both c = ap₂ _+_ (c .before .weighed .ensures) (c .weighed2 .ensures)
+both : (c : tie.After-by-rate2) → c .before .by-rate .result + c .by-rate2 .result ≡ amount (c .before .before .args .m)
+both c = ap₂ _+_ (c .before .by-rate .ensures) (c .by-rate2 .ensures)
 
 add-amount : tie.Need-add-amount
 add-amount c = omega (arith, both c, most (c .before .before))
@@ -49,8 +49,8 @@ pub mean-part-spec : {M : Type 1} → statement M
 mean-part-spec =
     tie.close
     (tie.spec
-    weighed-requires
-    weighed-requires-2
+    by-rate-requires
+    by-rate-requires-2
     add-amount
     mul-result
     returns

@@ -22,7 +22,7 @@ sub-up : tie.Need-sub-up
 sub-up c = search needs
 
 up-requires : tie.Need-up-requires
-up-requires c κs = omega (arith, product (c .before))
+up-requires c κs = search needs
 
 returns : tie.Need-returns
 returns c = c .up .ensures

@@ -16,7 +16,7 @@ sub-up : tie.Need-sub-up
 sub-up c = search needs
 
 up-requires : tie.Need-up-requires
-up-requires c κs = omega (arith, c .before .before .before .pre .limited (eq-eqb _ _ (c .before .if1 .taken)))
+up-requires c κs = search needs
 
 returns : tie.Need-returns
 unfolding unit

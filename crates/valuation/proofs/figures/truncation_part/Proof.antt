@@ -59,7 +59,7 @@ mul-up-2 : tie.Need-mul-up-2
 mul-up-2 c = omega (arith, divisor c .1)
 
 up-requires : tie.Need-up-requires
-up-requires c κs = omega (arith, product c, divisor c)
+up-requires c κs = search needs
 
 returns : tie.Need-returns
 returns c =

@@ -13,7 +13,9 @@ use Rattle.fund.specs.declared.Life.{Life}
 use Rattle.laws.specs.Accepted.{All}
 use Rattle.widths.specs.Lives.{InRange}
 use Rattle.laws.specs.Tells.{Tells}
-use Rattle.walks.specs.WalkTable.{Says, Extra, First, Facts, meets}
+use Rattle.walks.specs.WalkForm.{Says, Extra, First, Facts}
+use Rattle.walks.specs.WalkTable.{meets}
+use Rattle.valuation.proofs.LifeElement.{life}
 use Rattle.valuation.proofs.inside.inside_step.Symbol.{name as #step}
 use Rattle.valuation.proofs.inside.inside_step.Met as step-thm
 use Rattle.valuation.proofs.inside.all_inside.Key.{name as #all-inside}
@@ -38,7 +40,7 @@ from-x : First bool bool (bool-local .val) given
 unfolding bool-local
 from-x = record { start = λ x. x; val = vbool; is = λ x is. is; runs = λ W Γ E x o. of-opd ! o }
 
-abbrev says : Says bool bool false false
+abbrev says : Says life bool bool false false
 says = record {
   asks = λ r m x. Unit {0};
   gives = λ r m x r′. Tells r′ ((r ≡ true) × InRange m);
@@ -51,7 +53,7 @@ record So-far (r : Bool) (rest : List Life) (P : Type 0) : Type 0 where
   yes : (r ≡ true) × All InRange rest → P
   no : P → (r ≡ true) × All InRange rest
 
-facts : Facts bool bool false false says (λ x. x)
+facts : Facts life bool bool false false says (λ x. x)
 facts = record {
   free = λ e ms x. tt;
   Inv = λ ms x rest r. So-far r rest ((x ≡ true) × All InRange ms);
@@ -64,4 +66,4 @@ facts = record {
 pub all-inside-spec : {M : Type 1} → statement M
 unfolding code.routine bool-local from-x
 all-inside-spec 𝓤 H 𝓜 𝓖 𝓡 =
-    meets 𝓤 H 𝓜 𝓖 𝓡 bool bool tyBool tyBool given bool-local bool-local from-x false false says facts code.env #all-inside #step (code.unfolded 𝓤 H 𝓜 𝓡) (step-thm.met 𝓤 H 𝓜 𝓖 𝓡)
+    meets 𝓤 H 𝓜 𝓖 𝓡 life bool bool tyBool tyBool given bool-local bool-local from-x false false says facts code.env #all-inside #step (code.unfolded 𝓤 H 𝓜 𝓡) (step-thm.met 𝓤 H 𝓜 𝓖 𝓡)

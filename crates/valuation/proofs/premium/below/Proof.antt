@@ -10,8 +10,8 @@ use mir.Syntax.{w64}
 use mir.Val.{toZ, ofZ}
 use mir.Facts.{toZ-ofZ}
 use Rattle.valuation.specs.Premium.{BelowTo}
-use Rattle.valuation.proofs.Growing.{sumN-grow, sumN-term}
-use Rattle.valuation.proofs.Weighed.{below-none, below-more}
+use Rattle.recursion.proofs.Growing.{sumN-grow, sumN-term}
+use Rattle.valuation.proofs.WeighedCells.{below-none, below-more}
 use Rattle.valuation.proofs.premium.below.Statement.{statement}
 use Rattle.valuation.proofs.premium.below.Tie as tie
 
@@ -26,30 +26,30 @@ loop-holds c =
     let a = c .before .args in
     (omega arith, below-none (a .deductible) (a .f .now) (a .r .now))
 
-sub-weighed : tie.Need-sub-weighed Inv-loop μ-loop
-sub-weighed c = omega arith
+sub-with-cell : tie.Need-sub-with-cell Inv-loop μ-loop
+sub-with-cell c = omega arith
 
-mul-weighed : tie.Need-mul-weighed Inv-loop μ-loop
-mul-weighed c = omega arith
+mul-with-cell : tie.Need-mul-with-cell Inv-loop μ-loop
+mul-with-cell c = omega arith
 
-shared-slice-copy-out-weighed : tie.Need-shared-slice-copy-out-weighed Inv-loop μ-loop
-shared-slice-copy-out-weighed c = omega arith
+shared-slice-copy-out-with-cell : tie.Need-shared-slice-copy-out-with-cell Inv-loop μ-loop
+shared-slice-copy-out-with-cell c = omega arith
 
-mul-weighed-2 : tie.Need-mul-weighed-2 Inv-loop μ-loop
-mul-weighed-2 c = omega arith
+mul-with-cell-2 : tie.Need-mul-with-cell-2 Inv-loop μ-loop
+mul-with-cell-2 c = omega arith
 
-shared-slice-read-weighed : tie.Need-shared-slice-read-weighed Inv-loop μ-loop
-shared-slice-read-weighed c = omega arith
+shared-slice-read-with-cell : tie.Need-shared-slice-read-with-cell Inv-loop μ-loop
+shared-slice-read-with-cell c = omega arith
 
 -- what was read of f is the element
 read-f : (c : tie.After-shared-slice-known2 Inv-loop μ-loop) →
     let a = c .before .before .before .before .before .args in
     let x = c .before .before .before .loop .x in
     toZ w64 (ofZ w64 (getD (a .f .now) x (pos 0))) ≡ getD (a .f .now) x (pos 0)
-read-f c = toZ-ofZ (sfits-of (c .before .weighed-arg .given))
+read-f c = toZ-ofZ (sfits-of (c .before .with-cell-arg .given))
 
-weighed-requires : tie.Need-weighed-requires Inv-loop μ-loop
-weighed-requires c κs =
+with-cell-requires : tie.Need-with-cell-requires Inv-loop μ-loop
+with-cell-requires c κs =
     let s = c .before .before .before .before .before in
     let a = s .args in
     let l = c .before .before .before .loop in
@@ -75,8 +75,8 @@ loop-again c =
     let l = c .before .before .before .before .loop in (
       omega arith,
       rw add-one
-          (below-more (a .deductible) (a .f .now) (a .r .now) (l .x) (l .s) (c .weighed .result) (s .pre) (omega arith) (l .inv .1)
-          (rw (read-f (c .before)) at (c .weighed .ensures))),
+          (below-more (a .deductible) (a .f .now) (a .r .now) (l .x) (l .s) (c .with-cell .result) (s .pre) (omega arith) (l .inv .1)
+          (rw (read-f (c .before)) at (c .with-cell .ensures))),
     )
 
 returns : tie.Need-returns Inv-loop μ-loop
@@ -93,12 +93,12 @@ below-spec =
     Inv-loop
     μ-loop
     loop-holds
-    sub-weighed
-    mul-weighed
-    shared-slice-copy-out-weighed
-    mul-weighed-2
-    shared-slice-read-weighed
-    weighed-requires
+    sub-with-cell
+    mul-with-cell
+    shared-slice-copy-out-with-cell
+    mul-with-cell-2
+    shared-slice-read-with-cell
+    with-cell-requires
     add-x
     loop-less
     loop-again

@@ -16,9 +16,9 @@ use types.Part.{agg}
 use types.Run.{lit, and-then, no-more}
 use denote.Builtin.{u64}
 use denote.Struct.Laws as LL
-use Rattle.algebra.specs.Integer.{negℤ-*ℤ}
 use Rattle.rounding.specs.Rounding.{near, nearest}
-use Rattle.rounding.proofs.Laws.{near-below, nearest-pos, nearest-neg}
+use Rattle.rounding.proofs.Laws.{near-below}
+use Rattle.whole.proofs.Signs.{nearest-times}
 use Rattle.fund.specs.declared.Life.{Life}
 use Rattle.fund.specs.Base.{if_then_else_, total}
 use Rattle.fund.specs.Folding.{stay, single}
@@ -26,11 +26,13 @@ use Rattle.fund.specs.Limits.{most-members}
 use Rattle.fund.specs.Recursion.{multiplied}
 use Rattle.laws.specs.Accepted.{All}
 use Rattle.widths.specs.Lives.{InRange}
-use Rattle.widths.specs.Sign.{signed}
+use Rattle.whole.specs.Sign.{signed}
 use Rattle.valuation.specs.declared.start.Product.{Product}
 use Rattle.valuation.specs.Table.{Members}
 use Rattle.valuation.specs.Start.{most-t, one, Times, Multiplied}
-use Rattle.walks.specs.WalkTable.{word, Says, Extra, First, Facts, meets}
+use Rattle.walks.specs.WalkForm.{word, Says, Extra, First, Facts}
+use Rattle.walks.specs.WalkTable.{meets}
+use Rattle.valuation.proofs.LifeElement.{life}
 use Rattle.valuation.proofs.LifeSums.{u64-local}
 use Rattle.valuation.proofs.start.Product as P
 use Rattle.valuation.proofs.start.Product.Laws as P′
@@ -41,14 +43,6 @@ use Rattle.valuation.proofs.start.multiplied.Statement.{statement}
 use Rattle.valuation.proofs.start.multiplied.Code as code
 
 -- ---- the product's sign
-nearest-signed : (s : Bool) (m n : ℕ) → 0 < n → nearest (signed s m) n ≡ signed s (near m n)
-nearest-signed true m n h = nearest-neg (pos m) n h ∙ ap negℤ (nearest-pos m n)
-nearest-signed false m n h = nearest-pos m n
-
-nearest-times : (s : Bool) (m p n : ℕ) → 0 < n → nearest (signed s m *ℤ pos p) n ≡ signed s (near (m * p) n)
-nearest-times true m p n h = ap (λ z. nearest z n) (negℤ-*ℤ (pos m) (pos p)) ∙ nearest-signed true (m * p) n h
-nearest-times false m p n h = nearest-signed false (m * p) n h
-
 factor : (s b : Bool) (size k : ℕ) → (if b then nearest (signed s size *ℤ pos k) (10 ^ 6) else signed s size) ≡ signed s (if b then near (size * k) 1000000 else size)
 factor s true size k = nearest-times s size k (10 ^ 6) (omega arith)
 factor s false size k = refl
@@ -85,7 +79,7 @@ from-size = record {
   runs = λ W Γ E x o. agg ! (and-then ! o (and-then ! (lit ! tt) (no-more !)));
 }
 
-abbrev says : Says P.the-row u64 false true
+abbrev says : Says life P.the-row u64 false true
 says = record {
   asks = λ p m x. InRange m × (p .size ≤ 200 * most-t) × (p .singles ≤ most-members);
   gives = λ p m x r. Times m p r;
@@ -112,7 +106,7 @@ more ms x m rest p i r g = record {
   count-within = omega (arith, i .count-within, g .count-is, one-most (single m));
 }
 
-facts : Facts P.the-row u64 false true says (λ x. record { size = x; singles = 0 })
+facts : Facts life P.the-row u64 false true says (λ x. record { size = x; singles = 0 })
 unfolding multiplied total
 facts = record {
   free = λ e. absurd (true≢false e);
@@ -126,4 +120,4 @@ facts = record {
 pub multiplied-spec : {M : Type 1} → statement M
 unfolding code.routine product-local u64-local from-size
 multiplied-spec 𝓤 H 𝓜 𝓖 𝓡 =
-    meets 𝓤 H 𝓜 𝓖 𝓡 P.the-row u64 P′.mir word first-product product-local u64-local from-size false true says facts code.env #multiplied #step (code.unfolded 𝓤 H 𝓜 𝓡) (step-thm.met 𝓤 H 𝓜 𝓖 𝓡)
+    meets 𝓤 H 𝓜 𝓖 𝓡 life P.the-row u64 P′.mir word first-product product-local u64-local from-size false true says facts code.env #multiplied #step (code.unfolded 𝓤 H 𝓜 𝓡) (step-thm.met 𝓤 H 𝓜 𝓖 𝓡)

@@ -22,10 +22,7 @@ mul-up-2 : tie.Need-mul-up-2
 mul-up-2 c = search needs
 
 up-requires : tie.Need-up-requires
-up-requires c κs =
-    let a = c .before .args in
-    let p = c .before .pre in
-    (omega (arith, p), omega (arith, p, product-within (a .c) (a .lambda) (p .0) (p .1)))
+up-requires c κs = search needs
 
 returns-2 : tie.Need-returns-2
 returns-2 c =

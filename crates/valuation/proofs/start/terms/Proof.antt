@@ -1,11 +1,15 @@
 -- `terms` meets its contract. The loop's invariant: t and c are t(n) and c(n), and the sums are those over the first n.
 use mathlib.Core.Path.{_≡_, sym, ap, ap₂, subst, _∙_}
-use Prim.Native.Nat.{_+_, _-_, _*_, _^_, _≤_}
+use Prim.Native.Nat.{_+_, _-_, _*_, _%_, _^_, _≤_}
+use lib.Dec.{eqb}
 use native.Mathlib.Numerals.{add-one}
 use native.Mathlib.Omega.{arith}
 use Rattle.rounding.specs.Rounding.{near}
 use Rattle.fund.specs.Recursion as R
 use Rattle.valuation.specs.Start.{most-t, most-c, nextC, TermsTo}
+use borrow.Author.Needs.{needs}
+use Rattle.whole.specs.Sums.{PartFits}
+use Rattle.whole.proofs.Signs.{with-part-is}
 use Rattle.valuation.proofs.Terms.{t-first, t-next, t-within, c-first, c-next, c-within, terms-none, terms-more}
 use Rattle.valuation.proofs.start.terms.Statement.{statement}
 use Rattle.valuation.proofs.start.terms.Tie as tie
@@ -33,11 +37,14 @@ c-is c =
     rw (l .inv .2) (c-within (c .before .before .args .lambda) (c .before .before .pre) (l .n) (c .loop-test .taken))
 
 with-part-requires : tie.Need-with-part-requires Inv-loop μ-loop
-with-part-requires c κs =
+with-part-requires c κs = search needs
+
+part-fits : (c : tie.In-loop Inv-loop μ-loop) → PartFits (c .before .loop .s) (c .before .loop .t) (c .before .loop .c)
+part-fits c =
     let i = c .before .loop .inv .3 in
     let t = t-is c in
     let few = c-is c in
-    (omega (arith, i .plus-within), omega (arith, i .minus-within), omega (arith, i .bound-within))
+    record { plus-fits = omega (arith, i .plus-within); minus-fits = omega (arith, i .minus-within); bound-fits = omega (arith, i .bound-within) }
 
 add-n : tie.Need-add-n Inv-loop μ-loop
 add-n c = omega arith
@@ -68,7 +75,7 @@ loop-again c =
           ∙ ap (R.c lambda) (sym (add-one (l .n))),
       rw add-one
           (terms-more lambda (l .n) (l .s) (c .before .before .with-part .result) load (c .before .before .before .loop-test .taken) (l .inv .3)
-          (rw (l .inv .1, l .inv .2) at (c .before .before .with-part .ensures))),
+          (rw (c .before .before .with-part .ensures, ← l .inv .1, ← l .inv .2) (with-part-is (l .s) (eqb (l .n % 2) 1) (l .t) (l .c) (part-fits (c .before .before .before))))),
     )
 
 returns : tie.Need-returns Inv-loop μ-loop

@@ -10,7 +10,7 @@ add-single-requires c κs =
     let s = c .before .before .before .before .before in
     let a = s .args in
     let e = eq-eqb _ _ (c .before .before .if1 .taken) in
-    (s .pre .0, e, s .pre .1, rw (life-single (a .horizon) (a .order) (a .a) (a .m) e) at (s .pre .3))
+    (s .pre .in-range, e, s .pre .order, rw (life-single (a .x .horizon) (a .x .order) (a .x .frequency) (a .m) e) at (s .pre .room))
 
 same-length : tie.Need-same-length
 same-length c = search needs
@@ -22,16 +22,16 @@ returns : tie.Need-returns
 returns c =
     let n = c .before .before .before .before .before .before in
     let a = n .before .before .before .args in
-    let e = life-single (a .horizon) (a .order) (a .a) (a .m) (eq-eqb _ _ (n .if1 .taken)) in
+    let e = life-single (a .x .horizon) (a .x .order) (a .x .frequency) (a .m) (eq-eqb _ _ (n .if1 .taken)) in
     let t = c .before .before .before .add-single .ensures in
-    (rw e (t .0), rw e (t .1))
+    record { d-is = rw e (t .0); h-is = rw e (t .1) }
 
 add-replaced-requires : tie.Need-add-replaced-requires
 add-replaced-requires c κs =
     let s = c .before .before .before .before in
     let a = s .args in
-    let e = life-replaced (a .horizon) (a .order) (a .a) (a .m) (ne-eqb _ _ (c .before .if1 .left)) in
-    (s .pre .0, s .pre .2, rw e at (s .pre .3 .inD))
+    let e = life-replaced (a .x .horizon) (a .x .order) (a .x .frequency) (a .m) (ne-eqb _ _ (c .before .if1 .left)) in
+    (s .pre .in-range, s .pre .frequency, rw e at (s .pre .room .inD))
 
 same-length-3 : tie.Need-same-length-3
 same-length-3 c = search needs
@@ -40,8 +40,8 @@ returns-2 : tie.Need-returns-2
 returns-2 c =
     let n = c .before .before .before in
     let a = n .before .before .before .args in
-    let e = life-replaced (a .horizon) (a .order) (a .a) (a .m) (ne-eqb _ _ (n .if1 .left)) in
-    (rw e (c .before .add-replaced .ensures), rw e (replaced-none (a .horizon) (a .a) (a .m) (a .h .now)))
+    let e = life-replaced (a .x .horizon) (a .x .order) (a .x .frequency) (a .m) (ne-eqb _ _ (n .if1 .left)) in
+    record { d-is = rw e (c .before .add-replaced .ensures); h-is = rw e (replaced-none (a .x .horizon) (a .x .frequency) (a .m) (a .h .now)) }
 
 pub add-life-spec : {M : Type 1} → statement M
 add-life-spec =

@@ -42,7 +42,7 @@ mul-nearest : tie.Need-mul-nearest
 mul-nearest c = omega (arith, product (c .before .before .before .before))
 
 nearest-requires : tie.Need-nearest-requires
-nearest-requires c κs = omega (arith, product (c .before .before .before .before))
+nearest-requires c κs = search needs
 
 shift-requires : tie.Need-shift-requires
 shift-requires c κs = search needs

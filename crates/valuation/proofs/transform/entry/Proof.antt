@@ -36,7 +36,7 @@ sub-nearest : tie.Need-sub-nearest
 sub-nearest c = search needs
 
 nearest-requires : tie.Need-nearest-requires
-nearest-requires c κs = omega (arith, products (c .before .before .before .before))
+nearest-requires c κs = search needs
 
 returns-2 : tie.Need-returns-2
 returns-2 c = search needs

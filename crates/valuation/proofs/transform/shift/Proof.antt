@@ -5,7 +5,7 @@ use lib.IntN.{pos, _+ℤ_}
 use lib.ListN.{getD, set}
 use mir.Syntax.{w64}
 use mir.Facts.{toZ-ofZ}
-use Rattle.widths.specs.Sign.{signed}
+use Rattle.whole.specs.Sign.{signed}
 use Rattle.valuation.proofs.transform.shift.Statement.{statement}
 use Rattle.valuation.proofs.transform.shift.Tie as tie
 

@@ -1,0 +1,204 @@
+-- The ranges and the refusals 7, 8 and 9, from the totals: what the tests answer (tested-range, tested-load, tested-order, tested-short), what is left where
+-- one of them refuses (left-refused), and what is known where none does (fillable, ready, verdict-passed).
+use mathlib.Core.Path.{_≡_, refl, sym, _∙_, ap, subst}
+use mathlib.Core.Bool.{Bool, true, false, true≢false}
+use mathlib.Core.List.{List, [], _∷_}
+use Prim.Native.Nat.{ℕ, min, _+_, _<_, _≤_}
+use native.Mathlib.Omega.{arith}
+use borrow.Author.Tests.{lt-ltb, le-ltb, ltb-true, ltb-false}
+use lib.Dec.{ltb}
+use lib.IntN.{ℤ, pos}
+use lib.ListN.{length, take, getD, replicate, length-take, length-replicate, getD-replicate}
+use types.Run.{OneOf}
+use denote.Enum.Declared as Declared
+use Rattle.fund.specs.declared.Fund.{Fund}
+use Rattle.fund.specs.declared.Life.{Life}
+use Rattle.fund.specs.declared.Refusal.{Refusal}
+use Rattle.fund.specs.declared.Refusal.the-variants as refusal
+use Rattle.fund.specs.declared.Verdict.{Verdict}
+use Rattle.fund.specs.declared.Verdict.the-variants.{Accepted, Refused}
+use Rattle.fund.proofs.Verdict as Ver
+use Rattle.fund.specs.Base.{if_then_else_}
+use Rattle.fund.specs.Limits.{most-members, most-load, most-truncation}
+use Rattle.fund.specs.Lines.{lines, linesFrom}
+use Rattle.fund.specs.Transform.{load, truncation}
+use Rattle.fund.specs.Refusals.{Lengths, short, refuse, at0, valued, first, wide}
+use Rattle.fund.specs.Answer.{Answer, empty, part, lineAt, noFigures, refused, fundTerms, fundCells}
+use Rattle.laws.specs.Tells.{Tells, tells-not}
+use Rattle.recursion.proofs.Tested.{Long, long-of}
+use Rattle.valuation.specs.declared.Valued.{Valued}
+use Rattle.valuation.specs.declared.totals.Totals.{Totals}
+use Rattle.valuation.specs.Table.{Members}
+use Rattle.valuation.specs.Inside.{HeaderIn, inside}
+use Rattle.valuation.specs.Filling.{TableFits, TableAdded}
+use Rattle.valuation.specs.Totals.{LivesTotals, TableTotals}
+use Rattle.valuation.specs.Valued.{left, outcome, Zeros, verdictOf, valuation}
+use Rattle.valuation.specs.Steps.{TotalsFor, testedOf, Passed, Tested, Fillable, TransformFilled, ReadyFor, Answers}
+use Rattle.valuation.proofs.InsideTells.{inside-tells}
+
+-- ---- the tests
+module _ (fund : Fund) (t : Totals) (n : Lengths) where
+  pub tested-range : t .inside ≡ false → testedOf fund t n ≡ Refused refusal.Range 0
+  unfolding testedOf
+  tested-range e = rw e
+
+  module _ (e : t .inside ≡ true) where
+    pub tested-load : most-load < t .load → testedOf fund t n ≡ Refused refusal.Load 0
+    unfolding testedOf refuse at0
+    tested-load l = rw (e, lt-ltb _ _ l)
+
+    module _ (l : t .load ≤ most-load) where
+      pub tested-order : most-truncation < t .truncation → testedOf fund t n ≡ Refused refusal.Order 0
+      unfolding testedOf refuse at0
+      tested-order k = rw (e, le-ltb _ _ l, lt-ltb _ _ k)
+
+      pub tested-short : t .truncation ≤ most-truncation → short n (fund .horizon) ≡ true → testedOf fund t n ≡ Refused refusal.Short 0
+      unfolding testedOf refuse at0
+      tested-short k s = rw (e, le-ltb _ _ l, le-ltb _ _ k, s)
+
+-- ---- a refusal
+abbrev chain : Bool → Bool → Bool → Verdict → Verdict
+chain a b c after = refuse refusal.Load (at0 a) (refuse refusal.Order (at0 b) (refuse refusal.Short (at0 c) after))
+
+-- what is refused before the last test is refused whatever follows
+refused-alike : (a b c : Bool) (after : Verdict) (why : Refusal) (place : ℕ) → chain a b c Accepted ≡ Refused why place → chain a b c after ≡ Refused why place
+unfolding refuse at0
+refused-alike true b c after why place e = e
+refused-alike false true c after why place e = e
+refused-alike false false true after why place e = e
+refused-alike false false false after why place e = let z : _≡_ {A = ℕ} 0 1 = cc in absurd (omega arith)
+
+no-part : (i a b c : Bool) → part [] (if i then chain a b c Accepted else Refused refusal.Range 0) ≡ empty
+unfolding part refuse at0 lineAt lines linesFrom
+no-part false a b c = refl
+no-part true true b c = refl
+no-part true false true c = refl
+no-part true false false true = refl
+no-part true false false false = refl
+
+-- the cap of the truncation figure does not hide a refusal
+capped : (m x : ℕ) → ltb m (min x (m + 1)) ≡ ltb m x
+capped m x = go (ltb m x) refl
+  where
+    go : (b : Bool) → ltb m x ≡ b → ltb m (min x (m + 1)) ≡ b
+    go true e = let l = ltb-true m x e in lt-ltb m (min x (m + 1)) (omega arith)
+    go false e = let l = ltb-false m x e in le-ltb m (min x (m + 1)) (omega arith)
+
+module _ (fund : Fund) (count : ℕ) (ms : List Life) (fewer : length ms ≤ count) (t : Totals) (for : TotalsFor fund count ms t) (n : Lengths) where
+  tests : t .inside ≡ inside fund count ms
+  tests = go (t .inside) (inside fund count ms) refl refl
+    where
+      go : (a b : Bool) → t .inside ≡ a → inside fund count ms ≡ b → a ≡ b
+      go true true e f = refl
+      go false false e f = refl
+      go true false e f = let h = for .tells .yes e in absurd (true≢false (sym (inside-tells fund count ms .no (h .0, (h .2, h .1 .in-range))) ∙ f))
+      go false true e f =
+          let h = inside-tells fund count ms .yes f in
+          absurd (true≢false (sym (for .tells .no (h .0, record { few = omega (arith, fewer, h .0); in-range = h .1 .1 }, h .1 .0)) ∙ e))
+
+  -- the verdict where the ranges are kept
+  pub verdict-inside : t .inside ≡ true → verdictOf fund count ms n ≡ valued fund ms n (fundCells fund ms)
+  unfolding verdictOf
+  verdict-inside e = rw (sym tests ∙ e)
+
+  chains : t .inside ≡ true → testedOf fund t n ≡ chain (ltb most-load (load (fund .frequency) ms)) (ltb most-truncation (truncation (fund .order) ms)) (short n (fund .horizon)) Accepted
+  unfolding testedOf
+  chains e =
+      let s = for .sums e in
+      rw (e, s .load-is, s .truncation-is, capped most-truncation (truncation (fund .order) ms))
+
+  pub refused-verdict : (why : Refusal) (place : ℕ) → testedOf fund t n ≡ Refused why place → verdictOf fund count ms n ≡ Refused why place
+  unfolding verdictOf valued
+  refused-verdict why place e = go (t .inside) refl
+    where
+      outside : t .inside ≡ false → verdictOf fund count ms n ≡ Refused refusal.Range 0
+      outside i = rw (sym tests ∙ i)
+
+      within : t .inside ≡ true → valued fund ms n (fundCells fund ms) ≡ Refused why place
+      within i =
+          refused-alike (ltb most-load (load (fund .frequency) ms)) (ltb most-truncation (truncation (fund .order) ms)) (short n (fund .horizon)) (refuse refusal.Wide (first wide 0 (fundCells fund ms)) Accepted) why place
+          (sym (chains i) ∙ e)
+
+      go : (b : Bool) → t .inside ≡ b → verdictOf fund count ms n ≡ Refused why place
+      go true i = verdict-inside i ∙ within i
+      go false i = outside i ∙ sym (tested-range fund t n i) ∙ e
+
+  pub left-refused : (v : Valued) (why : Refusal) (place : ℕ) (d : List ℤ) (h : List ℕ) (f : List ℤ) (r : List ℕ) → Zeros n d h f r → v ≡ record { verdict = Refused why place; figures = noFigures } →
+      testedOf fund t n ≡ Refused why place → left v d h f r ≡ valuation fund count ms n
+  unfolding valuation refused testedOf
+  left-refused v why place d h f r z k e = rw (k, z .d-zero, z .h-zero, z .f-zero, z .r-zero, refused-verdict why place e, no-line) refl
+    where
+      no-line : part [] (Refused why place) ≡ empty
+      no-line = subst (λ v. part [] v ≡ empty) e (no-part (t .inside) (ltb most-load (t .load)) (ltb most-truncation (t .truncation)) (short n (fund .horizon)))
+
+  -- ---- no refusal so far
+  module _ (p : Passed fund t n) where
+    long : Long n (fund .horizon)
+    long = long-of n (fund .horizon) (p .long)
+
+    pub fillable : (count ≤ most-members) × Fillable fund ms (n .D) (n .H)
+    fillable =
+        let h = for .tells .yes (p .inside-is) in
+        let s = for .sums (p .inside-is) in
+        (h .0, record { members = h .1; header = h .2; load-within = omega (arith, s .load-is, p .load-within); d-long = long .d-long; h-long = long .h-long })
+
+    pub ready : (d : List ℤ) (h : List ℕ) → n ≡ record { D = length d; H = length h; f = n .f; R = n .R } → TransformFilled fund ms (n .D) (n .H) d h → ReadyFor fund ms t d h (n .f) (n .R)
+    ready d h e filled =
+        let i = for .tells .yes (p .inside-is) in
+        record {
+          members = i .1;
+          header = i .2;
+          sums = for .sums (p .inside-is);
+          passed = subst (Passed fund t) e p;
+          filled = subst (λ (m : Lengths). TransformFilled fund ms (m .D) (m .H) d h) e filled;
+        }
+
+    pub left-answered : (a : Answer) → Answers fund ms n a → a ≡ valuation fund count ms n
+    unfolding valuation
+    left-answered a s = s ∙ ap (outcome fund ms n) (sym (verdict-inside (p .inside-is)))
+
+-- the totals of a table are those of its first lives
+pub totals-first : (fund : Fund) (count : ℕ) (ms : List Life) (t : Totals) → count ≤ most-members → TableTotals fund ms t → TotalsFor fund count ms t
+totals-first fund count ms t l s =
+    record { tells = record { yes = λ e. let m = s .tells .yes e in (l, m .0, m .1); no = λ h. s .tells .no (h .1, h .2) }; sums = s .sums }
+
+pub totals-none : (fund : Fund) (count : ℕ) (ms : List Life) (t : Totals) → most-members < count → t .inside ≡ false → TotalsFor fund count ms t
+totals-none fund count ms t l e =
+    record { tells = record { yes = λ i. absurd (true≢false (sym i ∙ e)); no = λ h. absurd (omega (arith, h .0, l)) }; sums = λ i. absurd (true≢false (sym i ∙ e)) }
+
+pub first-few : {A : Type 0} (n : ℕ) (xs : List A) → length (take n xs) ≤ n
+first-few n xs = omega (arith, length-take n xs)
+
+-- a verdict that is not `Accepted`, with its zeros
+pub left-judged : (fund : Fund) (count : ℕ) (ms : List Life) → length ms ≤ count → (t : Totals) → TotalsFor fund count ms t → (n : Lengths) (v : Valued) (w : Verdict) → OneOf (1 ∷ []) (Declared.tagOf Ver.the-type w) →
+    Tested fund t n w → (d : List ℤ) (h : List ℕ) (f : List ℤ) (r : List ℕ) → Zeros n d h f r → v ≡ record { verdict = w; figures = noFigures } → left v d h f r ≡ valuation fund count ms n
+left-judged fund count ms fewer t for n v Accepted o s d h f r z k = absurd (let e : _≡_ {A = ℕ} 0 1 = o in omega arith)
+left-judged fund count ms fewer t for n v (Refused why place) o s d h f r z k = left-refused fund count ms fewer t for n v why place d h f r z k s
+
+-- ---- the transform
+zero-at : {A : Type 0} (a : A) (n k : ℕ) (s : List A) → s ≡ replicate n a → k < n → getD s k a ≡ a
+zero-at a n k s e l = ap (λ t. getD t k a) e ∙ getD-replicate n k a a l
+
+module _ (fund : Fund) (ms : List Life) (nd nh : ℕ) where
+  pub table-fits : Fillable fund ms nd nh → (d : List ℤ) (h : List ℕ) → d ≡ replicate nd (pos 0) → h ≡ replicate nh 0 →
+      TableFits ms (record { horizon = fund .horizon; order = fund .order; frequency = fund .frequency }) d h
+  table-fits k d h d-is h-is =
+      record {
+        members = k .members;
+        order = k .header .order;
+        frequency = k .header .frequency;
+        load-within = k .load-within;
+        cleared =
+            record {
+              horizon = k .header .horizon;
+              d-long = subst (λ m. fund .horizon < m) (sym (ap length d-is ∙ length-replicate nd (pos 0))) (k .d-long);
+              h-long = subst (λ m. fund .horizon < m) (sym (ap length h-is ∙ length-replicate nh 0)) (k .h-long);
+              d-zero = λ j g. zero-at (pos 0) nd j d d-is (let l = k .d-long in omega arith);
+              h-zero = λ j g. zero-at 0 nh j h h-is (let l = k .h-long in omega arith);
+            };
+      }
+
+  pub transform-filled : (d : List ℤ) (h : List ℕ) → d ≡ replicate nd (pos 0) → h ≡ replicate nh 0 → (d′ : List ℤ) (h′ : List ℕ) →
+      TableAdded ms (record { horizon = fund .horizon; order = fund .order; frequency = fund .frequency }) d h d′ h′ → TransformFilled fund ms nd nh d′ h′
+  unfolding fundTerms
+  transform-filled d h d-is h-is d′ h′ a = record { d-is = rw (← d-is) (a .d-is); h-is = rw (← h-is) (a .h-is) }

@@ -1,0 +1,237 @@
+-- What follows the recursion of a fund: refusal 10 with its zeros (answers-wide), or cells that stand (Stands), from which the premium's sums are had (below-deductible)
+-- and the fund's figures (answers-accepted).
+use mathlib.Core.Path.{_≡_, refl, sym, _∙_, ap, ap₂, subst}
+use mathlib.Core.Bool.{Bool, true, false}
+use mathlib.Core.List.{List, [], _∷_, _++_, map}
+use mathlib.Core.Option.{Option, none, some}
+use Prim.Native.Nat.{ℕ, zero, suc, min, _+_, _-_, _<_, _≤_}
+use native.Mathlib.Omega.{arith}
+use lib.IntN.{ℤ, pos, natAbs}
+use lib.ListN.{length, getD, drop, replicate}
+use types.Run.{OneOf}
+use denote.Enum.Declared as Declared
+use Rattle.algebra.specs.NatSum.{sumN-ext}
+use Rattle.fund.specs.declared.Figures.{Figures}
+use Rattle.fund.specs.declared.Fund.{Fund}
+use Rattle.fund.specs.declared.Life.{Life}
+use Rattle.fund.specs.declared.Refusal.the-variants as refusal
+use Rattle.fund.specs.declared.Verdict.the-variants.{Accepted, Refused}
+use Rattle.fund.specs.Base.{table}
+use Rattle.fund.specs.Limits.{most-bound, most-load, most-truncation}
+use Rattle.fund.specs.Transform.{D, H, load, mean, truncation}
+use Rattle.fund.specs.Recursion.{Cell}
+use Rattle.fund.specs.Premium.{premium, within}
+use Rattle.fund.specs.Refusals.{Lengths, short, first, wide, refuse, valued}
+use Rattle.fund.specs.Answer.{empty, part, noFigures, fundTerms, fundStart, fundCells, fundTruncation, fundMean, fundFigures, lent, refused, accepted}
+use Rattle.laws.specs.Accepted.{All, all-map, first-none}
+use Rattle.laws.specs.Tables.{length-table, table-first}
+use Rattle.laws.specs.Slices.{table-ext}
+use Rattle.laws.specs.Valued.{valued-rest}
+use Rattle.laws.specs.Answer.{fundCell, fundCells-are, f-cell, R-cell}
+use Rattle.distance.specs.Widths.{f-sum-small}
+use Rattle.widths.specs.Lives.{InRange}
+use Rattle.widths.specs.Parts.{loadPart, meanPart}
+use Rattle.widths.specs.PartBounds.{mean-le, load-is}
+use Rattle.widths.specs.Sums.{total-le}
+use Rattle.recursion.specs.declared.Recursed.{Recursed}
+use Rattle.recursion.specs.declared.Recursed.the-variants as recursed
+use Rattle.recursion.specs.Slices.{cellIn, most-cell}
+use Rattle.recursion.specs.Recursion.{Left, leaves}
+use Rattle.recursion.specs.Recursion as Rec
+use Rattle.recursion.proofs.Recursed as R
+use Rattle.recursion.proofs.Outcomes.{not-done, drop-replicate}
+use Rattle.recursion.proofs.Tested.{Long, long-of}
+use Rattle.valuation.specs.declared.Valued.{Valued}
+use Rattle.valuation.specs.declared.premium.StopLoss.{StopLoss}
+use Rattle.valuation.specs.declared.totals.Totals.{Totals}
+use Rattle.valuation.specs.Table.{Members, most-mean}
+use Rattle.valuation.specs.Premium.{Cells, StopLossIs, levels}
+use Rattle.valuation.specs.Valued.{left, outcome, lengths}
+use Rattle.valuation.specs.Steps.{ReadyFor, Ready, Recursion, RecursedFor, refusalOf, Answers, SettledFor, AnsweredFor}
+use Rattle.valuation.proofs.Recursing.{answerOf, narrow-of, FundFits, recursion-is}
+
+-- a slice that was zero, with its front filled
+fronted : {A : Type 0} (blank : A) (n k : ℕ) (g : ℕ → A) (t : List A) → t ≡ table k g ++ drop k (replicate n blank) → t ≡ lent blank n (table k g)
+unfolding lent
+fronted blank n k g t h = h ∙ ap (λ u. table k g ++ u) (drop-replicate k n blank ∙ ap (λ m. replicate (n - m) blank) (sym (length-table k g)))
+
+-- a mean that the cap does not change
+mean-is : (ms : List Life) → Members ms → (a m : ℕ) → load a ms ≤ most-load → m ≡ min (mean a ms) most-mean → m ≡ mean a ms
+unfolding mean
+mean-is ms l a m h e = omega (arith, e, load-is a ms, total-le InRange (meanPart a) (loadPart a) 65535 0 (λ m r. mean-le m a r) ms (l .in-range))
+
+-- answers that agree field by field
+same-answer : {d d′ f f′ : List ℤ} {h h′ r r′ : List ℕ} {e e′ m m′ w w′ : ℕ} {p p′ : ℤ} → d ≡ d′ → h ≡ h′ → f ≡ f′ → r ≡ r′ → e ≡ e′ → m ≡ m′ → p ≡ p′ → w ≡ w′ →
+    left (record { verdict = Accepted; figures = record { truncation = e; mean = m; premium = p; within = w } }) d h f r
+    ≡ left (record { verdict = Accepted; figures = record { truncation = e′; mean = m′; premium = p′; within = w′ } }) d′ h′ f′ r′
+same-answer a b c q x y z u = λ i. left (record { verdict = Accepted; figures = record { truncation = x i; mean = y i; premium = z i; within = u i } }) (a i) (b i) (c i) (q i)
+
+-- a search that found none
+all-table : {A : Type 0} (P : A → Type 0) (n : ℕ) (g : ℕ → A) → All P (table n g) → (x : ℕ) → x < n → P (g x)
+unfolding table
+all-table P zero g h x l = absurd (omega arith)
+all-table P (suc n) g h zero l = subst (All P) (table-first n g) h .0
+all-table P (suc n) g h (suc x) l = all-table P n (λ k. g (suc k)) (subst (All P) (table-first n g) h .1) x (omega arith)
+
+none-of : {A : Type 0} (met : A → Bool) (at n : ℕ) (g : ℕ → A) → first met at (table n g) ≡ none → (x : ℕ) → x < n → met (g x) ≡ false
+none-of met at n g e x l = all-table (λ a. met a ≡ false) n g (first-none met at (table n g) e) x l
+
+abbrev answer-of : Recursed → ℕ
+answer-of recursed.Done = 0
+answer-of recursed.Short = 1
+answer-of (recursed.Outside k) = 1
+answer-of (recursed.Wide x) = 1
+answer-of (recursed.Large x) = 1
+
+module _ (fund : Fund) (ms : List Life) (t : Totals) (d : List ℤ) (h : List ℕ) (f : List ℤ) (r : List ℕ) (k : ReadyFor fund ms t d h (length f) (length r)) where
+  abbrev X : ℕ
+  X = fund .horizon
+
+  abbrev n : Lengths
+  n = lengths d h f r
+
+  within-load : load (fund .frequency) ms ≤ most-load
+  within-load = omega (arith, k .sums .load-is, k .passed .load-within)
+
+  figure-is : t .truncation ≡ fundTruncation fund ms
+  unfolding fundTruncation
+  figure-is = omega (arith, k .sums .truncation-is, k .passed .truncation-within)
+
+  long : Long n X
+  long = long-of n X (k .passed .long)
+
+  fits : FundFits fund ms
+  unfolding fundTruncation
+  fits =
+      record {
+        members = k .members;
+        header = k .header;
+        priceable =
+            record {
+              limited = all-map (λ m r. r .limited) ms (k .members .in-range);
+              folded = all-map (λ m r. record { q-folded = r .no-death; i-folded = r .no-disability }) ms (k .members .in-range);
+              load-within = within-load;
+              truncation-within = omega (arith, figure-is, k .passed .truncation-within);
+            };
+      }
+
+  start-is : record { f = t .cell; R = t .bound } ≡ fundStart fund ms
+  unfolding fundStart
+  start-is = ap₂ (λ x z. record { f = x; R = z }) (k .sums .cell-is within-load) (k .sums .bound-is within-load)
+
+  abbrev found : Option ℕ
+  found = first wide 0 (fundCells fund ms)
+
+  rest : valued fund ms n (fundCells fund ms) ≡ refuse refusal.Wide found Accepted
+  unfolding fundTruncation
+  rest = valued-rest fund ms n (fundCells fund ms) within-load (omega (arith, figure-is, k .passed .truncation-within)) (k .passed .long)
+
+  leaves-is : (a : Recursed) → Recursion fund t a d h f r → Rec.left a f r ≡ leaves (fundCells fund ms) (length f) (length r) (answerOf found)
+  leaves-is a e =
+      e
+      ∙ ap (λ y. Rec.recursion X d h y (length f) (length r)) start-is
+      ∙ recursion-is fund ms fits d h _ _ (k .filled .d-is) (k .filled .h-is) (omega (arith, ap (λ (y : Cell). y .R) start-is, k .sums .bound-within within-load)) (length f) (length r) (long .f-long) (long .r-long)
+
+  -- ---- a wide cell
+  pub answers-wide : (a : Recursed) → OneOf (1 ∷ 2 ∷ 3 ∷ 4 ∷ []) (Declared.tagOf R.the-type a) → Recursion fund t a d h f r → (v : Valued) (d′ : List ℤ) (h′ : List ℕ) →
+      v ≡ record { verdict = refusalOf a; figures = noFigures } → d′ ≡ replicate (length d) (pos 0) → h′ ≡ replicate (length h) 0 → Answers fund ms n (left v d′ h′ f r)
+  unfolding leaves refuse refused part
+  answers-wide a o e v d′ h′ v-is d-is h-is = go found refl
+    where
+      go : (x : Option ℕ) → found ≡ x → Answers fund ms n (left v d′ h′ f r)
+      go none s =
+          let e′ = leaves-is a e ∙ ap (λ x. leaves (fundCells fund ms) (length f) (length r) (answerOf x)) s in
+          let done = ap (λ (l : Left). l .answer) e′ in
+          absurd (not-done (subst (λ b. OneOf (1 ∷ 2 ∷ 3 ∷ 4 ∷ []) (Declared.tagOf R.the-type b)) done o))
+      go (some x) s =
+          let e′ = leaves-is a e ∙ ap (λ x. leaves (fundCells fund ms) (length f) (length r) (answerOf x)) s in
+          let w : v ≡ record { verdict = Refused refusal.Wide x; figures = noFigures } = v-is ∙ ap (λ b. record { verdict = refusalOf b; figures = noFigures }) (ap (λ (l : Left). l .answer) e′) in
+          let f₀ : f ≡ replicate (length f) (pos 0) = ap (λ (l : Left). l .f) e′ in
+          let r₀ : r ≡ replicate (length r) 0 = ap (λ (l : Left). l .R) e′ in
+          let z : left v d′ h′ f r ≡ refused [] n (Refused refusal.Wide x) = λ i. left (w i) (d-is i) (h-is i) (f₀ i) (r₀ i) in
+          z ∙ ap (outcome fund ms n) (sym (rest ∙ ap (λ x. refuse refusal.Wide x Accepted) s))
+
+  -- ---- cells that stand
+  pub record Stands : Type 0 where
+    pub accepts : valued fund ms n (fundCells fund ms) ≡ Accepted
+    pub f-is : f ≡ accepted fund ms n .f
+    pub r-is : r ≡ accepted fund ms n .R
+    pub narrow : (x : ℕ) → x ≤ X → fundCell fund ms x .R ≤ most-bound
+
+  all-narrow : found ≡ none → (x : ℕ) → x ≤ X → fundCell fund ms x .R ≤ most-bound
+  all-narrow e x l = narrow-of (fundCell fund ms x) (none-of wide 0 (suc X) (fundCell fund ms) (ap (first wide 0) (sym (fundCells-are fund ms)) ∙ e) x (omega arith))
+
+  pub stands : (a : Recursed) → a ≡ recursed.Done → Recursion fund t a d h f r → Stands
+  unfolding leaves refuse accepted
+  stands a done e = go found refl
+    where
+      go : (x : Option ℕ) → found ≡ x → Stands
+      go none s =
+          let e′ = leaves-is a e ∙ ap (λ x. leaves (fundCells fund ms) (length f) (length r) (answerOf x)) s in
+          record { accepts = rest ∙ ap (λ x. refuse refusal.Wide x Accepted) s; f-is = ap (λ (l : Left). l .f) e′; r-is = ap (λ (l : Left). l .R) e′; narrow = all-narrow s }
+      go (some x) s =
+          let e′ = leaves-is a e ∙ ap (λ x. leaves (fundCells fund ms) (length f) (length r) (answerOf x)) s in
+          let z : _≡_ {A = ℕ} 0 1 = ap answer-of (sym done ∙ ap (λ (l : Left). l .answer) e′) in
+          absurd (omega arith)
+
+  module _ (s : Stands) where
+    f-at : (x : ℕ) → x ≤ X → getD f x (pos 0) ≡ fundCell fund ms x .f
+    f-at x l = ap (λ c. getD c x (pos 0)) (s .f-is) ∙ f-cell fund ms n x l
+
+    r-at : (x : ℕ) → x ≤ X → getD r x 0 ≡ fundCell fund ms x .R
+    r-at x l = ap (λ c. getD c x 0) (s .r-is) ∙ R-cell fund ms n x l
+
+    cells-in : table (suc X) (cellIn f r) ≡ fundCells fund ms
+    cells-in =
+        table-ext (suc X) (cellIn f r) (fundCell fund ms) (λ k g. ap₂ (λ x y. record { f = x; R = y }) (f-at k (omega arith)) (r-at k (omega arith)))
+        ∙ sym (fundCells-are fund ms)
+
+    levels-within : (m : ℕ) → m ≤ suc X → levels f m ≤ most-cell
+    unfolding fundTerms fundStart
+    levels-within zero g = omega arith
+    levels-within (suc m) g =
+        omega (
+          arith,
+          sumN-ext (suc m) (λ x. natAbs (getD f x (pos 0))) (λ x. natAbs (fundCell fund ms x .f)) (λ x k. ap natAbs (f-at x (omega arith))),
+          f-sum-small X (fund .order) (fund .frequency) ms (k .header .order) (fits .priceable) (k .header .horizon) m (omega arith) (λ k b. s .narrow k (omega arith)),
+        )
+
+    pub below-deductible : Cells (fund .deductible) f r
+    below-deductible =
+        let m = k .header .deductible in
+        record {
+          few = let b = k .header .horizon in omega arith;
+          f-long = omega (arith, long .f-long);
+          r-long = omega (arith, long .r-long);
+          levels-within = levels-within (fund .deductible) m;
+          narrow = λ x g. omega (arith, r-at x (omega arith), s .narrow x (omega arith));
+        }
+
+    -- the figures and the slices
+    pub answers-accepted : (pr : ℤ) (p : StopLoss) → StopLossIs (fund .deductible) (t .mean) (t .truncation) f r p → pr ≡ p .premium →
+        Answers fund ms n (left (record { verdict = Accepted; figures = record { truncation = t .truncation; mean = t .mean; premium = pr; within = p .within } }) d h f r)
+    unfolding accepted fundFigures fundMean
+    answers-accepted pr p priced pr-is = same-answer d-lent h-lent (s .f-is) (s .r-is) figure-is m-is pr-of p-of ∙ ap (outcome fund ms n) (sym (s .accepts))
+      where
+        m-is : t .mean ≡ mean (fund .frequency) ms
+        m-is = mean-is ms (k .members) (fund .frequency) (t .mean) within-load (k .sums .mean-is)
+
+        d-lent : d ≡ lent (pos 0) (length d) (table (suc X) (D (fundTerms fund ms)))
+        d-lent = fronted (pos 0) (length d) (suc X) (D (fundTerms fund ms)) d (k .filled .d-is)
+
+        h-lent : h ≡ lent 0 (length h) (table (suc X) (H (fundTerms fund ms)))
+        h-lent = fronted 0 (length h) (suc X) (H (fundTerms fund ms)) h (k .filled .h-is)
+
+        pr-of : pr ≡ premium (fund .deductible) (mean (fund .frequency) ms) (fundCells fund ms)
+        pr-of = pr-is ∙ priced .premium-is (suc X) (k .header .deductible) ∙ ap₂ (premium (fund .deductible)) m-is cells-in
+
+        p-of : p .within ≡ within (fund .deductible) (fundTruncation fund ms) (fundCells fund ms)
+        p-of = priced .within-is (suc X) (k .header .deductible) ∙ ap₂ (within (fund .deductible)) figure-is cells-in
+
+-- ---- slices whose lengths are those of others
+module _ (fund : Fund) (t : Totals) (a : Recursed) (d : List ℤ) (h : List ℕ) (f : List ℤ) (r : List ℕ) (nf nr : ℕ) (ef : length f ≡ nf) (er : length r ≡ nr) where
+  pub recursed-for : Ready fund t d h nf nr → Rec.left a f r ≡ Rec.recursion (fund .horizon) d h (record { f = t .cell; R = t .bound }) nf nr → RecursedFor fund t a d h f r
+  recursed-for k e = record { ready = rw (ef, er) k; left-is = rw (ef, er) e }
+
+  pub answered-for : (v : Valued) (d′ : List ℤ) (h′ : List ℕ) → SettledFor fund t a d h f r v d′ h′ → AnsweredFor fund t d h nf nr (left v d′ h′ f r)
+  answered-for v d′ h′ s ms k = rw (ef, er) at (s ms (rw (ef, er) k))

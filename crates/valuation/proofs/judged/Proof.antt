@@ -1,0 +1,125 @@
+-- A refusal of the tests leaves zeros; else the transform is filled and the recursion follows.
+use mathlib.Core.Path.{_≡_, refl, sym, ap, ap₂, _∙_, subst}
+use Prim.Native.Nat.{_≤_}
+use native.Mathlib.Omega.{arith}
+use borrow.Author.Needs.{needs}
+use lib.ListN.{length, take, length-take}
+use Rattle.fund.specs.Refusals.{Lengths}
+use Rattle.valuation.specs.Valued.{lengths}
+use Rattle.valuation.specs.Steps.{Passed, Tested, ReadyFor}
+use Rattle.valuation.proofs.Judging.{first-few, left-judged, fillable, ready, left-answered}
+use Rattle.valuation.proofs.judged.Statement.{statement}
+use Rattle.valuation.proofs.judged.Tie as tie
+
+tested-requires : tie.Need-tested-requires
+tested-requires c κs = search needs
+
+enum-told : tie.Need-enum-told
+enum-told c = search needs
+
+enum-told-2 : tie.Need-enum-told-2
+enum-told-2 c = search needs
+
+clear-all-requires : tie.Need-clear-all-requires
+clear-all-requires c κs = search needs
+
+refused-requires : tie.Need-refused-requires
+refused-requires c κs = search needs
+
+same-length : tie.Need-same-length
+same-length c = search needs
+
+same-length-2 : tie.Need-same-length-2
+same-length-2 c = search needs
+
+same-length-3 : tie.Need-same-length-3
+same-length-3 c = search needs
+
+same-length-4 : tie.Need-same-length-4
+same-length-4 c = search needs
+
+abbrev entered : tie.After-enum-told → tie.Start
+entered c = c .before .before .before .before .before
+
+abbrev slices : tie.Start → Lengths
+slices s = lengths (s .args .transform .now) (s .args .h .now) (s .args .f .now) (s .args .r .now)
+
+passed : (c : tie.After-enum-told) → Passed (entered c .args .fund) (entered c .args .t) (slices (entered c))
+passed c = subst (Tested (entered c .args .fund) (entered c .args .t) (slices (entered c))) (c .enum-told .given .1) (c .before .before .tested .ensures)
+
+returns : tie.Need-returns
+returns c =
+    let z = c .before .before .before .before .before .before .before in
+    let m = z .before .before .before .before .before .before in
+    let s = m .before .before .before .before in
+    let a = s .args in
+    left-judged (a .fund) (a .n) (take (a .n) (a .lives)) (first-few (a .n) (a .lives)) (a .t) (s .pre) _ _ (m .before .tested .result) (m .match .keys2) (m .before .tested .ensures) _ _ _ _
+    (c .before .before .before .before .before .before .before .clear-all .ensures) (c .refused .ensures)
+
+first-transform-requires : tie.Need-first-transform-requires
+first-transform-requires c κs =
+    let s = entered (c .before .before) in
+    let a = s .args in
+    fillable (a .fund) (a .n) (take (a .n) (a .lives)) (first-few (a .n) (a .lives)) (a .t) (s .pre) (slices s) (passed (c .before .before))
+
+-- the transform is filled
+filled : (o : tie.After-first-transform) →
+    let s = entered (o .before .before .before) in
+    ReadyFor (s .args .fund) (take (s .args .n) (s .args .lives)) (s .args .t) (o .first-transform .last .1 .1 .1 .0) (o .first-transform .last .1 .1 .1 .1 .0) (length (s .args .f .now)) (length (s .args .r .now))
+filled o =
+    let told = o .before .before .before in
+    let s = entered told in
+    let a = s .args in
+    let k = o .first-transform .kept .1 .1 .1 in
+    ready (a .fund) (a .n) (take (a .n) (a .lives)) (first-few (a .n) (a .lives)) (a .t) (s .pre) (slices s) (passed told) _ _
+    (ap₂ (λ x y. record { D = x; H = y; f = length (a .f .now); R = length (a .r .now) }) (sym (k .0)) (sym (k .1 .0))) (o .first-transform .ensures)
+
+recursed-requires : tie.Need-recursed-requires
+recursed-requires c κs =
+    let o = c .before .before .before .before .before .before .before in
+    record { ms = _; ready = filled o }
+
+same-length-5 : tie.Need-same-length-5
+same-length-5 c = search needs
+
+same-length-6 : tie.Need-same-length-6
+same-length-6 c = search needs
+
+same-length-7 : tie.Need-same-length-7
+same-length-7 c = search needs
+
+same-length-8 : tie.Need-same-length-8
+same-length-8 c = search needs
+
+returns-2 : tie.Need-returns-2
+returns-2 c =
+    let done = c .before .before .before .before .before .before in
+    let o = done .before .before .before .before .before .before .before .before in
+    let told = o .before .before .before in
+    let s = entered told in
+    let a = s .args in
+    let k = o .first-transform .kept .1 .1 .1 in
+    left-answered (a .fund) (a .n) (take (a .n) (a .lives)) (first-few (a .n) (a .lives)) (a .t) (s .pre) (slices s) (passed told) _
+    (rw (k .0, k .1 .0) at (done .recursed .ensures _ (filled o)))
+
+pub judged-spec : {M : Type 1} → statement M
+judged-spec =
+    tie.close
+    (tie.spec
+    tested-requires
+    enum-told
+    enum-told-2
+    clear-all-requires
+    refused-requires
+    same-length
+    same-length-2
+    same-length-3
+    same-length-4
+    returns
+    first-transform-requires
+    recursed-requires
+    same-length-5
+    same-length-6
+    same-length-7
+    same-length-8
+    returns-2)

@@ -1,0 +1,101 @@
+-- What the steps of a valuation say, from the totals to the answer. Those that see no table say it for every table of which this is known.
+use mathlib.Core.Path.{_≡_}
+use mathlib.Core.Bool.{true, false}
+use mathlib.Core.List.{List, _++_}
+use Prim.Native.Nat.{ℕ, suc, _≤_, _<_}
+use lib.IntN.{ℤ, pos}
+use lib.ListN.{length, drop, replicate}
+use Rattle.fund.specs.declared.Fund.{Fund}
+use Rattle.fund.specs.declared.Life.{Life}
+use Rattle.fund.specs.declared.Refusal.the-variants as refusal
+use Rattle.fund.specs.declared.Verdict.{Verdict}
+use Rattle.fund.specs.declared.Verdict.the-variants.{Accepted, Refused}
+use Rattle.fund.specs.Base.{table, if_then_else_}
+use Rattle.fund.specs.Limits.{most-members, most-load, most-truncation}
+use Rattle.fund.specs.Transform.{D, H, load}
+use Rattle.fund.specs.Refusals.{Lengths, short, refuse, at0, valued}
+use Rattle.fund.specs.Answer.{Answer, fundTerms, fundCells}
+use Rattle.laws.specs.Tells.{Tells}
+use Rattle.recursion.specs.declared.Recursed.{Recursed}
+use Rattle.recursion.specs.declared.Recursed.the-variants as recursed
+use Rattle.recursion.specs.Recursion.{recursion}
+use Rattle.recursion.specs.Recursion as Rec
+use lib.Dec.{ltb}
+use Rattle.valuation.specs.declared.Valued.{Valued}
+use Rattle.valuation.specs.declared.totals.Totals.{Totals}
+use Rattle.valuation.specs.Table.{Members}
+use Rattle.valuation.specs.Inside.{HeaderIn}
+use Rattle.valuation.specs.Totals.{LivesTotals}
+use Rattle.valuation.specs.Valued.{left, outcome, lengths}
+
+-- ---- the totals of the first n lives of a table
+pub record TotalsFor (fund : Fund) (n : ℕ) (ms : List Life) (t : Totals) : Type 0 where
+  pub tells : Tells (t .inside) ((n ≤ most-members) × Members ms × HeaderIn fund)
+  pub sums : t .inside ≡ true → LivesTotals fund ms t
+
+-- ---- the ranges, 7, 8 and 9, of the totals
+unfoldable pub testedOf : Fund → Totals → Lengths → Verdict
+testedOf fund t n =
+    if t .inside then refuse refusal.Load (at0 (ltb most-load (t .load)))
+    (refuse refusal.Order (at0 (ltb most-truncation (t .truncation)))
+    (refuse refusal.Short (at0 (short n (fund .horizon))) Accepted))
+    else Refused refusal.Range 0
+
+pub record Passed (fund : Fund) (t : Totals) (n : Lengths) : Type 0 where
+  pub inside-is : t .inside ≡ true
+  pub load-within : t .load ≤ most-load
+  pub truncation-within : t .truncation ≤ most-truncation
+  pub long : short n (fund .horizon) ≡ false
+
+abbrev pub Tested : Fund → Totals → Lengths → Verdict → Type 0
+Tested fund t n Accepted = Passed fund t n
+Tested fund t n (Refused why place) = testedOf fund t n ≡ Refused why place
+
+-- ---- the transform of a table
+pub record Fillable (fund : Fund) (ms : List Life) (nd nh : ℕ) : Type 0 where
+  pub members : Members ms
+  pub header : HeaderIn fund
+  pub load-within : load (fund .frequency) ms ≤ most-load
+  pub d-long : fund .horizon < nd
+  pub h-long : fund .horizon < nh
+
+pub record TransformFilled (fund : Fund) (ms : List Life) (nd nh : ℕ) (d : List ℤ) (h : List ℕ) : Type 0 where
+  pub d-is : d ≡ table (suc (fund .horizon)) (D (fundTerms fund ms)) ++ drop (suc (fund .horizon)) (replicate nd (pos 0))
+  pub h-is : h ≡ table (suc (fund .horizon)) (H (fundTerms fund ms)) ++ drop (suc (fund .horizon)) (replicate nh 0)
+
+-- ---- the recursion and what follows it
+pub record ReadyFor (fund : Fund) (ms : List Life) (t : Totals) (d : List ℤ) (h : List ℕ) (nf nr : ℕ) : Type 0 where
+  pub members : Members ms
+  pub header : HeaderIn fund
+  pub sums : LivesTotals fund ms t
+  pub passed : Passed fund t (record { D = length d; H = length h; f = nf; R = nr })
+  pub filled : TransformFilled fund ms (length d) (length h) d h
+
+pub record Ready (fund : Fund) (t : Totals) (d : List ℤ) (h : List ℕ) (nf nr : ℕ) : Type 0 where
+  pub ms : List Life
+  pub ready : ReadyFor fund ms t d h nf nr
+
+-- what the recursion left of the totals and the transform
+abbrev pub Recursion : Fund → Totals → Recursed → List ℤ → List ℕ → List ℤ → List ℕ → Type 0
+Recursion fund t a d h f r = Rec.left a f r ≡ recursion (fund .horizon) d h (record { f = t .cell; R = t .bound }) (length f) (length r)
+
+pub record RecursedFor (fund : Fund) (t : Totals) (a : Recursed) (d : List ℤ) (h : List ℕ) (f : List ℤ) (r : List ℕ) : Type 0 where
+  pub ready : Ready fund t d h (length f) (length r)
+  pub left-is : Recursion fund t a d h f r
+
+abbrev pub refusalOf : Recursed → Verdict
+refusalOf recursed.Done = Refused refusal.Range 0
+refusalOf recursed.Short = Refused refusal.Range 0
+refusalOf (recursed.Outside k) = Refused refusal.Range 0
+refusalOf (recursed.Wide x) = Refused refusal.Wide x
+refusalOf (recursed.Large x) = Refused refusal.Range 0
+
+-- the answer is that of 7 to 10
+abbrev pub Answers : Fund → List Life → Lengths → Answer → Type 0
+Answers fund ms n a = a ≡ outcome fund ms n (valued fund ms n (fundCells fund ms))
+
+abbrev pub SettledFor : Fund → Totals → Recursed → List ℤ → List ℕ → List ℤ → List ℕ → Valued → List ℤ → List ℕ → Type 0
+SettledFor fund t a d h f r v d′ h′ = (ms : List Life) → ReadyFor fund ms t d h (length f) (length r) → Answers fund ms (lengths d h f r) (left v d′ h′ f r)
+
+abbrev pub AnsweredFor : Fund → Totals → List ℤ → List ℕ → ℕ → ℕ → Answer → Type 0
+AnsweredFor fund t d h nf nr a = (ms : List Life) → ReadyFor fund ms t d h nf nr → Answers fund ms (record { D = length d; H = length h; f = nf; R = nr }) a

@@ -1,0 +1,32 @@
+// The first lives of a table, lent to the walks.
+use super::totals;
+use super::totals::Totals;
+use super::transform;
+use super::transform::Filling;
+use fund::Fund;
+use fund::Life;
+ghost use Prim.Native.Nat.{_≤_};
+ghost use lib.ListN.{take};
+ghost use Rattle.fund.specs.Limits.{most-members};
+ghost use Rattle.valuation.specs.Filling.{TableFits, TableAdded};
+ghost use Rattle.valuation.specs.Totals.{TableTotals};
+
+pub(crate) fn first_totals(fund: Fund, lives: [Life; Fund::MEMBER_ROWS], n: usize) -> Totals
+    requires { ⌜ n ≤ most-members ⌝ }
+    ensures { λ t. ⌜ TableTotals fund (take n lives) t ⌝ }
+{
+    totals::table_totals(fund, &lives[..n])
+}
+
+pub(crate) fn fill_first(
+    lives: [Life; Fund::MEMBER_ROWS],
+    n: usize,
+    x: Filling,
+    transform: &mut [i64],
+    h: &mut [u64],
+)
+    requires { ⌜ (n ≤ most-members) × TableFits (take n lives) x (now transform) (now h) ⌝ }
+    ensures { λ _. ⌜ TableAdded (take n lives) x (now (transform .entry)) (now (h .entry)) (now (transform .exit)) (now (h .exit)) ⌝ }
+{
+    transform::fill_transform(&lives[..n], x, transform, h);
+}
