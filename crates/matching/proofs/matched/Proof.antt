@@ -2,9 +2,9 @@
 use mathlib.Core.Path.{sym, _∙_}
 use native.Mathlib.Omega.{arith}
 use borrow.Author.Needs.{needs}
+use Rattle.fund.specs.Reading.{headerLines}
 use lib.Seq.{length-take-le}
 use Rattle.fund.specs.Refusals.{firstMember}
-use Rattle.laws.specs.Ranges.{header-length}
 use Rattle.matching.proofs.Answering.{beyond-rates, beyond-members, three, four, then-members}
 use Rattle.matching.proofs.matched.Statement.{statement}
 use Rattle.matching.proofs.matched.Tie as tie
@@ -57,13 +57,13 @@ by-member-requires : tie.Need-by-member-requires
 by-member-requires c κs = search needs
 
 returns-5 : tie.Need-returns-5
-unfolding firstMember
+unfolding firstMember headerLines
 returns-5 c =
     let e = c .before .before .before in
     let t = e .before .before in
     let a = t .before .before .args in
     let count = length-take-le (a .rated) (a .rates) (omega arith) in
-    then-members (a .fund) (a .rates) (a .rated) (a .members) (a .enrolled) _ (t .before .if1 .left) (t .if2 .left) (e .if3 .left) _ (sym (c .before .before .is-above .ensures) ∙ c .before .if4 .left) (omega (arith, header-length, count)) (c .by-member .ensures)
+    then-members (a .fund) (a .rates) (a .rated) (a .members) (a .enrolled) _ (t .before .if1 .left) (t .if2 .left) (e .if3 .left) _ (sym (c .before .before .is-above .ensures) ∙ c .before .if4 .left) (omega (arith, count)) (c .by-member .ensures)
 
 pub matched-spec : {M : Type 1} → statement M
 matched-spec =

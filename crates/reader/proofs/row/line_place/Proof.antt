@@ -1,7 +1,7 @@
 -- `reader::row::line_place`: the header lines are as many as the definition's.
 use native.Mathlib.Omega.{arith}
 use borrow.Author.Needs.{needs}
-use Rattle.laws.specs.Ranges.{header-length}
+use Rattle.fund.specs.Reading.{headerLines}
 use Rattle.reader.proofs.row.line_place.Statement.{statement}
 use Rattle.reader.proofs.row.line_place.Tie as tie
 
@@ -15,7 +15,8 @@ add-result-3 : tie.Need-add-result-3
 add-result-3 c = search needs
 
 returns : tie.Need-returns
-returns c = omega (arith, header-length)
+unfolding headerLines
+returns c = omega arith
 
 pub line-place-spec : {M : Type 1} → statement M
 line-place-spec = tie.close (tie.spec add-result add-result-2 add-result-3 returns)

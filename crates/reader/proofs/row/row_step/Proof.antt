@@ -2,8 +2,8 @@
 use mathlib.Core.Path.{sym, ap, _∙_}
 use native.Mathlib.Omega.{arith}
 use borrow.Author.Needs.{needs}
+use Rattle.fund.specs.Reading.{headerLines}
 use Rattle.reader.specs.Rows.{rowIn}
-use Rattle.laws.specs.Ranges.{header-length}
 use Rattle.reader.proofs.Steps.{step-missing, step-other, step-order, step-rate-out, step-rate, step-member-out, step-member, step-count, step-more, step-end}
 use Rattle.reader.proofs.row.row_step.Statement.{statement}
 use Rattle.reader.proofs.row.row_step.Tie as tie
@@ -69,9 +69,10 @@ returns-5 c =
     step-count (a .file .now) (a .at) (a .rated) (a .enrolled) (a .least) _ (n .before .before .line-place .ensures) _ (n .next-line .ensures) _ o (c .if5 .taken)
 
 add-t28 : tie.Need-add-t28
+unfolding headerLines
 add-t28 c =
     let p = c .before .before .before .before .before .before .before .before .before in
-    omega (arith, header-length, p .line-place .ensures, p .before .before .pre .0, p .before .before .pre .1)
+    omega (arith, p .line-place .ensures, p .before .before .pre .0, p .before .before .pre .1)
 
 returns-6 : tie.Need-returns-6
 returns-6 c =
