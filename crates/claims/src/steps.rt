@@ -25,28 +25,28 @@ ghost use Rattle.text.specs.Shown.{shownAnswer, listingOf};
 ghost use Rattle.text.specs.Writing.{Written};
 
 // The named constants are the definitions' limits.
-pub fn limits() -> Limits
+pub fn claimed_limits() -> Limits
     ensures { λ r. ⌜ r ≡ limits ⌝ }
 {
     Fund::limits()
 }
 
 // Refusals 1 and 2, or the header and the rows.
-pub fn read(file: &[u8]) -> FileRead
+pub fn claimed_read(file: &[u8]) -> FileRead
     ensures { λ r. ⌜ r ≡ fileRead (reading (now (file .entry))) ⌝ }
 {
     reader::read(file)
 }
 
 // The line of a verdict.
-pub fn part_of(file: &[u8], verdict: Verdict) -> Part
+pub fn claimed_part(file: &[u8], verdict: Verdict) -> Part
     ensures { λ r. ⌜ Spans (now (file .entry)) (part (now (file .entry)) verdict) r ⌝ }
 {
     reader::part_of(file, verdict)
 }
 
 // Refusals 3 to 6, or the lives.
-pub fn matched(
+pub fn claimed_match(
     fund: Fund,
     rates: [Rate; Fund::RATE_ROWS],
     rated: usize,
@@ -59,7 +59,7 @@ pub fn matched(
 }
 
 // Refusals 7 to 10, or the figures and the cells.
-pub fn valued(
+pub fn claimed_value(
     fund: Fund,
     lives: [Life; Fund::MEMBER_ROWS],
     n: usize,
@@ -75,7 +75,7 @@ pub fn valued(
 }
 
 // The recursion on any transform and start.
-pub fn recursed(
+pub fn claimed_recursion(
     horizon: usize,
     d: &[i64],
     h: &[u64],
@@ -91,7 +91,7 @@ pub fn recursed(
 }
 
 // The text of an answer.
-pub fn listing(
+pub fn claimed_listing(
     verdict: Verdict,
     figures: Figures,
     horizon: usize,

@@ -1,8 +1,8 @@
 -- The contract of the call for C, in plain words.
 use borrow.Author.Needs.{needs}
 use Rattle.claims.proofs.Calls.{host-demands}
-use Rattle.claims.proofs.host.Statement.{statement}
-use Rattle.claims.proofs.host.Tie as tie
+use Rattle.claims.proofs.claimed_host.Statement.{statement}
+use Rattle.claims.proofs.claimed_host.Tie as tie
 
 miguepo-price-requires : tie.Need-miguepo-price-requires
 miguepo-price-requires c κs = search needs
@@ -24,7 +24,7 @@ returns c =
     let p = c .before .before .before .before .before .before .miguepo-price in
     host-demands _ _ _ _ _ _ _ (p .ensures)
 
-pub host-spec : {M : Type 1} → statement M
-host-spec =
+pub claimed-host-spec : {M : Type 1} → statement M
+claimed-host-spec =
     tie.close
     (tie.spec miguepo-price-requires same-length same-length-2 same-length-3 same-length-4 returns)

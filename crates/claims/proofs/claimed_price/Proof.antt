@@ -1,8 +1,8 @@
 -- The contract of the pricing call, in plain words.
 use borrow.Author.Needs.{needs}
 use Rattle.claims.proofs.Calls.{price-demands}
-use Rattle.claims.proofs.price.Statement.{statement}
-use Rattle.claims.proofs.price.Tie as tie
+use Rattle.claims.proofs.claimed_price.Statement.{statement}
+use Rattle.claims.proofs.claimed_price.Tie as tie
 
 price-requires : tie.Need-price-requires
 price-requires c κs = search needs
@@ -25,7 +25,7 @@ returns c =
     let o = p .last .1 in
     price-demands _ _ (p .result) (o .0) (o .1 .0) (o .1 .1 .0) (o .1 .1 .1 .0) (p .ensures)
 
-pub price-spec : {M : Type 1} → statement M
-price-spec =
+pub claimed-price-spec : {M : Type 1} → statement M
+claimed-price-spec =
     tie.close
     (tie.spec price-requires same-length same-length-2 same-length-3 same-length-4 returns)

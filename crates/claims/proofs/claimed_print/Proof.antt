@@ -1,8 +1,8 @@
 -- The contract of the listing, in plain words.
 use borrow.Author.Needs.{needs}
 use Rattle.claims.proofs.Calls.{prints}
-use Rattle.claims.proofs.print.Statement.{statement}
-use Rattle.claims.proofs.print.Tie as tie
+use Rattle.claims.proofs.claimed_print.Statement.{statement}
+use Rattle.claims.proofs.claimed_print.Tie as tie
 
 print-requires : tie.Need-print-requires
 print-requires c κs = search needs
@@ -13,5 +13,5 @@ same-length c = search needs
 returns : tie.Need-returns
 returns c = prints _ _ _ _ (c .before .before .print .ensures .0)
 
-pub print-spec : {M : Type 1} → statement M
-print-spec = tie.close (tie.spec print-requires same-length returns)
+pub claimed-print-spec : {M : Type 1} → statement M
+claimed-print-spec = tie.close (tie.spec print-requires same-length returns)

@@ -3,8 +3,8 @@ use mathlib.Core.Path.{_≡_}
 use mir.Syntax.{w64}
 use mir.Val.{toZ, ofZ}
 use borrow.Author.Needs.{needs}
-use Rattle.claims.proofs.steps.recursed.Statement.{statement}
-use Rattle.claims.proofs.steps.recursed.Tie as tie
+use Rattle.claims.proofs.steps.claimed_recursion.Statement.{statement}
+use Rattle.claims.proofs.steps.claimed_recursion.Tie as tie
 
 recursion-requires : tie.Need-recursion-requires
 recursion-requires c κs = search needs
@@ -22,5 +22,5 @@ returns c =
     let same : toZ w64 (ofZ w64 first) ≡ first = search needs in
     rw same at (call .recursion .ensures)
 
-pub recursed-spec : {M : Type 1} → statement M
-recursed-spec = tie.close (tie.spec recursion-requires same-length same-length-2 returns)
+pub claimed-recursion-spec : {M : Type 1} → statement M
+claimed-recursion-spec = tie.close (tie.spec recursion-requires same-length same-length-2 returns)
