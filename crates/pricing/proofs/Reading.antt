@@ -7,8 +7,6 @@ use native.Mathlib.Omega.{arith}
 use borrow.Author.Tests.{le-leb}
 use lib.ListN.{length, take, length-map, length-take}
 use Rattle.fund.specs.declared.Fund.{Fund}
-use Rattle.fund.specs.declared.Rate.{Rate}
-use Rattle.fund.specs.declared.Member.{Member}
 use Rattle.fund.specs.declared.Life.{Life}
 use Rattle.fund.specs.declared.Refusal.{Refusal}
 use Rattle.fund.specs.declared.Verdict.{Verdict}
