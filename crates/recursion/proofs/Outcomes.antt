@@ -4,7 +4,7 @@ use mathlib.Core.Path.{_≡_, refl, sym, _∙_, ap, ap₂, subst}
 use mathlib.Core.Bool.{true}
 use mathlib.Core.Logic.{⊎-elim}
 use mathlib.Core.List.{List, [], _∷_, map}
-use Prim.Native.Nat.{ℕ, zero, suc, _+_, _-_, _≤_, _<_}
+use Prim.Native.Nat.{ℕ, zero, suc, _+_, _-_, _<_}
 use native.Mathlib.Nat as N
 use native.Mathlib.Omega.{arith}
 use borrow.Author.Tests.{lt-ltb}
@@ -14,7 +14,7 @@ use lib.Seq.{getD-set-same}
 use types.Run.{OneOf}
 use denote.Enum.Declared as Declared
 use Rattle.fund.specs.Base.{if_then_else_, table}
-use Rattle.fund.specs.Recursion.{Cell, cells}
+use Rattle.fund.specs.Recursion.{Cell}
 use Rattle.fund.specs.Refusals.{wide}
 use Rattle.fund.specs.Answer.{lent}
 use Rattle.laws.specs.Tables.{table-first, map-table}
@@ -25,9 +25,9 @@ use Rattle.recursion.proofs.Recursed as R
 use Rattle.recursion.specs.declared.Recursed.{Recursed}
 use Rattle.recursion.specs.declared.Recursed.the-variants.{Done, Short, Outside, Wide, Large}
 use Rattle.recursion.specs.Slices.{cellIn, entriesIn, most-cell, CellFits}
-use Rattle.recursion.specs.Recursion.{large, tested, stopped, cellsTo, after, recursed, left, leaves, recursion}
+use Rattle.recursion.specs.Recursion.{large, stopped, cellsTo, after, recursed, left, leaves, recursion}
 use Rattle.recursion.specs.Tests.{Kept, Tests}
-use Rattle.recursion.specs.Steps.{CellsFilled, WideAt, LargeAt, StepsTo, StepsFrom, Outcome, Settled}
+use Rattle.recursion.specs.Steps.{CellsFilled, StepsTo, StepsFrom, Outcome, Settled}
 use Rattle.recursion.proofs.Tested.{small-cell, tested-kept}
 
 -- ---- the start

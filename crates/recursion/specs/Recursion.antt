@@ -7,7 +7,7 @@ use lib.Dec.{ltb}
 use lib.IntN.{ℤ, pos, natAbs}
 use lib.ListN.{length, getD, replicate}
 use Rattle.fund.specs.Base.{if_then_else_, table}
-use Rattle.fund.specs.Limits.{most-horizon, most-bound}
+use Rattle.fund.specs.Limits.{most-horizon}
 use Rattle.fund.specs.Recursion.{Cell, cells}
 use Rattle.fund.specs.Refusals.{first, wide, short}
 use Rattle.fund.specs.Answer.{lent}

@@ -8,16 +8,18 @@ use fund::Fund;
 use whole::Signed;
 use whole::Sums;
 ghost use mathlib.Core.Path.{_≡_};
-ghost use Prim.Native.Nat.{suc, _+_, _*_, _<_, _≤_};
+ghost use Prim.Native.Nat.{suc, _+_, _<_, _≤_};
 ghost use lib.IntN.{pos};
 ghost use lib.ListN.{length, replicate, set};
-ghost use Rattle.fund.specs.Limits.{most-horizon};
 ghost use Rattle.rounding.specs.Rounding.{near, nearest, up};
 ghost use Rattle.whole.specs.Sums.{sumOf};
-ghost use Rattle.recursion.specs.Slices.{cellIn, cellOf, CellFits, TransformFits, CellsFit};
+ghost use Rattle.recursion.specs.Slices.{cellIn, CellFits, TransformFits, CellsFit};
 ghost use Rattle.recursion.specs.Places.{PlacesOf};
 ghost use Rattle.recursion.specs.Tests.{Kept};
 ghost use Rattle.recursion.specs.Steps.{most-sum, SumsTo, Steps, StepsFrom};
+
+// A place for each k from 1 to X.
+const MOST_PLACES: usize = Fund::MOST_HORIZON as usize;
 
 pub(crate) fn clear_cells(f: &mut [i64], r: &mut [u64])
     ensures { λ _. ⌜ (now (f .exit) ≡ replicate (length (now (f .entry))) (pos 0)) × (now (r .exit) ≡ replicate (length (now (r .entry))) 0) ⌝ }
@@ -60,7 +62,7 @@ fn steps(horizon: usize, d: &[i64], h: &[u64], f: &mut [i64], r: &mut [u64]) -> 
     requires { ⌜ (horizon < length (now f)) × (horizon < length (now r)) × CellFits (cellIn (now f) (now r) 0) ⌝ }
     ensures { λ a. ⌜ Steps horizon (now (d .entry)) (now (h .entry)) (now (f .entry)) (now (r .entry)) (now (f .exit)) (now (r .exit)) a ⌝ }
 {
-    let mut list = [0usize; 4096];
+    let mut list = [0usize; MOST_PLACES];
     let p = places::list_places(horizon, d, h, &mut list);
     fill_cells(horizon, d, h, &list, p, f, r)
 }

@@ -1,5 +1,5 @@
 -- The test of a header and a table tells whether they are in their ranges (inside-tells), and where they are the answer is that of 7 to 10 (valuation-inside).
-use mathlib.Core.Path.{_≡_, refl, sym, _∙_}
+use mathlib.Core.Path.{_≡_, refl, sym}
 use mathlib.Core.Bool.{Bool, true, false, true≢false, not, _&&_, _||_}
 use mathlib.Core.List.{List, [], _∷_}
 use Prim.Native.Nat.{ℕ, _≤_}

@@ -24,14 +24,12 @@ use Rattle.fund.specs.Lines.{lines, linesFrom}
 use Rattle.fund.specs.Transform.{load, truncation}
 use Rattle.fund.specs.Refusals.{Lengths, short, refuse, at0, valued, first, wide}
 use Rattle.fund.specs.Answer.{Answer, empty, part, lineAt, noFigures, refused, fundTerms, fundCells}
-use Rattle.laws.specs.Tells.{Tells, tells-not}
 use Rattle.recursion.proofs.Tested.{Long, long-of}
 use Rattle.valuation.specs.declared.Valued.{Valued}
 use Rattle.valuation.specs.declared.totals.Totals.{Totals}
-use Rattle.valuation.specs.Table.{Members}
-use Rattle.valuation.specs.Inside.{HeaderIn, inside}
+use Rattle.valuation.specs.Inside.{inside}
 use Rattle.valuation.specs.Filling.{TableFits, TableAdded}
-use Rattle.valuation.specs.Totals.{LivesTotals, TableTotals}
+use Rattle.valuation.specs.Totals.{TableTotals}
 use Rattle.valuation.specs.Valued.{left, outcome, Zeros, verdictOf, valuation}
 use Rattle.valuation.specs.Steps.{TotalsFor, testedOf, Passed, Tested, Fillable, TransformFilled, ReadyFor, Answers}
 use Rattle.valuation.proofs.InsideTells.{inside-tells}

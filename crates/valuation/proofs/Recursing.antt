@@ -2,37 +2,33 @@
 -- is done or stops at the first wide cell (recursion-is).
 use mathlib.Core.Path.{_≡_, refl, sym, _∙_, ap, ap₂, subst}
 use mathlib.Core.Bool.{Bool, true, false}
-use mathlib.Core.Logic.{⊎-elim}
-use mathlib.Core.List.{List, [], _∷_, _++_, reverse}
+use mathlib.Core.List.{List, _∷_, _++_, reverse}
 use mathlib.Core.Option.{Option, none, some}
 use Prim.Native.Nat.{ℕ, zero, suc, _+_, _<_, _≤_}
-use native.Mathlib.Nat as N
 use native.Mathlib.Omega.{arith}
-use borrow.Author.Tests.{le-ltb, ltb-true, ltb-false}
+use borrow.Author.Tests.{le-ltb, ltb-false}
 use lib.IntN.{ℤ, pos, natAbs}
 use lib.ListN.{length, getD, length-append}
 use Rattle.algebra.specs.NatSum.{sumN-ext, sumN-first}
 use Rattle.fund.specs.declared.Fund.{Fund}
 use Rattle.fund.specs.declared.Life.{Life}
-use Rattle.fund.specs.Base.{if_then_else_, table}
+use Rattle.fund.specs.Base.{table}
 use Rattle.fund.specs.Limits.{most-bound}
 use Rattle.fund.specs.Transform.{Term, terms, D, H}
 use Rattle.fund.specs.Recursion.{Cell, entries, cells}
-use Rattle.fund.specs.Refusals.{Lengths, first, wide}
-use Rattle.fund.specs.Answer.{fundTerms, fundStart, fundCells, fundTruncation}
-use Rattle.laws.specs.Accepted.{all-map}
+use Rattle.fund.specs.Refusals.{first, wide}
+use Rattle.fund.specs.Answer.{fundTerms, fundStart, fundCells}
 use Rattle.laws.specs.Tables.{length-table, table-first}
-use Rattle.laws.specs.Cells.{cellAt, cellAt-zero, sum-is}
+use Rattle.laws.specs.Cells.{cellAt-zero, sum-is}
 use Rattle.laws.specs.Slices.{D-at, H-at, entries-are}
 use Rattle.laws.specs.Answer.{fundCell, fundCells-are}
 use Rattle.distance.specs.Members.{Priceable}
 use Rattle.distance.specs.Widths.{f-small}
 use Rattle.widths.specs.Widths.{width-D, width-H, H-le, D-sum-le}
 use Rattle.recursion.specs.declared.Recursed.{Recursed}
-use Rattle.recursion.specs.declared.Recursed.the-variants.{Done, Wide, Large}
+use Rattle.recursion.specs.declared.Recursed.the-variants.{Done, Wide}
 use Rattle.recursion.specs.Slices.{most-cell, CellFits, TransformFits}
-use Rattle.recursion.specs.Recursion.{large, stopped, cellsTo, leaves, recursion, recursed, after, tested}
-use Rattle.recursion.specs.Tests.{Kept}
+use Rattle.recursion.specs.Recursion.{large, stopped, cellsTo, leaves, recursion, recursed, after}
 use Rattle.recursion.proofs.Tested.{tested-kept}
 use Rattle.valuation.specs.Table.{Members}
 use Rattle.valuation.specs.Inside.{HeaderIn}

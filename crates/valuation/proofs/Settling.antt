@@ -1,8 +1,8 @@
 -- What follows the recursion of a fund: refusal 10 with its zeros (answers-wide), or cells that stand (Stands), from which the premium's sums are had (below-deductible)
 -- and the fund's figures (answers-accepted).
 use mathlib.Core.Path.{_≡_, refl, sym, _∙_, ap, ap₂, subst}
-use mathlib.Core.Bool.{Bool, true, false}
-use mathlib.Core.List.{List, [], _∷_, _++_, map}
+use mathlib.Core.Bool.{Bool, false}
+use mathlib.Core.List.{List, [], _∷_, _++_}
 use mathlib.Core.Option.{Option, none, some}
 use Prim.Native.Nat.{ℕ, zero, suc, min, _+_, _-_, _<_, _≤_}
 use native.Mathlib.Omega.{arith}
@@ -11,18 +11,17 @@ use lib.ListN.{length, getD, drop, replicate}
 use types.Run.{OneOf}
 use denote.Enum.Declared as Declared
 use Rattle.algebra.specs.NatSum.{sumN-ext}
-use Rattle.fund.specs.declared.Figures.{Figures}
 use Rattle.fund.specs.declared.Fund.{Fund}
 use Rattle.fund.specs.declared.Life.{Life}
 use Rattle.fund.specs.declared.Refusal.the-variants as refusal
 use Rattle.fund.specs.declared.Verdict.the-variants.{Accepted, Refused}
 use Rattle.fund.specs.Base.{table}
-use Rattle.fund.specs.Limits.{most-bound, most-load, most-truncation}
+use Rattle.fund.specs.Limits.{most-bound, most-load}
 use Rattle.fund.specs.Transform.{D, H, load, mean, truncation}
 use Rattle.fund.specs.Recursion.{Cell}
 use Rattle.fund.specs.Premium.{premium, within}
-use Rattle.fund.specs.Refusals.{Lengths, short, first, wide, refuse, valued}
-use Rattle.fund.specs.Answer.{empty, part, noFigures, fundTerms, fundStart, fundCells, fundTruncation, fundMean, fundFigures, lent, refused, accepted}
+use Rattle.fund.specs.Refusals.{Lengths, first, wide, refuse, valued}
+use Rattle.fund.specs.Answer.{part, noFigures, fundTerms, fundStart, fundCells, fundTruncation, fundMean, fundFigures, lent, refused, accepted}
 use Rattle.laws.specs.Accepted.{All, all-map, first-none}
 use Rattle.laws.specs.Tables.{length-table, table-first}
 use Rattle.laws.specs.Slices.{table-ext}

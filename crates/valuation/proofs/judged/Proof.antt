@@ -1,9 +1,7 @@
 -- A refusal of the tests leaves zeros; else the transform is filled and the recursion follows.
-use mathlib.Core.Path.{_≡_, refl, sym, ap, ap₂, _∙_, subst}
-use Prim.Native.Nat.{_≤_}
-use native.Mathlib.Omega.{arith}
+use mathlib.Core.Path.{sym, ap₂, subst}
 use borrow.Author.Needs.{needs}
-use lib.ListN.{length, take, length-take}
+use lib.ListN.{length, take}
 use Rattle.fund.specs.Refusals.{Lengths}
 use Rattle.valuation.specs.Valued.{lengths}
 use Rattle.valuation.specs.Steps.{Passed, Tested, ReadyFor}

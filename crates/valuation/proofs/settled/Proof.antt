@@ -1,5 +1,5 @@
 -- A recursion that is not done met a wide cell; else the cells stand and the figures are the fund's.
-use mathlib.Core.Path.{sym, ap, _∙_}
+use mathlib.Core.Path.{ap, _∙_}
 use native.Mathlib.Omega.{arith}
 use borrow.Author.Needs.{needs, sfits-of}
 use mir.Syntax.{w64}

@@ -1,6 +1,5 @@
 -- Each test's answer is the definition's; where none refuses, all have passed.
-use mathlib.Core.Path.{_≡_, sym, _∙_}
-use mathlib.Core.Bool.{true, false}
+use mathlib.Core.Path.{sym, _∙_}
 use borrow.Author.Needs.{needs}
 use borrow.Author.Tests.{not-true, not-false}
 use Rattle.valuation.proofs.Judging.{tested-range, tested-load, tested-order, tested-short}

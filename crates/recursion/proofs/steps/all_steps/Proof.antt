@@ -4,7 +4,6 @@ use native.Mathlib.Omega.{arith}
 use borrow.Author.Needs.{needs}
 use lib.ListN.{length}
 use mir.Facts.{toZ-ofZ}
-use Rattle.fund.specs.Recursion.{Cell}
 use Rattle.laws.specs.Cells.{cellAt}
 use Rattle.recursion.specs.Slices.{cellIn, entriesIn, CellFits}
 use Rattle.recursion.proofs.Outcomes.{start-cell, steps-from}

@@ -1,5 +1,5 @@
 -- The cells are cleared, and the first of each is stored.
-use mathlib.Core.Path.{ap, ap₂, _∙_}
+use mathlib.Core.Path.{ap, ap₂}
 use borrow.Author.Needs.{needs}
 use lib.ListN.{set}
 use mir.Facts.{toZ-ofZ}

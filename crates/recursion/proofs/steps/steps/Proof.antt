@@ -19,7 +19,7 @@ fill-cells-requires : tie.Need-fill-cells-requires
 fill-cells-requires c κs =
     let s = c .before .before .before .before .before .before .before .before in
     let p = c .before .before .before .before .list-places in
-    (s .pre .0, (s .pre .1, record { listed = p .ensures .0; room = omega (arith, p .ensures .0 .few, s .pre .0 .horizon, p .kept .1 .1 .1 .0, length-replicate {A = ℕ} 4096 0); all-small = p .ensures .1 }))
+    (s .pre .0, (s .pre .1, record { listed = p .ensures .0; room = omega (arith, p .ensures .0 .few, s .pre .0 .horizon, p .kept .1 .1 .1 .0, length-replicate {A = ℕ} 4095 0); all-small = p .ensures .1 }))
 
 same-length : tie.Need-same-length
 same-length c = search needs

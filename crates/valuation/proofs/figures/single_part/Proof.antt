@@ -1,7 +1,6 @@
 -- The group decides; a life of group 1 stays with a rate above a half.
 use borrow.Author.Needs.{needs}
 use borrow.Author.Tests.{eq-eqb, ne-eqb}
-use native.Mathlib.Omega.{arith}
 use Rattle.fund.specs.Transform.{unit}
 use Rattle.valuation.proofs.figures.single_part.Statement.{statement}
 use Rattle.valuation.proofs.figures.single_part.Tie as tie

@@ -1,6 +1,6 @@
 -- `valuation::lives::first_totals`: the first lives of an array that is passed by value are lent to `table_totals`. A walk of its MIR by hand: the
 -- array is copied to its memory, its first elements are shared out for the call's lifetime, and the memory comes back as room.
-use mathlib.Core.Path.{_≡_, refl, sym}
+use mathlib.Core.Path.{refl, sym}
 use Prim.Native.Nat.{ℕ, _≤_}
 use mathlib.Core.List.{List, [], _∷_}
 use lib.ListN.{length, take}
@@ -15,7 +15,7 @@ use prog.Wp.{Heap, WpFn}
 use ghost.Atoms.{Atoms, sem}
 use contract.Monad.{Fun, factI}
 use contract.Running.{Running, GhostRules, givenOf, tables}
-use types.Kit.{Given, Item, ‵, some, later, _⊛_, _$_, _∵_, !, qed, by, move, keep, drop as let-go, use0, use1, use2, split, join, pick, rewrite, fsplit, fjoin, frame, await, done}
+use types.Kit.{Given, ‵, some, later, _⊛_, _$_, _∵_, !, qed, by, move, keep, drop as let-go, use0, use1, use2, split, join, pick, rewrite, fsplit, fjoin, frame, await, done}
 use types.Part.{agg}
 use types.Run.{look, init, stop, from, addr, of-opd, and-then, no-more, assigns, land, returns, enter, alloc1, alloc0, params1, pass1, pass0, free0}
 use types.Tokens.{lft-new, lft-end}

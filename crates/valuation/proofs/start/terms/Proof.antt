@@ -1,6 +1,6 @@
 -- `terms` meets its contract. The loop's invariant: t and c are t(n) and c(n), and the sums are those over the first n.
 use mathlib.Core.Path.{_≡_, sym, ap, ap₂, subst, _∙_}
-use Prim.Native.Nat.{_+_, _-_, _*_, _%_, _^_, _≤_}
+use Prim.Native.Nat.{_-_, _*_, _%_, _^_, _≤_}
 use lib.Dec.{eqb}
 use native.Mathlib.Numerals.{add-one}
 use native.Mathlib.Omega.{arith}

@@ -1,9 +1,7 @@
 -- The sums of t and c, of a lambda up to the largest load.
 use mathlib.Core.Path.{_≡_, _∙_, subst}
-use Prim.Native.Nat.{min, _≤_}
 use native.Mathlib.Omega.{arith}
 use borrow.Author.Needs.{needs}
-use Rattle.fund.specs.Limits.{most-load}
 use Rattle.valuation.specs.Totals.{StartSumIs}
 use Rattle.valuation.proofs.totals.first_sum.Statement.{statement}
 use Rattle.valuation.proofs.totals.first_sum.Tie as tie

@@ -1,4 +1,4 @@
--- `valuation::transform::fill`: a walk over the table that lends the two slices again to the step of each life.
+-- `valuation::transform::fill_transform`: a walk over the table that lends the two slices again to the step of each life.
 use mathlib.Core.Path.{_≡_, refl, sym, _∙_, ap, subst}
 use mathlib.Core.WellFounded.{WellFounded, InvImage·wf}
 use Prim.Native.Nat.{ℕ, _+_, _-_, _*_, _<_, _≤_, _^_}
@@ -62,17 +62,14 @@ use Rattle.valuation.proofs.transform.fill_transform as fill
 use Rattle.valuation.proofs.transform.fill_transform.Statement as stated
 use Rattle.valuation.proofs.transform.fill_transform.Code as code
 
-abbrev sliceD : Ty
-sliceD = sliceTy (tyRef (named 1) mut word)
-
 abbrev sliceE : Ty
 sliceE = sliceTy ref
 
-abbrev sliceH : Ty
-sliceH = sliceTy (tyRef (named 2) mut word)
+-- a result slice, of the n-th lifetime
+abbrev sliceM : ℕ → Ty
+sliceM n = sliceTy (tyRef (named n) mut word)
 
--- ---- the MIR. The locals: the result, the members, x, d, h, k, the count and the byte offset, the test, the step's result, d's and h's place and the
--- slice lent again, the element's place, the element
+-- ---- the MIR. The locals: the result, the members, x, d, h, k, the count and byte offset, the test, the step's result, d and h lent again, the element's place, the element
 abbrev turn : Body
 turn =
     seq (assign (place 6 []) (rvOpd (copy (place 1 (field 1 ∷ [])))))
@@ -94,7 +91,7 @@ function = record {
   lifetimes = 3;
   outlives = [];
   params = 4;
-  locals = local tyUnit valueLocal ∷ local (slice life) valueLocal ∷ local F′.mir valueLocal ∷ local sliceD valueLocal ∷ local sliceH valueLocal ∷ local word valueLocal ∷ local word valueLocal ∷ local tyBool valueLocal ∷ local tyUnit valueLocal ∷ local ref valueLocal ∷ local sliceE valueLocal ∷ local ref valueLocal ∷ local sliceE valueLocal ∷ local tyPtr valueLocal ∷ local L′.mir valueLocal ∷ [];
+  locals = local tyUnit valueLocal ∷ local (slice life) valueLocal ∷ local F′.mir valueLocal ∷ local (sliceM 1) valueLocal ∷ local (sliceM 2) valueLocal ∷ local word valueLocal ∷ local word valueLocal ∷ local tyBool valueLocal ∷ local tyUnit valueLocal ∷ local ref valueLocal ∷ local sliceE valueLocal ∷ local ref valueLocal ∷ local sliceE valueLocal ∷ local tyPtr valueLocal ∷ local L′.mir valueLocal ∷ [];
   body = seq (assign (place 5 []) (rvOpd (int w64 0))) (seq (block (loop turn)) rest);
 }
 
@@ -198,13 +195,13 @@ module _ {M : Type 1} (𝓤 : URA M) (H : Heap 𝓤) (𝓜 : Model 𝓤 H) (𝓖
 
     module _ (g : length ms < 2 ^ 64) (gb : length ms * 40 < 2 ^ 63) (is-x : Is F.the-row x (F′.lowered x ∷ [])) (room-d : Room i64 (length d₀)) (room-h : Room u64 (length h₀)) (l₀ l₁ l₂ l₃ l₄ l₅ l₆ l₇ l₈ l₉ l₁₀ l₁₁ l₁₂ l₁₃ l₁₄ : ℕ) where
       abbrev En : Env 𝓤 H
-      En = (tyUnit, l₀) ∷ (slice life, l₁) ∷ (F′.mir, l₂) ∷ (sliceD, l₃) ∷ (sliceH, l₄) ∷ (word, l₅) ∷ (word, l₆) ∷ (tyBool, l₇) ∷ (tyUnit, l₈) ∷ (ref, l₉) ∷ (sliceE, l₁₀) ∷ (ref, l₁₁) ∷ (sliceE, l₁₂) ∷ (tyPtr, l₁₃) ∷ (L′.mir, l₁₄) ∷ []
+      En = (tyUnit, l₀) ∷ (slice life, l₁) ∷ (F′.mir, l₂) ∷ ((sliceM 1), l₃) ∷ ((sliceM 2), l₄) ∷ (word, l₅) ∷ (word, l₆) ∷ (tyBool, l₇) ∷ (tyUnit, l₈) ∷ (ref, l₉) ∷ (sliceE, l₁₀) ∷ (ref, l₁₁) ∷ (sliceE, l₁₂) ∷ (tyPtr, l₁₃) ∷ (L′.mir, l₁₄) ∷ []
 
       abbrev At : State → List (Item 𝓤)
       At s = own-d (s .d) (length d₀) ∷ own-h (s .h) (length h₀) ∷ ‵ (flft κ₁ q₁) ∷ ‵ (flft κ₂ q₂) ∷ ‵ (borrowed life κ₀ ms b o) ∷ ‵ (flft κ₀ q₀)
           ∷ ‵ (fat fullShare word l₅ 0 (vint w64 (s .k))) ∷ ‵ (froom word l₆ 0) ∷ ‵ (froom tyBool l₇ 0) ∷ ‵ (froom tyUnit l₈ 0) ∷ ‵ (froom ref l₉ 0) ∷ ‵ (froom sliceE l₁₀ 0) ∷ ‵ (froom ref l₁₁ 0) ∷ ‵ (froom sliceE l₁₂ 0)
-          ∷ ‵ (froom tyPtr l₁₃ 0) ∷ ‵ (froom L′.mir l₁₄ 0) ∷ ‵ (fat fullShare (slice life) l₁ 0 v) ∷ ‵ (fat fullShare F′.mir l₂ 0 (F′.lowered x)) ∷ ‵ (fat fullShare sliceD l₃ 0 (v₁ (length d₀))) ∷ ‵ (fat fullShare sliceH l₄ 0 (v₂ (length h₀)))
-          ∷ ‵ (froom tyUnit l₀ 0) ∷ ‵ (fdies tyUnit l₀) ∷ ‵ (fdies (slice life) l₁) ∷ ‵ (fdies F′.mir l₂) ∷ ‵ (fdies sliceD l₃) ∷ ‵ (fdies sliceH l₄) ∷ ‵ (fdies word l₅) ∷ ‵ (fdies word l₆) ∷ ‵ (fdies tyBool l₇) ∷ ‵ (fdies tyUnit l₈) ∷ ‵ (fdies ref l₉) ∷ ‵ (fdies sliceE l₁₀) ∷ ‵ (fdies ref l₁₁) ∷ ‵ (fdies sliceE l₁₂) ∷ ‵ (fdies tyPtr l₁₃) ∷ ‵ (fdies L′.mir l₁₄) ∷ ‵ ftrue ∷ []
+          ∷ ‵ (froom tyPtr l₁₃ 0) ∷ ‵ (froom L′.mir l₁₄ 0) ∷ ‵ (fat fullShare (slice life) l₁ 0 v) ∷ ‵ (fat fullShare F′.mir l₂ 0 (F′.lowered x)) ∷ ‵ (fat fullShare (sliceM 1) l₃ 0 (v₁ (length d₀))) ∷ ‵ (fat fullShare (sliceM 2) l₄ 0 (v₂ (length h₀)))
+          ∷ ‵ (froom tyUnit l₀ 0) ∷ ‵ (fdies tyUnit l₀) ∷ ‵ (fdies (slice life) l₁) ∷ ‵ (fdies F′.mir l₂) ∷ ‵ (fdies (sliceM 1) l₃) ∷ ‵ (fdies (sliceM 2) l₄) ∷ ‵ (fdies word l₅) ∷ ‵ (fdies word l₆) ∷ ‵ (fdies tyBool l₇) ∷ ‵ (fdies tyUnit l₈) ∷ ‵ (fdies ref l₉) ∷ ‵ (fdies sliceE l₁₀) ∷ ‵ (fdies ref l₁₁) ∷ ‵ (fdies sliceE l₁₂) ∷ ‵ (fdies tyPtr l₁₃) ∷ ‵ (fdies L′.mir l₁₄) ∷ ‵ ftrue ∷ []
 
       turns : (s : State) → Seq (Go {0}) W (At s) (runs (𝓣 .C) (𝓣 .Λ) En turn
           (anyQ (afterTurn 𝓤 H (Below 𝓤 H A ≺ At s) (afterBlock 𝓤 H (afterSeq 𝓤 H (Wp 𝓤 H (𝓣 .C) (𝓣 .Λ) En rest (atReturn 𝓤 H En Post)) (atReturn 𝓤 H En Post))))))
@@ -255,8 +252,7 @@ module _ {M : Type 1} (𝓤 : URA M) (H : Heap 𝓤) (𝓜 : Model 𝓤 H) (𝓖
           assigns ! (of-opd ! (unit-lit !)) (from ! (stop !)) (init ! 20 refl (tt, tt)) $
           returns ! (look ! 20 refl) $ frees-cell ! 20 20 refl refl $ frees-cell ! 16 19 refl refl $ frees-cell ! 16 18 refl refl $ frees-cell ! 16 17 refl refl $
           frees-cell ! 16 16 refl refl $ frees-cell ! 6 15 refl refl $ frees-cell ! 6 14 refl refl $ frees-cell ! 6 13 refl refl $ frees-room ! 6 12 refl refl $
-          frees-room ! 6 11 refl refl $ frees-room ! 6 10 refl refl $ frees-room ! 6 9 refl refl $ frees-room ! 6 8 refl refl $ frees-room ! 6 7 refl refl $
-          frees-room ! 6 6 refl refl $ free0 ! $
+          frees-room ! 6 11 refl refl $ frees-room ! 6 10 refl refl $ frees-room ! 6 9 refl refl $ frees-room ! 6 8 refl refl $ frees-room ! 6 7 refl refl $ frees-room ! 6 6 refl refl $ free0 ! $
           -- [what d owns; what h owns; d's token; h's token; the members; their token; true]
           move ! (3 ∷ 6 ∷ []) $ join ! $ move ! (3 ∷ 0 ∷ []) $ join ! $ move ! (4 ∷ 0 ∷ []) $ join ! $ keep ! (0 ∷ 1 ∷ 2 ∷ []) $
           by ! (exits (s .d) (s .h) (s .d-long) (s .h-long) (fills-all ms x d₀ h₀ (s .d) (s .h) (subst (λ (l : List Life). Fills ms x d₀ h₀ l (s .d) (s .h)) left (s .inv)))))
