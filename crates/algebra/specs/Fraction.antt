@@ -21,8 +21,8 @@ Same x y = x .num *ℤ y .den ≡ y .num *ℤ x .den
 abbrev pub frac : ℤ → ℕ → Frac
 frac z k = record { num = z; den = pos (suc k); den-pos = tt }
 
-abbrev pub addF : Frac → Frac → Frac
-addF x y = record {
+abbrev pub addFraction : Frac → Frac → Frac
+addFraction x y = record {
   num = x .num *ℤ y .den +ℤ y .num *ℤ x .den;
   den = x .den *ℤ y .den;
   den-pos = posb-mul (x .den) (y .den) (x .den-pos) (y .den-pos);
@@ -43,12 +43,12 @@ lc : {l r s t : ℤ} (c : ℤ) → s ≡ t → l +ℤ c *ℤ t ≡ r +ℤ c *ℤ
 lc {l} {r} {s} {t} c e h = ring3 ℤ-ring (λ l c t. l := (l ⊕ c ⊗ t) ⊝ c ⊗ t) tt l c t ∙ ap (λ x. x -ℤ c *ℤ t) h
     ∙ ap (λ x. r +ℤ c *ℤ s -ℤ c *ℤ x) (sym e) ∙ ring3 ℤ-ring (λ r c s. (r ⊕ c ⊗ s) ⊝ c ⊗ s := r) tt r c s
 
-pub add-l : (a a′ b : Frac) → Same a a′ → Same (addF a b) (addF a′ b)
+pub add-l : (a a′ b : Frac) → Same a a′ → Same (addFraction a b) (addFraction a′ b)
 add-l a a′ b h = lc (b .den *ℤ b .den) h
     (ring6 ℤ-ring (λ n d n′ d′ m e. ((n ⊗ e ⊕ m ⊗ d) ⊗ (d′ ⊗ e)) ⊕ (e ⊗ e) ⊗ (n′ ⊗ d)
     := ((n′ ⊗ e ⊕ m ⊗ d′) ⊗ (d ⊗ e)) ⊕ (e ⊗ e) ⊗ (n ⊗ d′)) tt (a .num) (a .den) (a′ .num) (a′ .den) (b .num) (b .den))
 
-pub add-r : (a b b′ : Frac) → Same b b′ → Same (addF a b) (addF a b′)
+pub add-r : (a b b′ : Frac) → Same b b′ → Same (addFraction a b) (addFraction a b′)
 add-r a b b′ h = lc (a .den *ℤ a .den) h
     (ring6 ℤ-ring (λ n d n′ d′ m e. ((m ⊗ d ⊕ n ⊗ e) ⊗ (e ⊗ d′)) ⊕ (e ⊗ e) ⊗ (n′ ⊗ d)
     := ((m ⊗ d′ ⊕ n′ ⊗ e) ⊗ (e ⊗ d)) ⊕ (e ⊗ e) ⊗ (n ⊗ d′)) tt (b .num) (b .den) (b′ .num) (b′ .den) (a .num) (a .den))

@@ -75,11 +75,11 @@ pub cancel-abs : (b : ℕ) (x y : ℚ) → 0 < b → abs (nat b * x) ≤ nat b *
 cancel-abs b x y h k = cancel b h (≤-trans (≤-of-eq (sym (abs-scale (nat b) x (nat-nn b)))) k)
 
 -- ---- one half
-abbrev pub half : ℚ
-half = inv 1
+abbrev pub halfQ : ℚ
+halfQ = inv 1
 
-pub half-twice : half + half ≡ oneQ
-half-twice = ring1 ℚ-ring (λ h. h ⊕ h := con (pos 2) ⊗ h) tt half ∙ inv-ok 1
+pub half-twice : halfQ + halfQ ≡ oneQ
+half-twice = ring1 ℚ-ring (λ h. h ⊕ h := con (pos 2) ⊗ h) tt halfQ ∙ inv-ok 1
 
-pub half-nn : zeroQ ≤ half
+pub half-nn : zeroQ ≤ halfQ
 half-nn = inv-nn 1

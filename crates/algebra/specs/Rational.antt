@@ -11,7 +11,7 @@ use std.Quotient.{_/_, cls, eq/, /-set, /-rec, /-rec₂, /-elim-prop, /-elim-pro
 use Rattle.algebra.specs.Ring.{CRing}
 use Rattle.algebra.specs.Integer.{ℤ-ring}
 use Rattle.algebra.specs.IntegerOrder.{posb, nonNeg-mul, nn-add, nn-mul, nn-total, nn-antisym}
-use Rattle.algebra.specs.Fraction.{Frac, Same, frac, addF, mulF, negF, add-l, add-r, mul-l, mul-r, neg-ok}
+use Rattle.algebra.specs.Fraction.{Frac, Same, frac, addFraction, mulF, negF, add-l, add-r, mul-l, mul-r, neg-ok}
 use Rattle.algebra.specs.Fraction.{nz, nz-sq, nz-zero, invF, recF, rec-resp}
 use Rattle.algebra.specs.Order.{Ord}
 use Rattle.algebra.specs.Solver.{𝟎, 𝟏, _⊕_, _⊗_, ⊖_, _:=_, ring1, ring2, ring4, ring6}
@@ -20,8 +20,8 @@ abbrev pub ℚ : Type 0
 ℚ = Frac / Same
 
 pub addQ : ℚ → ℚ → ℚ
-addQ = /-rec₂ /-set (λ a b. cls (addF a b)) (λ a a′ b h. eq/ (addF a b) (addF a′ b) (add-l a a′ b h))
-    (λ a b b′ h. eq/ (addF a b) (addF a b′) (add-r a b b′ h))
+addQ = /-rec₂ /-set (λ a b. cls (addFraction a b)) (λ a a′ b h. eq/ (addFraction a b) (addFraction a′ b) (add-l a a′ b h))
+    (λ a b b′ h. eq/ (addFraction a b) (addFraction a b′) (add-r a b b′ h))
 
 pub mulQ : ℚ → ℚ → ℚ
 mulQ = /-rec₂ /-set (λ a b. cls (mulF a b)) (λ a a′ b h. eq/ (mulF a b) (mulF a′ b) (mul-l a a′ b h))
@@ -49,24 +49,24 @@ by₃ f g h = /-elim-prop₃ (λ x y z. f x y z ≡ g x y z) (λ x y z. /-set (f
 pub q-add-comm : (x y : ℚ) → addQ x y ≡ addQ y x
 unfolding addQ /-rec₂
 q-add-comm = by₂ (λ x y. addQ x y) (λ x y. addQ y x)
-    (λ a b. eq/ (addF a b) (addF b a) (ring4 ℤ-ring (λ n d m e. (n ⊗ e ⊕ m ⊗ d) ⊗ (e ⊗ d)
+    (λ a b. eq/ (addFraction a b) (addFraction b a) (ring4 ℤ-ring (λ n d m e. (n ⊗ e ⊕ m ⊗ d) ⊗ (e ⊗ d)
     := (m ⊗ d ⊕ n ⊗ e) ⊗ (d ⊗ e)) tt (a .num) (a .den) (b .num) (b .den)))
 
 pub q-add-assoc : (x y z : ℚ) → addQ (addQ x y) z ≡ addQ x (addQ y z)
 unfolding addQ /-rec₂
 q-add-assoc = by₃ (λ x y z. addQ (addQ x y) z) (λ x y z. addQ x (addQ y z))
-    (λ a b c. eq/ (addF (addF a b) c) (addF a (addF b c))
+    (λ a b c. eq/ (addFraction (addFraction a b) c) (addFraction a (addFraction b c))
     (ring6 ℤ-ring (λ n d m e p f. ((n ⊗ e ⊕ m ⊗ d) ⊗ f ⊕ p ⊗ (d ⊗ e)) ⊗ (d ⊗ (e ⊗ f))
     := (n ⊗ (e ⊗ f) ⊕ (m ⊗ f ⊕ p ⊗ e) ⊗ d) ⊗ (d ⊗ e ⊗ f)) tt (a .num) (a .den) (b .num) (b .den) (c .num) (c .den)))
 
 pub q-add-zero : (x : ℚ) → addQ x zeroQ ≡ x
 unfolding addQ /-rec₂
-q-add-zero = by₁ (λ x. addQ x zeroQ) (λ x. x) (λ a. eq/ (addF a (frac (pos 0) 0)) a
+q-add-zero = by₁ (λ x. addQ x zeroQ) (λ x. x) (λ a. eq/ (addFraction a (frac (pos 0) 0)) a
     (ring2 ℤ-ring (λ n d. (n ⊗ 𝟏 ⊕ 𝟎 ⊗ d) ⊗ d := n ⊗ (d ⊗ 𝟏)) tt (a .num) (a .den)))
 
 pub q-add-neg : (x : ℚ) → addQ x (negQ x) ≡ zeroQ
 unfolding addQ negQ /-rec₂ /-rec
-q-add-neg = by₁ (λ x. addQ x (negQ x)) (λ x. zeroQ) (λ a. eq/ (addF a (negF a)) (frac (pos 0) 0)
+q-add-neg = by₁ (λ x. addQ x (negQ x)) (λ x. zeroQ) (λ a. eq/ (addFraction a (negF a)) (frac (pos 0) 0)
     (ring2 ℤ-ring (λ n d. (n ⊗ d ⊕ (⊖ n) ⊗ d) ⊗ 𝟏 := 𝟎 ⊗ (d ⊗ d)) tt (a .num) (a .den)))
 
 pub q-mul-comm : (x y : ℚ) → mulQ x y ≡ mulQ y x
@@ -89,7 +89,7 @@ q-mul-one = by₁ (λ x. mulQ x oneQ) (λ x. x) (λ a. eq/ (mulF a (frac (pos 1)
 pub q-distrib : (x y z : ℚ) → mulQ x (addQ y z) ≡ addQ (mulQ x y) (mulQ x z)
 unfolding mulQ addQ /-rec₂
 q-distrib = by₃ (λ x y z. mulQ x (addQ y z)) (λ x y z. addQ (mulQ x y) (mulQ x z))
-    (λ a b c. eq/ (mulF a (addF b c)) (addF (mulF a b) (mulF a c))
+    (λ a b c. eq/ (mulF a (addFraction b c)) (addFraction (mulF a b) (mulF a c))
     (ring6 ℤ-ring (λ n d m e p f. (n ⊗ (m ⊗ f ⊕ p ⊗ e)) ⊗ ((d ⊗ e) ⊗ (d ⊗ f))
     := ((n ⊗ m) ⊗ (d ⊗ f) ⊕ (n ⊗ p) ⊗ (d ⊗ e)) ⊗ (d ⊗ (e ⊗ f))) tt (a .num) (a .den) (b .num) (b .den) (c .num) (c .den)))
 
@@ -102,7 +102,7 @@ ofℤ-one = refl
 
 pub ofℤ-add : (a b : ℤ) → ofℤ (a +ℤ b) ≡ addQ (ofℤ a) (ofℤ b)
 unfolding ofℤ addQ /-rec₂
-ofℤ-add a b = eq/ (frac (a +ℤ b) 0) (addF (frac a 0) (frac b 0)) (ring2 ℤ-ring (λ a b. (a ⊕ b) ⊗ 𝟏 := (a ⊗ 𝟏 ⊕ b ⊗ 𝟏) ⊗ 𝟏) tt a b)
+ofℤ-add a b = eq/ (frac (a +ℤ b) 0) (addFraction (frac a 0) (frac b 0)) (ring2 ℤ-ring (λ a b. (a ⊕ b) ⊗ 𝟏 := (a ⊗ 𝟏 ⊕ b ⊗ 𝟏) ⊗ 𝟏) tt a b)
 
 abbrev pub ℚ-ring : CRing
 ℚ-ring = record {

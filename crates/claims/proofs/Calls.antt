@@ -23,8 +23,8 @@ use Rattle.printing.specs.Printed.{shown}
 use Rattle.pricing.specs.declared.Priced.{Priced}
 use Rattle.pricing.specs.Priced.{left, horizonWith, Prices}
 use Rattle.miguepo.specs.Host.{Hosts}
-use Rattle.claims.specs.Demands.{bytesOf, Demands}
-use Rattle.claims.specs.Listing.{Listed, Kept, Prints, PrintsRead}
+use Rattle.claims.specs.Demands.{partBytes, Demands}
+use Rattle.claims.specs.Listing.{ListingFirst, Unchanged, Prints, PrintsRead}
 use Rattle.claims.specs.Calls.{handed, priced, hosted}
 use Rattle.claims.proofs.Deriving.{Answered, demands}
 
@@ -35,8 +35,8 @@ module _ (file : List ℕ) (n : Lengths) (p : Priced) (d : List ℤ) (h : List �
   v : p .verdict ≡ answer file n .verdict
   v = ap (λ (a : Answer). a .verdict) is
 
-  line-is : handed file p ≡ bytesOf file (answer file n .part)
-  line-is = rw (le-leb (p .start) (p .end) (k .answers .ordered), le-leb (p .end) (length file) (k .answers .inside)) (ap (λ (a : Answer). bytesOf file (a .part)) is)
+  line-is : handed file p ≡ partBytes file (answer file n .part)
+  line-is = rw (le-leb (p .start) (p .end) (k .answers .ordered), le-leb (p .end) (length file) (k .answers .inside)) (ap (λ (a : Answer). partBytes file (a .part)) is)
 
   pub price-demands : Demands file n (priced file p d h f r)
   price-demands =

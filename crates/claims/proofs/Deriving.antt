@@ -19,7 +19,7 @@ use Rattle.fund.specs.Distance.{fileDenominator, exactAt, exactPremiumAt, apart
 use Rattle.laws.specs.Answer.{accepted-read}
 use Rattle.laws.specs.Numbers.{zero-accepted}
 use Rattle.pricing.specs.Priced.{horizonWith}
-use Rattle.claims.specs.Demands.{Outcome, Refuses, Zero, Method, Close, Demands}
+use Rattle.claims.specs.Demands.{Received, Refuses, Zero, Method, Close, Demands}
 
 -- ---- a refusal
 -- An answer with a number above 0 is a refusal's.
@@ -42,13 +42,13 @@ refused-as file n l = go (reading file) refl l
 
 -- ---- the demands
 -- What is left is the answer, and the distance holds of it.
-pub record Answered (file : List ℕ) (n : Lengths) (o : Outcome) : Type 0 where
+pub record Answered (file : List ℕ) (n : Lengths) (o : Received) : Type 0 where
   pub refuses : Refuses file n o
   pub horizon : o .horizon ≡ horizonWith (answer file n .verdict) (horizonIn (reading file))
   pub method : Method file n o
   pub distance : (fund : FundFile) → reading file ≡ read fund → answer file n .verdict ≡ Accepted → WithinBounds fund (answer file n)
 
-module _ (file : List ℕ) (n : Lengths) (o : Outcome) (k : Answered file n o) where
+module _ (file : List ℕ) (n : Lengths) (o : Received) (k : Answered file n o) where
   zero-of : RefusedAs file n → Zero n o
   unfolding refused
   zero-of s =

@@ -9,13 +9,13 @@ use Rattle.fund.specs.Base.{if_then_else_}
 use Rattle.fund.specs.Refusals.{numberIn, placeIn}
 use Rattle.pricing.specs.declared.Priced.{Priced}
 use Rattle.miguepo.specs.Bits.{readSigned}
-use Rattle.claims.specs.Demands.{Outcome}
+use Rattle.claims.specs.Demands.{Received}
 
 -- The bytes from start to end, and none where these lie outside the file.
 abbrev pub handed : List ℕ → Priced → List ℕ
 handed file p = if leb (p .start) (p .end) && leb (p .end) (length file) then take (p .end - p .start) (drop (p .start) file) else []
 
-abbrev pub priced : List ℕ → Priced → List ℤ → List ℕ → List ℤ → List ℕ → Outcome
+abbrev pub priced : List ℕ → Priced → List ℤ → List ℕ → List ℤ → List ℕ → Received
 priced file p d h f r =
     record {
       number = numberIn (p .verdict);
@@ -30,7 +30,7 @@ priced file p d h f r =
     }
 
 -- The fields of a host's struct in C, in their order, each read as its type there.
-abbrev pub hosted : List ℕ → List ℕ → List ℤ → List ℕ → List ℤ → List ℕ → Outcome
+abbrev pub hosted : List ℕ → List ℕ → List ℤ → List ℕ → List ℤ → List ℕ → Received
 hosted file result d h f r =
     record {
       number = getD result 0 0;

@@ -11,7 +11,7 @@ use Rattle.fund.specs.Answer.{Part, answer}
 use Rattle.fund.specs.Distance.{fileDenominator, exactAt, exactPremiumAt}
 
 -- What a host has after a call: number and place, the line that it is handed, the horizon, the figures, and its four slices.
-pub record Outcome : Type 0 where
+pub record Received : Type 0 where
   pub number : ℕ
   pub place : ℕ
   pub line : List ℕ
@@ -23,17 +23,17 @@ pub record Outcome : Type 0 where
   pub R : List ℕ
 
 -- The bytes of a part of the file.
-abbrev pub bytesOf : List ℕ → Part → List ℕ
-bytesOf file p = take (p .size) (drop (p .start) file)
+abbrev pub partBytes : List ℕ → Part → List ℕ
+partBytes file p = take (p .size) (drop (p .start) file)
 
 -- Demand 1. Number, place and line are document 01's, whatever the bytes are.
-pub record Refuses (file : List ℕ) (n : Lengths) (o : Outcome) : Type 0 where
+pub record Refuses (file : List ℕ) (n : Lengths) (o : Received) : Type 0 where
   pub number : o .number ≡ numberIn (answer file n .verdict)
   pub place : o .place ≡ placeIn (answer file n .verdict)
-  pub line : o .line ≡ bytesOf file (answer file n .part)
+  pub line : o .line ≡ partBytes file (answer file n .part)
 
 -- "A refusal gives number and place, zero for every figure, and zero in every lent result cell."
-pub record Zero (n : Lengths) (o : Outcome) : Type 0 where
+pub record Zero (n : Lengths) (o : Received) : Type 0 where
   pub horizon : o .horizon ≡ 0
   pub figures : o .figures ≡ record { truncation = 0; mean = 0; premium = pos 0; within = 0 }
   pub D : o .D ≡ replicate (n .D) (pos 0)
@@ -42,7 +42,7 @@ pub record Zero (n : Lengths) (o : Outcome) : Type 0 where
   pub R : o .R ≡ replicate (n .R) 0
 
 -- Demand 2. Every figure and every lent cell is what document 01's steps define.
-pub record Method (file : List ℕ) (n : Lengths) (o : Outcome) : Type 0 where
+pub record Method (file : List ℕ) (n : Lengths) (o : Received) : Type 0 where
   pub figures : o .figures ≡ answer file n .figures
   pub D : o .D ≡ answer file n .D
   pub H : o .H ≡ answer file n .H
@@ -51,7 +51,7 @@ pub record Method (file : List ℕ) (n : Lengths) (o : Outcome) : Type 0 where
 
 -- Demand 3, of a fund that is accepted: the file holds a fund; each f(x) that the host has is within R(x) + 2×E of 10^12 times the
 -- exact value at x, and the premium within its bound of the exact premium; all times document 01's denominator.
-pub record Close (file : List ℕ) (o : Outcome) : Type 0 where
+pub record Close (file : List ℕ) (o : Received) : Type 0 where
   pub fund : FundFile
   pub is-read : reading file ≡ read fund
   pub horizon : o .horizon ≡ fund .header .horizon
@@ -59,7 +59,7 @@ pub record Close (file : List ℕ) (o : Outcome) : Type 0 where
       natAbs (pos (fileDenominator fund) *ℤ getD (o .f) x (pos 0) -ℤ pos (10 ^ 12) *ℤ exactAt fund x) ≤ fileDenominator fund * (getD (o .R) x 0 + 2 * o .figures .truncation)
   pub premium : natAbs (pos (fileDenominator fund) *ℤ o .figures .premium -ℤ exactPremiumAt fund (o .figures .mean)) ≤ fileDenominator fund * o .figures .within
 
-pub record Demands (file : List ℕ) (n : Lengths) (o : Outcome) : Type 0 where
+pub record Demands (file : List ℕ) (n : Lengths) (o : Received) : Type 0 where
   pub refuses : Refuses file n o
   pub zero : 0 < o .number → Zero n o
   pub method : Method file n o

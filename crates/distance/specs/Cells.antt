@@ -13,7 +13,7 @@ use Rattle.algebra.specs.RationalSum.{sum, sumN, sum-add, sum-mul, sum-mono, su
 use Rattle.algebra.specs.PowerSeries.{Ser, θ-zero}
 use Rattle.expansion.specs.Member.{logs, transform}
 use Rattle.expansion.specs.Solution.{solution, solution-zero, solution-step}
-use Rattle.expansion.specs.Total.{exact, total-63}
+use Rattle.expansion.specs.Total.{exactSeries, total-63}
 use Rattle.fund.specs.declared.Life.{Life}
 use Rattle.fund.specs.Limits.{most-truncation}
 use Rattle.fund.specs.Transform.{unit, terms, D, H, lambda, truncation}
@@ -41,7 +41,7 @@ module _ (X r a : ℕ) (ms : List Life) (small : r ≤ⁿ 12) (p : Priceable r a
 
   -- the exact distribution, and the recursion with the transform cut at order r, without roundings
   abbrev pub P : Ser
-  P = exact 63 (rate a ms) (W a ms) (members r ms)
+  P = exactSeries 63 (rate a ms) (W a ms) (members r ms)
 
   abbrev T : Ser
   T = transform r (members r ms) (W a ms)

@@ -22,7 +22,7 @@ use Rattle.expansion.specs.Mass.{Share}
 use Rattle.expansion.specs.FoldedMember.{member-share}
 use Rattle.expansion.specs.Figure.{figure-good}
 use Rattle.expansion.specs.Exponential.{expSum}
-use Rattle.expansion.specs.Total.{Group, exact}
+use Rattle.expansion.specs.Total.{Group, exactSeries}
 use Rattle.rounding.proofs.Laws.{up-low}
 use Rattle.fund.specs.declared.Life.{Life}
 use Rattle.fund.specs.Base.{if_then_else_, total}
@@ -171,5 +171,5 @@ own-start r (m ∷ ms) c f = go (single m) refl (own-start r ms (c .1) (f .1))
     go true s h = ap₂ _*_ (ap (λ z. over (nat (stay m)) 1000000 * (oneQ + z)) (life-good r m (c .0) (f .0) s .z-zero) ∙ ring1 ℚ-ring (λ p. p ⊗ (𝟏 ⊕ 𝟎) := p) tt (over (nat (stay m)) 1000000)) h
     go false s h = h
 
-pub start-is : (r a : ℕ) (ms : List Life) → All Limited ms → All FoldedLife ms → exact 63 (rate a ms) (W a ms) (members r ms) 0 ≡ expSum 63 (negQ (rate a ms)) * stays ms
+pub start-is : (r a : ℕ) (ms : List Life) → All Limited ms → All FoldedLife ms → exactSeries 63 (rate a ms) (W a ms) (members r ms) 0 ≡ expSum 63 (negQ (rate a ms)) * stays ms
 start-is r a ms c f = ap (λ x. expSum 63 (negQ (rate a ms)) * x) (ap₂ _*_ (ring1 ℚ-ring (λ x. 𝟎 ⊕ 𝟏 ⊗ x := x) tt oneQ) (own-start r ms c f) ∙ L.one-mul ℚ-ring (stays ms))

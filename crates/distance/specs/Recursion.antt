@@ -8,7 +8,7 @@ use lib.IntN.{ℤ, natAbs, _*ℤ_}
 use Rattle.algebra.specs.Solver.{_⊕_, _⊗_, ⊖_, _⊝_, _:=_, ring2, ring3}
 use Rattle.algebra.specs.Q.{ℚ, ℚ-ring, negQ, _+_, _-_, _*_, _≤_, abs, ≤-refl, ≤-trans, ≤-of-eq, ≤-add, mul-mono, abs-nn, abs-neg, abs-subst, abs-add-le, product-distance}
 use Rattle.algebra.specs.Embedding.{ofℤ, nat, ofℤ-mul, nat-add, nat-mul, nat-nn, abs-ofℤ}
-use Rattle.algebra.specs.Quotient.{half}
+use Rattle.algebra.specs.Quotient.{halfQ}
 use Rattle.algebra.specs.RationalSum.{sum, sumN, sumZ, sum-ext, sum-const, sum-add, sum-mul, sum-close, nat-sum, ofℤ-sum}
 use Rattle.rounding.specs.Rounding.{nearest, up}
 use Rattle.fund.specs.Transform.{unit}
@@ -31,7 +31,7 @@ up-product : (a b : ℚ) (m n : ℕ) → abs a ≤ nat m → abs b ≤ nat n →
 up-product a b m n h k = ≤-trans (mul-mono (abs-nn a) (nat-nn n) h k) (≤-trans (≤-of-eq (sym (nat-mul m n))) (up-le (m *ⁿ n) unit unit-pos))
 
 product-close : (d : ℤ) (h : ℕ) (f : ℤ) (r : ℕ) (t y : ℚ) → abs (ofℤ d - U * t) ≤ nat h → abs (ofℤ f - U * y) ≤ nat r →
-    abs (ofℤ (nearest (d *ℤ f) unit) - U * (t * y)) ≤ half + nat (spread d h f r)
+    abs (ofℤ (nearest (d *ℤ f) unit) - U * (t * y)) ≤ halfQ + nat (spread d h f r)
 product-close d h f r t y hd hf =
     nearest-step (d *ℤ f) unit unit-pos (U * (t * y)) (nat (spread d h f r))
     (abs-subst (ap₂ _-_ (sym (ofℤ-mul d f)) (ring3 ℚ-ring (λ u t y. (u ⊗ t) ⊗ (u ⊗ y) := u ⊗ (u ⊗ (t ⊗ y))) tt U t y))
@@ -62,15 +62,15 @@ module _ (X : ℕ) (D : ℕ → ℤ) (H : ℕ → ℕ) (f : ℕ → ℤ) (R : �
   spreads m = sumN (suc m) (λ k. spread (D (suc k)) (H (suc k)) (f (m ∸ k)) (R (m ∸ k)))
 
   products-close : (m : ℕ) → m < X → ((y : ℕ) → y ≤ⁿ m → Close y) →
-      abs (ofℤ (products m) - nat (suc m) * (U * F (suc m))) ≤ nat (suc m) * half + nat (spreads m)
+      abs (ofℤ (products m) - nat (suc m) * (U * F (suc m))) ≤ nat (suc m) * halfQ + nat (spreads m)
   products-close m l before =
       ≤-trans (abs-subst (ap₂ _-_ (sym (ofℤ-sum (suc m) (λ k. nearest (D (suc k) *ℤ f (m ∸ k)) unit))) exact)
       (sum-close (suc m) (λ k. ofℤ (nearest (D (suc k) *ℤ f (m ∸ k)) unit)) (λ k. U * (T (suc k) * F (m ∸ k)))
-      (λ k. half + nat (spread (D (suc k)) (H (suc k)) (f (m ∸ k)) (R (m ∸ k))))
+      (λ k. halfQ + nat (spread (D (suc k)) (H (suc k)) (f (m ∸ k)) (R (m ∸ k))))
       (λ k g. product-close (D (suc k)) (H (suc k)) (f (m ∸ k)) (R (m ∸ k)) (T (suc k)) (F (m ∸ k))
       (D-close (suc k) (omega arith) (omega arith)) (before (m ∸ k) (omega arith)))))
-      (≤-of-eq (sum-add (suc m) (λ k. half) (λ k. nat (spread (D (suc k)) (H (suc k)) (f (m ∸ k)) (R (m ∸ k))))
-      ∙ ap₂ _+_ (sum-const (suc m) half) (sym (nat-sum (suc m) (λ k. spread (D (suc k)) (H (suc k)) (f (m ∸ k)) (R (m ∸ k)))))))
+      (≤-of-eq (sum-add (suc m) (λ k. halfQ) (λ k. nat (spread (D (suc k)) (H (suc k)) (f (m ∸ k)) (R (m ∸ k))))
+      ∙ ap₂ _+_ (sum-const (suc m) halfQ) (sym (nat-sum (suc m) (λ k. spread (D (suc k)) (H (suc k)) (f (m ∸ k)) (R (m ∸ k)))))))
     where
       place : (k : ℕ) → m ∸ k ≡ suc m ∸ suc k
       place k = omega arith
@@ -86,15 +86,15 @@ module _ (X : ℕ) (D : ℕ → ℤ) (H : ℕ → ℕ) (f : ℕ → ℤ) (R : �
   step-close m l before =
       subst (λ r. abs (ofℤ (f (suc m)) - U * F (suc m)) ≤ nat r) (sym (steps .R-step m l))
       (subst (λ g. abs (ofℤ g - U * F (suc m)) ≤ nat (w +ⁿ 1)) (sym (steps .f-step m l))
-      (≤-trans (nearest-step (products m) (suc m) (omega arith) (U * F (suc m)) (half + nat w) numerator) (≤-of-eq (halves-up w))))
+      (≤-trans (nearest-step (products m) (suc m) (omega arith) (U * F (suc m)) (halfQ + nat w) numerator) (≤-of-eq (halves-up w))))
     where
       w : ℕ
       w = up (spreads m) (suc m)
 
-      numerator : abs (ofℤ (products m) - nat (suc m) * (U * F (suc m))) ≤ nat (suc m) * (half + nat w)
+      numerator : abs (ofℤ (products m) - nat (suc m) * (U * F (suc m))) ≤ nat (suc m) * (halfQ + nat w)
       numerator = ≤-trans (products-close m l before)
-          (≤-trans (≤-add (≤-refl (nat (suc m) * half)) (up-le (spreads m) (suc m) (omega arith)))
-          (≤-of-eq (sym (ℚ-ring .distrib (nat (suc m)) half (nat w)))))
+          (≤-trans (≤-add (≤-refl (nat (suc m) * halfQ)) (up-le (spreads m) (suc m) (omega arith)))
+          (≤-of-eq (sym (ℚ-ring .distrib (nat (suc m)) halfQ (nat w)))))
 
   pub recursion-close : (x : ℕ) → x ≤ⁿ X → abs (ofℤ (f x) - U * F x) ≤ nat (R x)
   recursion-close x l = below x x (omega arith) l

@@ -8,7 +8,7 @@ use lib.ListN.{length, getD, getD-replicate}
 use Rattle.algebra.specs.Solver.{𝟎, 𝟏, _⊕_, _⊗_, _⊝_, _:=_, ring1, ring2, ring3, ring4, ring7}
 use Rattle.algebra.specs.Q.{ℚ, ℚ-ring, zeroQ, _+_, _-_, _*_, _≤_, abs, ≤-trans, ≤-of-eq, ≤-mul-left, ≤-mul-right, mul-nn, abs-scale, abs-zero-le, abs-add-le, abs-subst}
 use Rattle.algebra.specs.Embedding.{nat, nat-zero, nat-suc, nat-add, nat-mul, nat-nn, nat-le}
-use Rattle.algebra.specs.Quotient.{over, over-ok, half, half-twice, half-nn}
+use Rattle.algebra.specs.Quotient.{over, over-ok, halfQ, half-twice, half-nn}
 use Rattle.expansion.specs.Triangle.{leftQ, rowsQ}
 use Rattle.rounding.specs.Rounding.{near}
 use Rattle.fund.specs.declared.Life.{Life}
@@ -47,7 +47,7 @@ module _ (m : Life) (stay-pos : 0 < stay m) (small : claim m ≤ⁿ stay m) wher
 
   -- one entry from its two neighbours
   entry-close : (a b : ℕ) (A B e : ℚ) → zeroQ ≤ e → abs (nat a - U * A) ≤ e → abs (nat b - U * B) ≤ e →
-      abs (nat (near (m .q *ⁿ a +ⁿ m .i *ⁿ b) (stay m)) - U * over (nat (m .q) * A + nat (m .i) * B) (stay m)) ≤ half + e
+      abs (nat (near (m .q *ⁿ a +ⁿ m .i *ⁿ b) (stay m)) - U * over (nat (m .q) * A + nat (m .i) * B) (stay m)) ≤ halfQ + e
   entry-close a b A B e e-nn ha hb =
       near-step (m .q *ⁿ a +ⁿ m .i *ⁿ b) (stay m) stay-pos (U * o) e
       (abs-subst exact
@@ -69,35 +69,35 @@ module _ (m : Life) (stay-pos : 0 < stay m) (small : claim m ≤ⁿ stay m) wher
           (ap (λ x. U * x) (sym (over-ok (nat (m .q) * A + nat (m .i) * B) (stay m) stay-pos))
           ∙ ring3 ℚ-ring (λ u p o. u ⊗ (p ⊗ o) := p ⊗ (u ⊗ o)) tt U (nat (stay m)) o)
 
-  halves-nn : (n : ℕ) → zeroQ ≤ nat n * half
+  halves-nn : (n : ℕ) → zeroQ ≤ nat n * halfQ
   halves-nn n = mul-nn (nat-nn n) half-nn
 
-  row-close : (n l : ℕ) → l ≤ⁿ 12 → abs (nat (v n l) - U * exactV n l) ≤ nat n * half
+  row-close : (n l : ℕ) → l ≤ⁿ 12 → abs (nat (v n l) - U * exactV n l) ≤ nat n * halfQ
   unfolding row rowsQ
   row-close zero zero h = abs-subst (ring1 ℚ-ring (λ u. 𝟎 := u ⊝ u ⊗ 𝟏) tt U) (abs-zero-le (halves-nn 0))
-  row-close zero (suc l) h = subst (λ x. abs (nat x - U * zeroQ) ≤ nat 0 * half) (sym (getD-replicate 12 l 0 0 (omega arith)))
-      (nothing-close (nat 0 * half) (halves-nn 0))
+  row-close zero (suc l) h = subst (λ x. abs (nat x - U * zeroQ) ≤ nat 0 * halfQ) (sym (getD-replicate 12 l 0 0 (omega arith)))
+      (nothing-close (nat 0 * halfQ) (halves-nn 0))
   row-close (suc n) l h =
-      subst (λ x. abs (nat x - U * exactV (suc n) l) ≤ nat (suc n) * half)
+      subst (λ x. abs (nat x - U * exactV (suc n) l) ≤ nat (suc n) * halfQ)
       (sym (getD-nextRow m 0 (row m n) l (let e = length-row m n in omega arith)))
-      (≤-trans (entry-close (getD (0 ∷ row m n) l 0) (v n l) (leftQ (exactV n) l) (exactV n l) (nat n * half) (halves-nn n)
+      (≤-trans (entry-close (getD (0 ∷ row m n) l 0) (v n l) (leftQ (exactV n) l) (exactV n l) (nat n * halfQ) (halves-nn n)
       (left l h (row-close n)) (row-close n l h))
-      (≤-of-eq (ring2 ℚ-ring (λ n h. h ⊕ n ⊗ h := (n ⊕ 𝟏) ⊗ h) tt (nat n) half ∙ ap (λ x. x * half) (sym (nat-suc n)))))
+      (≤-of-eq (ring2 ℚ-ring (λ n h. h ⊕ n ⊗ h := (n ⊕ 𝟏) ⊗ h) tt (nat n) halfQ ∙ ap (λ x. x * halfQ) (sym (nat-suc n)))))
     where
-      left : (l : ℕ) → l ≤ⁿ 12 → ((l : ℕ) → l ≤ⁿ 12 → abs (nat (v n l) - U * exactV n l) ≤ nat n * half) →
-          abs (nat (getD (0 ∷ row m n) l 0) - U * leftQ (exactV n) l) ≤ nat n * half
-      left zero h rest = nothing-close (nat n * half) (halves-nn n)
+      left : (l : ℕ) → l ≤ⁿ 12 → ((l : ℕ) → l ≤ⁿ 12 → abs (nat (v n l) - U * exactV n l) ≤ nat n * halfQ) →
+          abs (nat (getD (0 ∷ row m n) l 0) - U * leftQ (exactV n) l) ≤ nat n * halfQ
+      left zero h rest = nothing-close (nat n * halfQ) (halves-nn n)
       left (suc l) h rest = rest l (omega arith)
 
   -- a term at the place x ≥ 1
   pub placed-close : (x n l : ℕ) → 0 < x → l ≤ⁿ 12 →
       abs (nat (near (x *ⁿ v (suc n) l) (suc n)) - U * over (nat x * exactV (suc n) l) (suc n)) ≤ nat x
   placed-close x n l x-pos h =
-      ≤-trans (near-step (x *ⁿ v (suc n) l) (suc n) (omega arith) (U * o) (nat x * half)
+      ≤-trans (near-step (x *ⁿ v (suc n) l) (suc n) (omega arith) (U * o) (nat x * halfQ)
       (abs-subst exact
       (≤-trans (≤-of-eq (abs-scale (nat x) (nat (v (suc n) l) - U * exactV (suc n) l) (nat-nn x)))
       (≤-trans (≤-mul-left (nat x) (nat-nn x) (row-close (suc n) l h))
-      (≤-of-eq (ring3 ℚ-ring (λ x n h. x ⊗ (n ⊗ h) := n ⊗ (x ⊗ h)) tt (nat x) (nat (suc n)) half)))))) most
+      (≤-of-eq (ring3 ℚ-ring (λ x n h. x ⊗ (n ⊗ h) := n ⊗ (x ⊗ h)) tt (nat x) (nat (suc n)) halfQ)))))) most
     where
       o : ℚ
       o = over (nat x * exactV (suc n) l) (suc n)
@@ -109,9 +109,9 @@ module _ (m : Life) (stay-pos : 0 < stay m) (small : claim m ≤ⁿ stay m) wher
           ∙ ring3 ℚ-ring (λ u n o. u ⊗ (n ⊗ o) := n ⊗ (u ⊗ o)) tt U (nat (suc n)) o)
 
       -- 1/2 + x/2 ≤ x
-      most : half + nat x * half ≤ nat x
+      most : halfQ + nat x * halfQ ≤ nat x
       most =
-          ≤-trans (≤-of-eq (ring2 ℚ-ring (λ x h. h ⊕ x ⊗ h := h ⊗ (x ⊕ 𝟏)) tt (nat x) half ∙ ap (λ y. half * y) (sym (nat-suc x))))
-          (≤-trans (≤-mul-left half half-nn (nat-le (let h : suc x ≤ⁿ x +ⁿ x = omega arith in h)))
-          (≤-of-eq (ap (λ y. half * y) (nat-add x x) ∙ ring2 ℚ-ring (λ x h. h ⊗ (x ⊕ x) := x ⊗ (h ⊕ h)) tt (nat x) half
+          ≤-trans (≤-of-eq (ring2 ℚ-ring (λ x h. h ⊕ x ⊗ h := h ⊗ (x ⊕ 𝟏)) tt (nat x) halfQ ∙ ap (λ y. halfQ * y) (sym (nat-suc x))))
+          (≤-trans (≤-mul-left halfQ half-nn (nat-le (let h : suc x ≤ⁿ x +ⁿ x = omega arith in h)))
+          (≤-of-eq (ap (λ y. halfQ * y) (nat-add x x) ∙ ring2 ℚ-ring (λ x h. h ⊗ (x ⊕ x) := x ⊗ (h ⊕ h)) tt (nat x) halfQ
           ∙ ap (λ y. nat x * y) half-twice ∙ ℚ-ring .mul-one (nat x))))

@@ -15,4 +15,3 @@ pub mod Triangle
 pub mod RowPower
 pub mod FoldedMember
 pub mod Figure
-pub mod Weights

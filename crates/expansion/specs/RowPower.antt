@@ -22,8 +22,8 @@ abbrev pub odds : ℕ → ℕ → ℕ → ℕ → ℕ → Ser
 odds q i p d e = place d (over (nat q) p) ⊞ place e (over (nat i) p)
 
 -- ---- powers
-abbrev pub row : ℕ → ℕ → ℕ → ℕ → ℕ → ℕ → Ser
-row q i p d e n k = sum (suc n) (λ l. rowsQ q i p n l * δ (termPlace d e n l) k)
+abbrev pub rowSeries : ℕ → ℕ → ℕ → ℕ → ℕ → ℕ → Ser
+rowSeries q i p d e n k = sum (suc n) (λ l. rowsQ q i p n l * δ (termPlace d e n l) k)
 
 -- a sum of weights, moved by d
 δ-product-sum : (N : ℕ) (c : ℕ → ℚ) (s : ℕ → ℕ) (d k : ℕ) → (δ d ⋆ (λ j. sum N (λ l. c l * δ (s l) j))) k ≡ sum N (λ l. c l * δ (d +ⁿ s l) k)
@@ -62,7 +62,7 @@ module _ (q i p d e : ℕ) where
   abbrev at-place : ℕ → ℕ → Ser
   at-place n l = δ (termPlace d e n l)
 
-  row-q : (n k : ℕ) → (δ d ⋆ row q i p d e n) k ≡ sum (suc (suc n)) (λ l. leftQ (v n) l * at-place (suc n) l k)
+  row-q : (n k : ℕ) → (δ d ⋆ rowSeries q i p d e n) k ≡ sum (suc (suc n)) (λ l. leftQ (v n) l * at-place (suc n) l k)
   row-q n k =
       δ-product-sum (suc n) (v n) (termPlace d e n) d k
       ∙ sum-ext (suc n) (λ l. v n l * δ (d +ⁿ termPlace d e n l) k) (λ l. v n l * at-place (suc n) (suc l) k)
@@ -70,7 +70,7 @@ module _ (q i p d e : ℕ) where
       ∙ ring2 ℚ-ring (λ x y. x := 𝟎 ⊗ y ⊕ x) tt (sum (suc n) (λ l. v n l * at-place (suc n) (suc l) k)) (at-place (suc n) 0 k)
       ∙ sym (sum-first (suc n) (λ l. leftQ (v n) l * at-place (suc n) l k))
 
-  row-i : (n k : ℕ) → (δ e ⋆ row q i p d e n) k ≡ sum (suc (suc n)) (λ l. v n l * at-place (suc n) l k)
+  row-i : (n k : ℕ) → (δ e ⋆ rowSeries q i p d e n) k ≡ sum (suc (suc n)) (λ l. v n l * at-place (suc n) l k)
   row-i n k =
       δ-product-sum (suc n) (v n) (termPlace d e n) e k
       ∙ sum-ext (suc n) (λ l. v n l * δ (e +ⁿ termPlace d e n l) k) (λ l. v n l * at-place (suc n) l k)
@@ -79,11 +79,11 @@ module _ (q i p d e : ℕ) where
       ∙ ap (λ x. sum (suc n) (λ l. v n l * at-place (suc n) l k) + x * at-place (suc n) (suc n) k)
       (sym (rowsQ-beyond q i p n (suc n) (omega arith)))
 
-  row-next : (n k : ℕ) → (odds q i p d e ⋆ row q i p d e n) k ≡ row q i p d e (suc n) k
+  row-next : (n k : ℕ) → (odds q i p d e ⋆ rowSeries q i p d e n) k ≡ rowSeries q i p d e (suc n) k
   row-next n k =
-      S.product-add ℚ-ring k (place d a) (place e b) (row q i p d e n)
-      ∙ ap₂ _+_ (product-scale k a (δ d) (row q i p d e n) ∙ ap (λ x. a * x) (row-q n k))
-      (product-scale k b (δ e) (row q i p d e n) ∙ ap (λ x. b * x) (row-i n k))
+      S.product-add ℚ-ring k (place d a) (place e b) (rowSeries q i p d e n)
+      ∙ ap₂ _+_ (product-scale k a (δ d) (rowSeries q i p d e n) ∙ ap (λ x. a * x) (row-q n k))
+      (product-scale k b (δ e) (rowSeries q i p d e n) ∙ ap (λ x. b * x) (row-i n k))
       ∙ ap₂ _+_ (sym (sum-mul (suc (suc n)) a f)) (sym (sum-mul (suc (suc n)) b g))
       ∙ sym (sum-add (suc (suc n)) (λ l. a * f l) (λ l. b * g l))
       ∙ sum-ext (suc (suc n)) (λ l. a * f l + b * g l) (λ l. v (suc n) l * at-place (suc n) l k) (λ l h.
@@ -96,13 +96,13 @@ module _ (q i p d e : ℕ) where
       g : ℕ → ℚ
       g l = v n l * at-place (suc n) l k
 
-  pub pow-rows : (n k : ℕ) → pow (odds q i p d e) n k ≡ row q i p d e n k
+  pub pow-rows : (n k : ℕ) → pow (odds q i p d e) n k ≡ rowSeries q i p d e n k
   unfolding rowsQ
   pow-rows zero k = one-δ k ∙ ap (λ x. δ x k) first ∙ ring1 ℚ-ring (λ x. x := 𝟎 ⊕ 𝟏 ⊗ x) tt (δ (termPlace d e 0 0) k)
     where
       first : 0 ≡ d *ⁿ 0 +ⁿ e *ⁿ (0 ∸ 0)
       first = omega arith
-  pow-rows (suc n) k = product-ext k z z (pow z n) (row q i p d e n) (λ j l. refl) (λ j l. pow-rows n j) ∙ row-next n k
+  pow-rows (suc n) k = product-ext k z z (pow z n) (rowSeries q i p d e n) (λ j l. refl) (λ j l. pow-rows n j) ∙ row-next n k
     where
       z : Ser
       z = odds q i p d e

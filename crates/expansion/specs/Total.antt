@@ -31,18 +31,18 @@ pub record Group (W : Ser) (ƛ : ℚ) : Type 0 where
   pub ƛ-le : ƛ ≤ nat 8
 
 -- the exact distribution
-abbrev pub exact : ℕ → ℚ → Ser → List Member → Ser
-exact K ƛ W ms = distribution (expSum K (negQ ƛ)) (poisson W) ms
+abbrev pub exactSeries : ℕ → ℚ → Ser → List Member → Ser
+exactSeries K ƛ W ms = distribution (expSum K (negQ ƛ)) (poisson W) ms
 
 -- F is the recursion with the transform cut at order r, up to X, with the exact start
 pub record Recursion (K : ℕ) (ƛ : ℚ) (W : Ser) (ms : List Member) (X r : ℕ) (F : Ser) : Type 0 where
-  pub start : F 0 ≡ exact K ƛ W ms 0
+  pub start : F 0 ≡ exactSeries K ƛ W ms 0
   pub step : (x : ℕ) → x ≤ⁿ X → nat x * F x ≡ sum x (λ k. transform r ms W (suc k) * F (x ∸ suc k))
 
 module _ (K : ℕ) (big : 64 ≤ⁿ suc K) (test : Test K) (ms : List Member) (share : All Share ms)
     (W : Ser) (ƛ : ℚ) (group : Group W ƛ) (X : ℕ) where
   abbrev P : Ser
-  P = exact K ƛ W ms
+  P = exactSeries K ƛ W ms
 
   ƛ-nn : zeroQ ≤ ƛ
   ƛ-nn = group .W-sum 0
@@ -115,15 +115,15 @@ module _ (K : ℕ) (big : 64 ≤ⁿ suc K) (test : Test K) (ms : List Member) (s
 
 -- ---- 63 terms
 pub mass-63 : (ms : List Member) → All Share ms → (W : Ser) (ƛ : ℚ) → Group W ƛ → (X : ℕ) →
-    sum (suc X) (absS (exact 63 ƛ W ms)) ≤ over (nat 8) 7
+    sum (suc X) (absS (exactSeries 63 ƛ W ms)) ≤ over (nat 8) 7
 mass-63 = mass 63 (omega arith) test-63
 
 pub total-63 : (ms : List Member) → All Share ms → (W : Ser) (ƛ : ℚ) → Group W ƛ → (X r : ℕ) → All (Good r) ms → (F : Ser) →
     Recursion 63 ƛ W ms X r F →
-    (ε : ℚ) → errors ms ≤ ε → nat 7 * ε ≤ nat 3 → sum (suc X) (λ x. abs (F x - exact 63 ƛ W ms x)) ≤ nat 2 * ε
+    (ε : ℚ) → errors ms ≤ ε → nat 7 * ε ≤ nat 3 → sum (suc X) (λ x. abs (F x - exactSeries 63 ƛ W ms x)) ≤ nat 2 * ε
 total-63 = total 63 (omega arith) test-63
 
 pub each-63 : (ms : List Member) → All Share ms → (W : Ser) (ƛ : ℚ) → Group W ƛ → (X r : ℕ) → All (Good r) ms → (F : Ser) →
     Recursion 63 ƛ W ms X r F →
-    (ε : ℚ) → errors ms ≤ ε → nat 7 * ε ≤ nat 3 → (x : ℕ) → x ≤ⁿ X → abs (F x - exact 63 ƛ W ms x) ≤ nat 2 * ε
+    (ε : ℚ) → errors ms ≤ ε → nat 7 * ε ≤ nat 3 → (x : ℕ) → x ≤ⁿ X → abs (F x - exactSeries 63 ƛ W ms x) ≤ nat 2 * ε
 each-63 = each 63 (omega arith) test-63

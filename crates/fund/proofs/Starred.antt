@@ -15,8 +15,8 @@ use Rattle.fund.specs.Recursion.{Cell, t, alternating, multiplied, start
 use Rattle.fund.specs.Premium.{sumBelow, boundBelow, premium, within}
 use Rattle.fund.specs.Refusals.{first, unmatched, half, wide, short, refuse, at0, firstMember, valued, matched, verdict}
 use Rattle.fund.specs.Answer.{fundTerms, fundStart, fundCells, fundTruncation, fundMean, fundFigures, lineAt, part, refused, lent, accepted, answerOf, answerTo, answer}
-use Rattle.fund.specs.Listing.{digitsWithin, decimal, signed, joined, cellLines, listed, refusedLine, printed, horizonIn, listing}
-use Rattle.fund.specs.Starred.{Row, text, file, eight, atOrder, starred, wrongTurns}
+use Rattle.fund.specs.Listing.{digitsWithin, decimal, signedDecimal, joined, cellLines, listed, refusedLine, printed, horizonIn, listing}
+use Rattle.fund.specs.Starred.{StarredRow, text, file, eight, atOrder, starred, wrongTurns}
 
 -- The bounds of the cells, R(0) to R(X), of a file that can be read.
 abbrev boundsOf : Reading → List ℕ
@@ -24,13 +24,13 @@ boundsOf (read fund) = map (λ (y : Cell). y .R) (fundCells (fund .header) (live
 boundsOf (stopped why place) = []
 
 -- What document 01's steps give for a row's file, with as many bounds as the row states.
-abbrev given : Row → Row
+abbrev given : StarredRow → StarredRow
 given r = record { file = r .file; listing = listing (r .file); bounds = take (length (r .bounds)) (boundsOf (reading (r .file))) }
 
 pub every-row : map given starred ≡ starred
-unfolding near nearest up bytes total sum sumℤ table alternate begun linesFrom lines digits isNumber valueFrom value inFirst fields allNumbers numbers behind spelled between inRanges headerLines headerOf rowOf rising rateInRange memberInRange noMember atEnd readRows readHeader reading rateAt folded life lives unit nextRow row placed termOf rowTerms singleTerms replacedTerm replacedTerms terms sumD sumH D H lambda load w truncation mean t alternating multiplied start c startBound entries sumR sumF nextCell cells sumBelow boundBelow premium within first unmatched half wide short refuse at0 firstMember valued matched verdict fundTerms fundStart fundCells fundTruncation fundMean fundFigures lineAt part refused lent accepted answerOf answerTo answer digitsWithin decimal signed joined cellLines listed refusedLine printed horizonIn listing text file eight atOrder starred
+unfolding near nearest up bytes total sum sumℤ table alternate begun linesFrom lines digits isNumber valueFrom value inFirst fields allNumbers numbers behind spelled between inRanges headerLines headerOf rowOf rising rateInRange memberInRange noMember atEnd readRows readHeader reading rateAt folded life lives unit nextRow row placed termOf rowTerms singleTerms replacedTerm replacedTerms terms sumD sumH D H lambda load w truncation mean t alternating multiplied start c startBound entries sumR sumF nextCell cells sumBelow boundBelow premium within first unmatched half wide short refuse at0 firstMember valued matched verdict fundTerms fundStart fundCells fundTruncation fundMean fundFigures lineAt part refused lent accepted answerOf answerTo answer digitsWithin decimal signedDecimal joined cellLines listed refusedLine printed horizonIn listing text file eight atOrder starred
 every-row = refl
 
 pub every-turn : map given wrongTurns ≡ wrongTurns
-unfolding near nearest up bytes total sum sumℤ table alternate begun linesFrom lines digits isNumber valueFrom value inFirst fields allNumbers numbers behind spelled between inRanges headerLines headerOf rowOf rising rateInRange memberInRange noMember atEnd readRows readHeader reading rateAt folded life lives unit nextRow row placed termOf rowTerms singleTerms replacedTerm replacedTerms terms sumD sumH D H lambda load w truncation mean t alternating multiplied start c startBound entries sumR sumF nextCell cells sumBelow boundBelow premium within first unmatched half wide short refuse at0 firstMember valued matched verdict fundTerms fundStart fundCells fundTruncation fundMean fundFigures lineAt part refused lent accepted answerOf answerTo answer digitsWithin decimal signed joined cellLines listed refusedLine printed horizonIn listing text file wrongTurns
+unfolding near nearest up bytes total sum sumℤ table alternate begun linesFrom lines digits isNumber valueFrom value inFirst fields allNumbers numbers behind spelled between inRanges headerLines headerOf rowOf rising rateInRange memberInRange noMember atEnd readRows readHeader reading rateAt folded life lives unit nextRow row placed termOf rowTerms singleTerms replacedTerm replacedTerms terms sumD sumH D H lambda load w truncation mean t alternating multiplied start c startBound entries sumR sumF nextCell cells sumBelow boundBelow premium within first unmatched half wide short refuse at0 firstMember valued matched verdict fundTerms fundStart fundCells fundTruncation fundMean fundFigures lineAt part refused lent accepted answerOf answerTo answer digitsWithin decimal signedDecimal joined cellLines listed refusedLine printed horizonIn listing text file wrongTurns
 every-turn = refl

@@ -25,9 +25,9 @@ unfoldable pub decimal : ℕ → List ℕ
 decimal n = digitsWithin n n []
 
 -- "a negative figure starts with `-`"
-unfoldable pub signed : ℤ → List ℕ
-signed (pos n) = decimal n
-signed (negsuc n) = 45 ∷ decimal (suc n)
+unfoldable pub signedDecimal : ℤ → List ℕ
+signedDecimal (pos n) = decimal n
+signedDecimal (negsuc n) = 45 ∷ decimal (suc n)
 
 -- A key, numbers between commas, and the line feed.
 unfoldable pub joined : List ℕ → List (List ℕ) → List ℕ
@@ -39,7 +39,7 @@ unfoldable pub cellLines : ℕ → ℕ → List ℤ → List ℕ → List ℕ
 cellLines E x [] Rs = []
 cellLines E x (f ∷ fs) [] = []
 cellLines E x (f ∷ fs) (R ∷ Rs) =
-    bytes "cell=" ++ (joined (decimal x) (signed f ∷ decimal (printedBound E R) ∷ []) ++ cellLines E (suc x) fs Rs)
+    bytes "cell=" ++ (joined (decimal x) (signedDecimal f ∷ decimal (printedBound E R) ∷ []) ++ cellLines E (suc x) fs Rs)
 
 -- The lines of an accepted fund with horizon X, and "A refusal prints only `refused=number,place`."
 unfoldable pub listed : ℕ → Answer → List ℕ
@@ -47,7 +47,7 @@ listed X a =
     bytes "truncation=" ++ (joined (decimal (a .figures .truncation)) []
     ++ (bytes "mean=" ++ (joined (decimal (a .figures .mean)) []
     ++ (cellLines (a .figures .truncation) 0 (take (suc X) (a .f)) (take (suc X) (a .R))
-    ++ (bytes "premium=" ++ (joined (signed (a .figures .premium)) []
+    ++ (bytes "premium=" ++ (joined (signedDecimal (a .figures .premium)) []
     ++ (bytes "within=" ++ joined (decimal (a .figures .within)) [])))))))
 
 unfoldable pub refusedLine : Refusal → ℕ → List ℕ

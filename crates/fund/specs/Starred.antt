@@ -5,7 +5,7 @@ use Prim.Native.Nat.{ℕ}
 use Prim.Native.String.{String}
 use Rattle.fund.specs.Base.{bytes}
 
-pub record Row : Type 0 where
+pub record StarredRow : Type 0 where
   pub file : List ℕ
   pub listing : List ℕ
   pub bounds : List ℕ
@@ -36,7 +36,7 @@ eight rows =
     ∷ rows
 
 -- Group 1, q = i = 400,000, d = 0, e = 1, at an order: passes 6, then refused 8.
-unfoldable pub atOrder : String → Row
+unfoldable pub atOrder : String → StarredRow
 atOrder order =
     record {
       file = file "horizon=2" order "deductible=2" ("rate=40,400000,400000" ∷ "member=40,1,0,1" ∷ "end=1" ∷ []);
@@ -44,7 +44,7 @@ atOrder order =
       bounds = [];
     }
 
-unfoldable pub starred : List Row
+unfoldable pub starred : List StarredRow
 starred =
     -- The fund of the listing; order 2: refused 8.
     record {
@@ -133,7 +133,7 @@ starred =
     ∷ map atOrder ("order=1" ∷ "order=2" ∷ "order=3" ∷ "order=4" ∷ "order=5" ∷ "order=6" ∷ "order=7" ∷ "order=8" ∷ "order=9" ∷ "order=10" ∷ "order=11" ∷ "order=12" ∷ [])
 
 -- Rows that the document does not print, one for each wrong turn that its own funds would not show.
-unfoldable pub wrongTurns : List Row
+unfoldable pub wrongTurns : List StarredRow
 wrongTurns =
     -- An amount beyond X counts in p and in the mean: group 1, d = 5 and X = 3.
     record {

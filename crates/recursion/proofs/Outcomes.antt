@@ -27,7 +27,7 @@ use Rattle.recursion.specs.declared.Recursed.the-variants.{Done, Short, 
 use Rattle.recursion.specs.Slices.{cellIn, entriesIn, most-cell, CellFits}
 use Rattle.recursion.specs.Recursion.{large, stopped, cellsTo, after, recursed, left, leaves, recursion}
 use Rattle.recursion.specs.Tests.{Kept, Tests}
-use Rattle.recursion.specs.Steps.{CellsFilled, StepsTo, StepsFrom, Outcome, Settled}
+use Rattle.recursion.specs.Steps.{CellsFilled, StepsTo, StepsFrom, CarriedOut, Settled}
 use Rattle.recursion.proofs.Tested.{small-cell, tested-kept}
 
 -- ---- the start
@@ -109,7 +109,7 @@ module _ (X : ℕ) (d : List ℤ) (h : List ℕ) (start : Cell) (nf nr : ℕ) wh
   are = cells-are (entriesIn X d h) start X
 
   -- a limit is broken
-  pub outcome-tested : (f : List ℤ) (r : List ℕ) (a : Recursed) → OneOf (1 ∷ 2 ∷ 3 ∷ 4 ∷ []) (Declared.tagOf R.the-type a) → Tests X d h start nf nr a → Outcome X d h start nf nr f r a
+  pub outcome-tested : (f : List ℤ) (r : List ℕ) (a : Recursed) → OneOf (1 ∷ 2 ∷ 3 ∷ 4 ∷ []) (Declared.tagOf R.the-type a) → Tests X d h start nf nr a → CarriedOut X d h start nf nr f r a
   unfolding recursed
   outcome-tested f r Done o t = absurd (not-done o)
   outcome-tested f r Short o t = ap (λ a. after a (stopped 0 (cellsTo X d h start))) t
@@ -138,7 +138,7 @@ module _ (X : ℕ) (d : List ℤ) (h : List ℕ) (start : Cell) (nf nr : ℕ) wh
       unfolding recursion leaves
       done = rw (rest ∙ stopped-none 0 (suc X) cell (λ k l. s .fit k (N.le-of-suc-le-suc l))) (ap₂ (left Done) f-lent r-lent)
 
-    pub outcome-steps : (f : List ℤ) (r : List ℕ) (a : Recursed) → StepsFrom X d h start nf nr f r a → Outcome X d h start nf nr f r a
+    pub outcome-steps : (f : List ℤ) (r : List ℕ) (a : Recursed) → StepsFrom X d h start nf nr f r a → CarriedOut X d h start nf nr f r a
     outcome-steps f r Done s = done f r s
     outcome-steps f r Short s = absurd s
     outcome-steps f r (Outside k) s = absurd s
@@ -150,7 +150,7 @@ module _ (X : ℕ) (d : List ℤ) (h : List ℕ) (start : Cell) (nf nr : ℕ) wh
         (λ after. rw (narrow-cell (cell x) (s .narrow), large-cell (cell x) (s .large)) (ap Large (let e : 0 + x ≡ x = omega arith in e)))
 
   -- what is left of either
-  pub outcome-left : (f f′ : List ℤ) (r r′ : List ℕ) (a : Recursed) → length f ≡ nf → length r ≡ nr → Outcome X d h start nf nr f r a → Settled a f r f′ r′ →
+  pub outcome-left : (f f′ : List ℤ) (r r′ : List ℕ) (a : Recursed) → length f ≡ nf → length r ≡ nr → CarriedOut X d h start nf nr f r a → Settled a f r f′ r′ →
       left a f′ r′ ≡ recursion X d h start nf nr
   unfolding recursion leaves
   outcome-left f f′ r r′ Done e g o s = ap₂ (left Done) (s .0) (s .1) ∙ o

@@ -10,7 +10,7 @@ use Rattle.laws.specs.Cells.{addF, addR}
 use Rattle.whole.specs.declared.Sums.{Sums}
 use Rattle.recursion.specs.Slices.{cellIn, entryIn, TransformFits, CellsFit}
 use Rattle.recursion.specs.Places.{Blank, from, Listed}
-use Rattle.recursion.specs.Steps.{most-sum, SumsFit, Added, SumsTo}
+use Rattle.recursion.specs.Steps.{most-part-sum, SumsFit, Added, SumsTo}
 use Rattle.recursion.proofs.Added.{added-empty}
 use Rattle.recursion.proofs.Growing.{sumN-grow}
 
@@ -31,7 +31,7 @@ module _ (d : List ℤ) (h : List ℕ) (f : List ℤ) (r : List ℕ) (last : ℕ
 
   -- the sums of a part fit
   pub sums-fit : (X n : ℕ) (s : Sums) → TransformFits X d h → n ≤ X → SumsTo d h f r last n s →
-      (s .plus ≤ most-sum) × (s .minus ≤ most-sum) × (s .bound ≤ most-sum)
+      (s .plus ≤ most-part-sum) × (s .minus ≤ most-part-sum) × (s .bound ≤ most-part-sum)
   sums-fit X n s t l i =
       let g = sumN-grow (λ k. natAbs (getD d (suc k) (pos 0))) n X l in (
         omega (arith, i .plus-within, t .sizes-within),

@@ -17,8 +17,8 @@ use Rattle.recursion.specs.declared.Recursed.the-variants.{Done, Short, 
 use Rattle.recursion.specs.Slices.{cellIn, entryIn, entriesIn, cellOf, most-transform, most-error, most-cell, sizes, CellFits}
 use Rattle.recursion.specs.Recursion.{left, recursed, recursion}
 
-abbrev pub most-sum : ℕ
-most-sum = 9 * 10 ^ 17
+abbrev pub most-part-sum : ℕ
+most-part-sum = 9 * 10 ^ 17
 
 -- ---- one k
 -- whether one of two numbers is negative and the other is not
@@ -33,9 +33,9 @@ pub record SumsFit (s : Sums) (k : Entry) (y : Cell) : Type 0 where
   pub cell-fits : CellFits y
   pub transform : natAbs (k .D) ≤ most-transform
   pub error : k .H ≤ most-error
-  pub plus-within : s .plus ≤ most-sum
-  pub minus-within : s .minus ≤ most-sum
-  pub bound-within : s .bound ≤ most-sum
+  pub plus-within : s .plus ≤ most-part-sum
+  pub minus-within : s .minus ≤ most-part-sum
+  pub bound-within : s .bound ≤ most-part-sum
 
 pub record Added (s : Sums) (k : Entry) (y : Cell) (t : Sums) : Type 0 where
   pub f-is : sumOf t ≡ sumOf s +ℤ addF k y
@@ -80,20 +80,20 @@ StepsTo X cell f f′ r r′ (Outside k) = ⊥
 StepsTo X cell f f′ r r′ (Wide x) = WideAt X cell x
 StepsTo X cell f f′ r r′ (Large x) = LargeAt X cell x
 
-abbrev pub Steps : ℕ → List ℤ → List ℕ → List ℤ → List ℕ → List ℤ → List ℕ → Recursed → Type 0
-Steps X d h f r f′ r′ a = StepsTo X (cellOf X d h f r) f f′ r r′ a
+abbrev pub StepsFor : ℕ → List ℤ → List ℕ → List ℤ → List ℕ → List ℤ → List ℕ → Recursed → Type 0
+StepsFor X d h f r f′ r′ a = StepsTo X (cellOf X d h f r) f f′ r r′ a
 
 -- the steps from a start, in slices of nf and nr cells that are zero but for it
 abbrev pub StepsFrom : ℕ → List ℤ → List ℕ → Cell → ℕ → ℕ → List ℤ → List ℕ → Recursed → Type 0
 StepsFrom X d h start nf nr f′ r′ a = StepsTo X (cellAt (entriesIn X d h) start) (replicate nf (pos 0)) f′ (replicate nr 0) r′ a
 
 -- ---- the tests and the steps: where they are done the slices are filled, else the answer is the definition's
-abbrev pub Outcome : ℕ → List ℤ → List ℕ → Cell → ℕ → ℕ → List ℤ → List ℕ → Recursed → Type 0
-Outcome X d h start nf nr f′ r′ Done = left Done f′ r′ ≡ recursion X d h start nf nr
-Outcome X d h start nf nr f′ r′ Short = recursed X d h start nf nr ≡ Short
-Outcome X d h start nf nr f′ r′ (Outside k) = recursed X d h start nf nr ≡ Outside k
-Outcome X d h start nf nr f′ r′ (Wide x) = recursed X d h start nf nr ≡ Wide x
-Outcome X d h start nf nr f′ r′ (Large x) = recursed X d h start nf nr ≡ Large x
+abbrev pub CarriedOut : ℕ → List ℤ → List ℕ → Cell → ℕ → ℕ → List ℤ → List ℕ → Recursed → Type 0
+CarriedOut X d h start nf nr f′ r′ Done = left Done f′ r′ ≡ recursion X d h start nf nr
+CarriedOut X d h start nf nr f′ r′ Short = recursed X d h start nf nr ≡ Short
+CarriedOut X d h start nf nr f′ r′ (Outside k) = recursed X d h start nf nr ≡ Outside k
+CarriedOut X d h start nf nr f′ r′ (Wide x) = recursed X d h start nf nr ≡ Wide x
+CarriedOut X d h start nf nr f′ r′ (Large x) = recursed X d h start nf nr ≡ Large x
 
 -- cells that are done stay, others are zero
 abbrev pub Settled : Recursed → List ℤ → List ℕ → List ℤ → List ℕ → Type 0

@@ -9,7 +9,7 @@ pub use limits::short;
 ghost use mathlib.Core.Path.{_≡_};
 ghost use lib.ListN.{length};
 ghost use Rattle.recursion.specs.Recursion.{left, recursion};
-ghost use Rattle.recursion.specs.Steps.{Outcome, Settled};
+ghost use Rattle.recursion.specs.Steps.{CarriedOut, Settled};
 
 // What the recursion answers: all cells up to the horizon stand, a slice has fewer than X + 1 cells, a limit of the transform or of
 // the start is broken (at k for an H(k), else at 0), or the first x whose bound or whose |f| is above its limit.
@@ -31,7 +31,7 @@ fn carried_out(
     f: &mut [i64],
     r: &mut [u64],
 ) -> Recursed
-    ensures { λ a. ⌜ Outcome horizon (now (d .entry)) (now (h .entry)) (record { f = first; R = bound })
+    ensures { λ a. ⌜ CarriedOut horizon (now (d .entry)) (now (h .entry)) (record { f = first; R = bound })
         (length (now (f .entry))) (length (now (r .entry))) (now (f .exit)) (now (r .exit)) a ⌝ }
 {
     let tested = limits::tested(horizon, d, h, first, bound, f.len(), r.len());
@@ -42,7 +42,7 @@ fn carried_out(
 }
 
 // Cells that are not done are cleared.
-fn settled(answer: Recursed, f: &mut [i64], r: &mut [u64]) -> Recursed
+fn cleared_unless_done(answer: Recursed, f: &mut [i64], r: &mut [u64]) -> Recursed
     ensures { λ a. ⌜ (a ≡ answer) × Settled answer (now (f .entry)) (now (r .entry)) (now (f .exit)) (now (r .exit)) ⌝ }
 {
     let Recursed::Done = answer else {
@@ -66,5 +66,5 @@ pub fn recursion(
         recursion horizon (now (d .entry)) (now (h .entry)) (record { f = first; R = bound }) (length (now (f .entry))) (length (now (r .entry))) ⌝ }
 {
     let answer = carried_out(horizon, d, h, first, bound, f, r);
-    settled(answer, f, r)
+    cleared_unless_done(answer, f, r)
 }

@@ -16,7 +16,7 @@ ghost use Rattle.whole.specs.Sums.{sumOf};
 ghost use Rattle.recursion.specs.Slices.{cellIn, CellFits, TransformFits, CellsFit};
 ghost use Rattle.recursion.specs.Places.{PlacesOf};
 ghost use Rattle.recursion.specs.Tests.{Kept};
-ghost use Rattle.recursion.specs.Steps.{most-sum, SumsTo, Steps, StepsFrom};
+ghost use Rattle.recursion.specs.Steps.{most-part-sum, SumsTo, StepsFor, StepsFrom};
 
 // A place for each k from 1 to X.
 const MOST_PLACES: usize = Fund::MOST_HORIZON as usize;
@@ -60,7 +60,7 @@ pub(crate) fn all_steps(
 fn steps(horizon: usize, d: &[i64], h: &[u64], f: &mut [i64], r: &mut [u64]) -> Recursed
     requires { ⌜ TransformFits horizon (now d) (now h) ⌝ }
     requires { ⌜ (horizon < length (now f)) × (horizon < length (now r)) × CellFits (cellIn (now f) (now r) 0) ⌝ }
-    ensures { λ a. ⌜ Steps horizon (now (d .entry)) (now (h .entry)) (now (f .entry)) (now (r .entry)) (now (f .exit)) (now (r .exit)) a ⌝ }
+    ensures { λ a. ⌜ StepsFor horizon (now (d .entry)) (now (h .entry)) (now (f .entry)) (now (r .entry)) (now (f .exit)) (now (r .exit)) a ⌝ }
 {
     let mut list = [0usize; MOST_PLACES];
     let p = places::list_places(horizon, d, h, &mut list);
@@ -80,7 +80,7 @@ fn fill_cells(
     requires { ⌜ TransformFits horizon (now d) (now h) ⌝ }
     requires { ⌜ (horizon < length (now f)) × (horizon < length (now r)) × CellFits (cellIn (now f) (now r) 0) ⌝ }
     requires { ⌜ PlacesOf horizon (now d) (now h) (now list) p ⌝ }
-    ensures { λ a. ⌜ Steps horizon (now (d .entry)) (now (h .entry)) (now (f .entry)) (now (r .entry)) (now (f .exit)) (now (r .exit)) a ⌝ }
+    ensures { λ a. ⌜ StepsFor horizon (now (d .entry)) (now (h .entry)) (now (f .entry)) (now (r .entry)) (now (f .exit)) (now (r .exit)) a ⌝ }
 {
     let mut last: usize = 0;
     while last < horizon {
@@ -136,11 +136,11 @@ fn sums(
 
 // f(x), the nearest of the sum over x.
 fn cell_of(s: Sums, x: u64) -> i64
-    requires { ⌜ (s .plus ≤ most-sum) × (s .minus ≤ most-sum) × (0 < x) ⌝ }
+    requires { ⌜ (s .plus ≤ most-part-sum) × (s .minus ≤ most-part-sum) × (0 < x) ⌝ }
     ensures { λ r. ⌜ r ≡ nearest (sumOf s) x ⌝ }
 {
     let sum = whole::difference(s.plus, s.minus);
-    whole::value(nearest_over(sum, x))
+    whole::as_i64(nearest_over(sum, x))
 }
 
 // The magnitude is rounded, so halves go away from zero on both sides.
@@ -155,7 +155,7 @@ fn nearest_over(sum: Signed, x: u64) -> Signed
 
 // R(x), the sum over x, up, and one more.
 fn bound_of(s: Sums, x: u64) -> u64
-    requires { ⌜ (s .bound ≤ most-sum) × (0 < x) ⌝ }
+    requires { ⌜ (s .bound ≤ most-part-sum) × (0 < x) ⌝ }
     ensures { λ r. ⌜ r ≡ up (s .bound) x + 1 ⌝ }
 {
     whole::up(s.bound, x) + 1

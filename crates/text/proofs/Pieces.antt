@@ -16,7 +16,7 @@ use Rattle.fund.specs.declared.Refusal.{Refusal}
 use Rattle.fund.specs.Base.{bytes}
 use Rattle.fund.specs.Limits.{most-bound}
 use Rattle.fund.specs.Refusals.{numberOf}
-use Rattle.fund.specs.Listing.{decimal, signed, joined, cellLines, refusedLine}
+use Rattle.fund.specs.Listing.{decimal, signedDecimal, joined, cellLines, refusedLine}
 use Rattle.text.specs.Shown.{bounded}
 use Rattle.text.specs.Pieces.{cellLine}
 
@@ -25,12 +25,12 @@ unfolding joined
 joined-next text next more = sym (append-snoc text 44 (joined next more))
 
 pub cell-pieces : (x : ℕ) (f : ℤ) (bound : ℕ)
-    → cellLine x f bound ≡ bytes "cell=" ++ ((decimal x ++ (44 ∷ [])) ++ ((signed f ++ (44 ∷ [])) ++ (decimal bound ++ (10 ∷ []))))
+    → cellLine x f bound ≡ bytes "cell=" ++ ((decimal x ++ (44 ∷ [])) ++ ((signedDecimal f ++ (44 ∷ [])) ++ (decimal bound ++ (10 ∷ []))))
 unfolding cellLine joined
 cell-pieces x f bound =
     ap (λ l. bytes "cell=" ++ l)
-    (joined-next (decimal x) (signed f) (decimal bound ∷ [])
-    ∙ ap (λ l. (decimal x ++ (44 ∷ [])) ++ l) (joined-next (signed f) (decimal bound) []))
+    (joined-next (decimal x) (signedDecimal f) (decimal bound ∷ [])
+    ∙ ap (λ l. (decimal x ++ (44 ∷ [])) ++ l) (joined-next (signedDecimal f) (decimal bound) []))
 
 pub refusal-pieces : (why : Refusal) (place n : ℕ) → n ≡ numberOf why
     → refusedLine why place ≡ bytes "refused=" ++ ((decimal n ++ (44 ∷ [])) ++ (decimal place ++ (10 ∷ [])))

@@ -10,7 +10,7 @@ use lib.Signed.{ltZ}
 use mir.Syntax.{w64}
 use mir.Val.{SFits, toZ, ofZ}
 use mir.Facts.{toZ-ofZ}
-use Rattle.fund.specs.Listing.{decimal, signed}
+use Rattle.fund.specs.Listing.{decimal, signedDecimal}
 
 -- The test of the sign is made on the word's bits.
 sign : (z : ℤ) {b : Bool} → SFits w64 z → ltZ (toZ w64 (ofZ w64 z)) (pos 0) ≡ b → ltZ z (pos 0) ≡ b
@@ -19,13 +19,13 @@ sign z f t = ap (λ k. ltZ k (pos 0)) (sym (toZ-ofZ f)) ∙ t
 not-false : {A : Type 0} → true ≡ false → A
 not-false e = let z : _≡_ {A = ℕ} 0 1 = cc in absurd (omega arith)
 
-below-at : (z : ℤ) → ltZ z (pos 0) ≡ true → signed z ≡ 45 ∷ decimal (natAbs z)
-unfolding signed
+below-at : (z : ℤ) → ltZ z (pos 0) ≡ true → signedDecimal z ≡ 45 ∷ decimal (natAbs z)
+unfolding signedDecimal
 below-at (pos n) t = let h = ltb-true n 0 t in absurd (omega arith)
 below-at (negsuc n) t = refl
 
-above-at : (z : ℤ) → ltZ z (pos 0) ≡ false → signed z ≡ decimal (natAbs z)
-unfolding signed
+above-at : (z : ℤ) → ltZ z (pos 0) ≡ false → signedDecimal z ≡ decimal (natAbs z)
+unfolding signedDecimal
 above-at (pos n) t = refl
 above-at (negsuc n) t = not-false t
 
@@ -34,8 +34,8 @@ module _ (z : ℤ) (n : ℕ) (f : SFits w64 z) (e : n ≡ natAbs (toZ w64 (ofZ w
   magnitude-is : natAbs z ≡ n
   magnitude-is = sym (e ∙ ap natAbs (toZ-ofZ f))
 
-  pub signed-below : ltZ (toZ w64 (ofZ w64 z)) (pos 0) ≡ true → signed z ≡ 45 ∷ decimal n
+  pub signed-below : ltZ (toZ w64 (ofZ w64 z)) (pos 0) ≡ true → signedDecimal z ≡ 45 ∷ decimal n
   signed-below t = below-at z (sign z f t) ∙ ap (λ k. 45 ∷ decimal k) magnitude-is
 
-  pub signed-above : ltZ (toZ w64 (ofZ w64 z)) (pos 0) ≡ false → signed z ≡ decimal n
+  pub signed-above : ltZ (toZ w64 (ofZ w64 z)) (pos 0) ≡ false → signedDecimal z ≡ decimal n
   signed-above t = above-at z (sign z f t) ∙ ap decimal magnitude-is

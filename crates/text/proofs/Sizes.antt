@@ -12,7 +12,7 @@ use Rattle.fund.specs.declared.Refusal.{Refusal}
 use Rattle.fund.specs.Base.{bytes}
 use Rattle.fund.specs.Limits.{most-horizon}
 use Rattle.fund.specs.Refusals.{numberOf}
-use Rattle.fund.specs.Listing.{decimal, signed, joined, refusedLine}
+use Rattle.fund.specs.Listing.{decimal, signedDecimal, joined, refusedLine}
 use Rattle.text.specs.Writing.{HasRoom}
 use Rattle.text.specs.Shown.{most-cell-line, room}
 use Rattle.text.specs.Pieces.{cellLine, head, foot}
@@ -21,8 +21,8 @@ use Rattle.text.proofs.Decimal.{decimal-length}
 decimal-word : (n : ℕ) → n < 2 ^ 64 → length (decimal n) ≤ 20
 decimal-word n h = decimal-length 19 n (omega arith)
 
-signed-word : (z : ℤ) → SFits w64 z → length (signed z) ≤ 21
-unfolding signed
+signed-word : (z : ℤ) → SFits w64 z → length (signedDecimal z) ≤ 21
+unfolding signedDecimal
 signed-word (pos n) f = omega (arith, decimal-word n (omega (arith, f .sfits)))
 signed-word (negsuc n) f = omega (arith, decimal-word (suc n) (omega (arith, f .sfits)))
 

@@ -8,19 +8,19 @@ use lib.ListN.{length}
 use Rattle.fund.specs.declared.Figures.{Figures}
 use Rattle.fund.specs.Base.{bytes}
 use Rattle.fund.specs.Limits.{most-horizon, most-truncation}
-use Rattle.fund.specs.Listing.{decimal, signed, joined, cellLines}
+use Rattle.fund.specs.Listing.{decimal, signedDecimal, joined, cellLines}
 use Rattle.text.specs.Shown.{bounded}
 
 -- "A cell line is x, f(x), R(x) + 2×E."
 unfoldable pub cellLine : ℕ → ℤ → ℕ → List ℕ
-cellLine x f bound = bytes "cell=" ++ joined (decimal x) (signed f ∷ decimal bound ∷ [])
+cellLine x f bound = bytes "cell=" ++ joined (decimal x) (signedDecimal f ∷ decimal bound ∷ [])
 
 -- The lines before the cells, and the lines behind them.
 unfoldable pub head : Figures → List ℕ
 head a = (bytes "truncation=" ++ joined (decimal (a .truncation)) []) ++ (bytes "mean=" ++ joined (decimal (a .mean)) [])
 
 unfoldable pub foot : Figures → List ℕ
-foot a = (bytes "premium=" ++ joined (signed (a .premium)) []) ++ (bytes "within=" ++ joined (decimal (a .within)) [])
+foot a = (bytes "premium=" ++ joined (signedDecimal (a .premium)) []) ++ (bytes "within=" ++ joined (decimal (a .within)) [])
 
 -- The lines of an accepted fund, from its figures and its cells.
 unfoldable pub acceptedLines : Figures → List ℤ → List ℕ → List ℕ

@@ -7,7 +7,7 @@ ghost use mathlib.Core.Path.{_≡_};
 ghost use mathlib.Core.List.{[], _∷_, _++_};
 ghost use Prim.Native.Nat.{_+_, _*_, _<_, _≤_};
 ghost use lib.ListN.{length};
-ghost use Rattle.fund.specs.Listing.{decimal, signed, joined, cellLines, refusedLine};
+ghost use Rattle.fund.specs.Listing.{decimal, signedDecimal, joined, cellLines, refusedLine};
 ghost use Rattle.text.specs.Writing.{HasRoom, Put, Written};
 ghost use Rattle.text.specs.Pieces.{cellLine, head, foot, acceptedLines, PrintableCells};
 ghost use Rattle.text.specs.Shown.{most-cell-line, room, shownAnswer, bounded, printable, listingOf};
@@ -85,8 +85,8 @@ fn put_decimal(n: u64, text: &mut [u8], at: usize) -> usize
 
 // Writes the number in decimal, a negative one with its sign.
 fn put_signed(z: i64, text: &mut [u8], at: usize) -> usize
-    requires { ⌜ HasRoom (now text) at (signed z) ⌝ }
-    ensures { λ next. ⌜ Put (now (text .entry)) at (signed z) (now (text .exit)) next ⌝ }
+    requires { ⌜ HasRoom (now text) at (signedDecimal z) ⌝ }
+    ensures { λ next. ⌜ Put (now (text .entry)) at (signedDecimal z) (now (text .exit)) next ⌝ }
 {
     let n = whole::magnitude(z);
     if z < 0 {
@@ -107,8 +107,8 @@ fn put_figure(n: u64, end: u8, text: &mut [u8], at: usize) -> usize
 
 // The same for a number that may be negative.
 fn put_signed_figure(z: i64, end: u8, text: &mut [u8], at: usize) -> usize
-    requires { ⌜ HasRoom (now text) at (signed z ++ (end ∷ [])) ⌝ }
-    ensures { λ next. ⌜ Put (now (text .entry)) at (signed z ++ (end ∷ [])) (now (text .exit)) next ⌝ }
+    requires { ⌜ HasRoom (now text) at (signedDecimal z ++ (end ∷ [])) ⌝ }
+    ensures { λ next. ⌜ Put (now (text .entry)) at (signedDecimal z ++ (end ∷ [])) (now (text .exit)) next ⌝ }
 {
     let behind = put_signed(z, text, at);
     put_byte(end, text, behind)

@@ -31,7 +31,7 @@ use Rattle.valuation.specs.Inside.{inside}
 use Rattle.valuation.specs.Filling.{TableFits, TableAdded}
 use Rattle.valuation.specs.Totals.{TableTotals}
 use Rattle.valuation.specs.Valued.{left, outcome, Zeros, verdictOf, valuation}
-use Rattle.valuation.specs.Steps.{TotalsFor, testedOf, Passed, Tested, Fillable, TransformFilled, ReadyFor, Answers}
+use Rattle.valuation.specs.Steps.{TotalsFor, testedOf, PassedTests, Tested, Fillable, TransformFilled, ReadyFor, ValuedAnswer}
 use Rattle.valuation.proofs.InsideTells.{inside-tells}
 
 -- ---- the tests
@@ -130,7 +130,7 @@ module _ (fund : Fund) (count : ℕ) (ms : List Life) (fewer : length ms ≤ cou
       no-line = subst (λ v. part [] v ≡ empty) e (no-part (t .inside) (ltb most-load (t .load)) (ltb most-truncation (t .truncation)) (short n (fund .horizon)))
 
   -- ---- no refusal so far
-  module _ (p : Passed fund t n) where
+  module _ (p : PassedTests fund t n) where
     long : Long n (fund .horizon)
     long = long-of n (fund .horizon) (p .long)
 
@@ -147,11 +147,11 @@ module _ (fund : Fund) (count : ℕ) (ms : List Life) (fewer : length ms ≤ cou
           members = i .1;
           header = i .2;
           sums = for .sums (p .inside-is);
-          passed = subst (Passed fund t) e p;
+          passed = subst (PassedTests fund t) e p;
           filled = subst (λ (m : Lengths). TransformFilled fund ms (m .D) (m .H) d h) e filled;
         }
 
-    pub left-answered : (a : Answer) → Answers fund ms n a → a ≡ valuation fund count ms n
+    pub left-answered : (a : Answer) → ValuedAnswer fund ms n a → a ≡ valuation fund count ms n
     unfolding valuation
     left-answered a s = s ∙ ap (outcome fund ms n) (sym (verdict-inside (p .inside-is)))
 

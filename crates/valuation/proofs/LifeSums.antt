@@ -26,7 +26,7 @@ use Rattle.laws.specs.Accepted.{All}
 use Rattle.widths.specs.Lives.{InRange}
 use Rattle.valuation.specs.Table.{Members}
 use Rattle.walks.specs.Walks.{Stated}
-use Rattle.walks.specs.WalkForm.{word, stepEnded, walkEnded, stepClauses, walkClauses, function, Says, Extra, First, Facts}
+use Rattle.walks.specs.WalkForm.{wordTy, stepEnded, walkEnded, stepClauses, walkClauses, function, Says, Extra, First, Facts}
 use Rattle.walks.specs.WalkTable.{meets}
 use Rattle.valuation.proofs.LifeElement.{life}
 
@@ -34,7 +34,7 @@ use Rattle.valuation.proofs.LifeElement.{life}
 abbrev zero : RValue
 zero = rvOpd (int w64 0)
 
-unfoldable pub u64-local : Extra u64 word
+unfoldable pub u64-local : Extra u64 wordTy
 u64-local = record {
   val = vint w64;
   tells = uint-tells w64;
@@ -114,7 +114,7 @@ module _ (part : ℕ → Life → ℕ) (Ok : ℕ → Type 0) (whole : ℕ → Li
 
 -- a walk whose sum is 0 at first meets its contract
 pub sums : {M : Type 1} (𝓤 : URA M) (H : Heap 𝓤) (𝓜 : Model 𝓤 H) (𝓖 : GhostRules 𝓤 H) (𝓡 : Running 𝓤 H 𝓜) (S : Says life u64 u64 true true) → Facts life u64 u64 true true S (λ x. 0) → (env : Routines) (name step : Name)
-    → Closed 𝓤 H (tables 𝓤 H 𝓜 𝓡 env .C) (tables 𝓤 H 𝓜 𝓡 env .Λ) name (function life word word zero true step)
+    → Closed 𝓤 H (tables 𝓤 H 𝓜 𝓡 env .C) (tables 𝓤 H 𝓜 𝓡 env .Λ) name (function life wordTy wordTy zero true step)
     → Triple 𝓤 (𝓡 .run (env step)) (Stated (givenOf 𝓤 H 𝓜 𝓖) (stepEnded life u64 u64 true) (stepClauses life u64 u64 true true S 𝓤)) → Triple 𝓤 (𝓡 .run (env name)) (Stated (givenOf 𝓤 H 𝓜 𝓖) (walkEnded life u64 u64) (walkClauses life u64 u64 true true S 𝓤))
 unfolding from-zero
-sums 𝓤 H 𝓜 𝓖 𝓡 S facts = meets 𝓤 H 𝓜 𝓖 𝓡 life u64 u64 word word zero u64-local u64-local from-zero true true S facts
+sums 𝓤 H 𝓜 𝓖 𝓡 S facts = meets 𝓤 H 𝓜 𝓖 𝓡 life u64 u64 wordTy wordTy zero u64-local u64-local from-zero true true S facts

@@ -46,7 +46,7 @@ use Rattle.valuation.specs.declared.totals.Totals.{Totals}
 use Rattle.valuation.specs.Table.{Members, most-mean}
 use Rattle.valuation.specs.Premium.{Cells, StopLossIs, levels}
 use Rattle.valuation.specs.Valued.{left, outcome, lengths}
-use Rattle.valuation.specs.Steps.{ReadyFor, Ready, Recursion, RecursedFor, refusalOf, Answers, SettledFor, AnsweredFor}
+use Rattle.valuation.specs.Steps.{ReadyFor, Ready, RecursionLeft, RecursedFor, refusalOf, ValuedAnswer, SettledFor, AnsweredFor}
 use Rattle.valuation.proofs.Recursing.{answerOf, narrow-of, FundFits, recursion-is}
 
 -- a slice that was zero, with its front filled
@@ -125,19 +125,19 @@ module _ (fund : Fund) (ms : List Life) (t : Totals) (d : List ℤ) (h : List �
   unfolding fundTruncation
   rest = valued-rest fund ms n (fundCells fund ms) within-load (omega (arith, figure-is, k .passed .truncation-within)) (k .passed .long)
 
-  leaves-is : (a : Recursed) → Recursion fund t a d h f r → Rec.left a f r ≡ leaves (fundCells fund ms) (length f) (length r) (answerOf found)
+  leaves-is : (a : Recursed) → RecursionLeft fund t a d h f r → Rec.left a f r ≡ leaves (fundCells fund ms) (length f) (length r) (answerOf found)
   leaves-is a e =
       e
       ∙ ap (λ y. Rec.recursion X d h y (length f) (length r)) start-is
       ∙ recursion-is fund ms fits d h _ _ (k .filled .d-is) (k .filled .h-is) (omega (arith, ap (λ (y : Cell). y .R) start-is, k .sums .bound-within within-load)) (length f) (length r) (long .f-long) (long .r-long)
 
   -- ---- a wide cell
-  pub answers-wide : (a : Recursed) → OneOf (1 ∷ 2 ∷ 3 ∷ 4 ∷ []) (Declared.tagOf R.the-type a) → Recursion fund t a d h f r → (v : Valued) (d′ : List ℤ) (h′ : List ℕ) →
-      v ≡ record { verdict = refusalOf a; figures = noFigures } → d′ ≡ replicate (length d) (pos 0) → h′ ≡ replicate (length h) 0 → Answers fund ms n (left v d′ h′ f r)
+  pub answers-wide : (a : Recursed) → OneOf (1 ∷ 2 ∷ 3 ∷ 4 ∷ []) (Declared.tagOf R.the-type a) → RecursionLeft fund t a d h f r → (v : Valued) (d′ : List ℤ) (h′ : List ℕ) →
+      v ≡ record { verdict = refusalOf a; figures = noFigures } → d′ ≡ replicate (length d) (pos 0) → h′ ≡ replicate (length h) 0 → ValuedAnswer fund ms n (left v d′ h′ f r)
   unfolding leaves refuse refused part
   answers-wide a o e v d′ h′ v-is d-is h-is = go found refl
     where
-      go : (x : Option ℕ) → found ≡ x → Answers fund ms n (left v d′ h′ f r)
+      go : (x : Option ℕ) → found ≡ x → ValuedAnswer fund ms n (left v d′ h′ f r)
       go none s =
           let e′ = leaves-is a e ∙ ap (λ x. leaves (fundCells fund ms) (length f) (length r) (answerOf x)) s in
           let done = ap (λ (l : Left). l .answer) e′ in
@@ -160,7 +160,7 @@ module _ (fund : Fund) (ms : List Life) (t : Totals) (d : List ℤ) (h : List �
   all-narrow : found ≡ none → (x : ℕ) → x ≤ X → fundCell fund ms x .R ≤ most-bound
   all-narrow e x l = narrow-of (fundCell fund ms x) (none-of wide 0 (suc X) (fundCell fund ms) (ap (first wide 0) (sym (fundCells-are fund ms)) ∙ e) x (omega arith))
 
-  pub stands : (a : Recursed) → a ≡ recursed.Done → Recursion fund t a d h f r → Stands
+  pub stands : (a : Recursed) → a ≡ recursed.Done → RecursionLeft fund t a d h f r → Stands
   unfolding leaves refuse accepted
   stands a done e = go found refl
     where
@@ -208,7 +208,7 @@ module _ (fund : Fund) (ms : List Life) (t : Totals) (d : List ℤ) (h : List �
 
     -- the figures and the slices
     pub answers-accepted : (pr : ℤ) (p : StopLoss) → StopLossIs (fund .deductible) (t .mean) (t .truncation) f r p → pr ≡ p .premium →
-        Answers fund ms n (left (record { verdict = Accepted; figures = record { truncation = t .truncation; mean = t .mean; premium = pr; within = p .within } }) d h f r)
+        ValuedAnswer fund ms n (left (record { verdict = Accepted; figures = record { truncation = t .truncation; mean = t .mean; premium = pr; within = p .within } }) d h f r)
     unfolding accepted fundFigures fundMean
     answers-accepted pr p priced pr-is = same-answer d-lent h-lent (s .f-is) (s .r-is) figure-is m-is pr-of p-of ∙ ap (outcome fund ms n) (sym (s .accepts))
       where

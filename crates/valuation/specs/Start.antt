@@ -37,17 +37,17 @@ pub record TermsTo (lambda n : ℕ) (s : Sums) : Type 0 where
   pub bound-within : s .bound ≤ n * most-c
 
 -- ---- the product
-abbrev pub one : Life → ℕ
-one m = if single m then 1 else 0
+abbrev pub countOne : Life → ℕ
+countOne m = if single m then 1 else 0
 
 -- one life more
 pub record Times (m : Life) (p r : Product) : Type 0 where
   pub size-is : r .size ≡ (if single m then near (p .size * stay m) most-rate else p .size)
-  pub count-is : r .singles ≡ p .singles + one m
+  pub count-is : r .singles ≡ p .singles + countOne m
 
 -- The sign of what is multiplied does not matter.
 pub record Multiplied (ms : List Life) (size : ℕ) (p : Product) : Type 0 where
   pub product : (s : Bool) → multiplied (signed s size) ms ≡ signed s (p .size)
-  pub count : total one ms ≡ p .singles
+  pub count : total countOne ms ≡ p .singles
   pub size-within : p .size ≤ size
   pub count-within : p .singles ≤ length ms

@@ -41,14 +41,14 @@ testedOf fund t n =
     (refuse refusal.Short (at0 (short n (fund .horizon))) Accepted))
     else Refused refusal.Range 0
 
-pub record Passed (fund : Fund) (t : Totals) (n : Lengths) : Type 0 where
+pub record PassedTests (fund : Fund) (t : Totals) (n : Lengths) : Type 0 where
   pub inside-is : t .inside ≡ true
   pub load-within : t .load ≤ most-load
   pub truncation-within : t .truncation ≤ most-truncation
   pub long : short n (fund .horizon) ≡ false
 
 abbrev pub Tested : Fund → Totals → Lengths → Verdict → Type 0
-Tested fund t n Accepted = Passed fund t n
+Tested fund t n Accepted = PassedTests fund t n
 Tested fund t n (Refused why place) = testedOf fund t n ≡ Refused why place
 
 -- ---- the transform of a table
@@ -68,7 +68,7 @@ pub record ReadyFor (fund : Fund) (ms : List Life) (t : Totals) (d : List ℤ) (
   pub members : Members ms
   pub header : HeaderIn fund
   pub sums : LivesTotals fund ms t
-  pub passed : Passed fund t (record { D = length d; H = length h; f = nf; R = nr })
+  pub passed : PassedTests fund t (record { D = length d; H = length h; f = nf; R = nr })
   pub filled : TransformFilled fund ms (length d) (length h) d h
 
 pub record Ready (fund : Fund) (t : Totals) (d : List ℤ) (h : List ℕ) (nf nr : ℕ) : Type 0 where
@@ -76,12 +76,12 @@ pub record Ready (fund : Fund) (t : Totals) (d : List ℤ) (h : List ℕ) (nf nr
   pub ready : ReadyFor fund ms t d h nf nr
 
 -- what the recursion left of the totals and the transform
-abbrev pub Recursion : Fund → Totals → Recursed → List ℤ → List ℕ → List ℤ → List ℕ → Type 0
-Recursion fund t a d h f r = Rec.left a f r ≡ recursion (fund .horizon) d h (record { f = t .cell; R = t .bound }) (length f) (length r)
+abbrev pub RecursionLeft : Fund → Totals → Recursed → List ℤ → List ℕ → List ℤ → List ℕ → Type 0
+RecursionLeft fund t a d h f r = Rec.left a f r ≡ recursion (fund .horizon) d h (record { f = t .cell; R = t .bound }) (length f) (length r)
 
 pub record RecursedFor (fund : Fund) (t : Totals) (a : Recursed) (d : List ℤ) (h : List ℕ) (f : List ℤ) (r : List ℕ) : Type 0 where
   pub ready : Ready fund t d h (length f) (length r)
-  pub left-is : Recursion fund t a d h f r
+  pub left-is : RecursionLeft fund t a d h f r
 
 abbrev pub refusalOf : Recursed → Verdict
 refusalOf recursed.Done = Refused refusal.Range 0
@@ -91,11 +91,11 @@ refusalOf (recursed.Wide x) = Refused refusal.Wide x
 refusalOf (recursed.Large x) = Refused refusal.Range 0
 
 -- the answer is that of 7 to 10
-abbrev pub Answers : Fund → List Life → Lengths → Answer → Type 0
-Answers fund ms n a = a ≡ outcome fund ms n (valued fund ms n (fundCells fund ms))
+abbrev pub ValuedAnswer : Fund → List Life → Lengths → Answer → Type 0
+ValuedAnswer fund ms n a = a ≡ outcome fund ms n (valued fund ms n (fundCells fund ms))
 
 abbrev pub SettledFor : Fund → Totals → Recursed → List ℤ → List ℕ → List ℤ → List ℕ → Valued → List ℤ → List ℕ → Type 0
-SettledFor fund t a d h f r v d′ h′ = (ms : List Life) → ReadyFor fund ms t d h (length f) (length r) → Answers fund ms (lengths d h f r) (left v d′ h′ f r)
+SettledFor fund t a d h f r v d′ h′ = (ms : List Life) → ReadyFor fund ms t d h (length f) (length r) → ValuedAnswer fund ms (lengths d h f r) (left v d′ h′ f r)
 
 abbrev pub AnsweredFor : Fund → Totals → List ℤ → List ℕ → ℕ → ℕ → Answer → Type 0
-AnsweredFor fund t d h nf nr a = (ms : List Life) → ReadyFor fund ms t d h nf nr → Answers fund ms (record { D = length d; H = length h; f = nf; R = nr }) a
+AnsweredFor fund t d h nf nr a = (ms : List Life) → ReadyFor fund ms t d h nf nr → ValuedAnswer fund ms (record { D = length d; H = length h; f = nf; R = nr }) a

@@ -12,7 +12,7 @@ ghost use Rattle.fund.specs.Limits.{most-frequency, most-order, most-truncation
 ghost use Rattle.fund.specs.Folding.{claim, stay};
 ghost use Rattle.fund.specs.Transform.{lambda as lambdaOf, load as loadOf, truncation as truncationOf, mean as meanOf, unit, w};
 ghost use Rattle.widths.specs.Lives.{InRange};
-ghost use Rattle.widths.specs.Parts.{lambdaPart, singlePart, loadPart, truncationPart, meanPart};
+ghost use Rattle.widths.specs.Parts.{lambdaPart, singleLoad, loadPart, truncationPart, meanPart};
 ghost use Rattle.valuation.specs.Table.{Members, most-mean};
 
 // A mean of a fund that is not refused is at most this.
@@ -54,7 +54,7 @@ pub(crate) fn lambda(members: &[Life], a: u64) -> u64
 // What a life of group 1 adds to the load.
 fn single_part(m: Life) -> u64
     requires { ⌜ InRange m ⌝ }
-    ensures { λ r. ⌜ r ≡ singlePart m ⌝ }
+    ensures { λ r. ⌜ r ≡ singleLoad m ⌝ }
 {
     if m.group == 1 {
         let claim = m.q + m.i;

@@ -47,7 +47,7 @@ fn limited(m: Life) -> bool
 }
 
 // A rate with amount 0 is 0.
-fn folded(rate: u64, amount: u64) -> bool
+fn is_folded(rate: u64, amount: u64) -> bool
     ensures { λ r. ⌜ Tells r (amount ≡ 0 → rate ≡ 0) ⌝ }
 {
     if amount == 0 {
@@ -83,10 +83,10 @@ fn life_inside(m: Life) -> bool
     if !limited(m) {
         return false;
     }
-    if !folded(m.q, m.d) {
+    if !is_folded(m.q, m.d) {
         return false;
     }
-    folded(m.i, m.e)
+    is_folded(m.i, m.e)
 }
 
 // Whether all lives so far are in range, and one more.

@@ -55,7 +55,7 @@ fn clear_all(transform: &mut [i64], h: &mut [u64], f: &mut [i64], r: &mut [u64])
 }
 
 // The ranges that a file's header and lives have, then the refusals 7, 8 and 9.
-fn tested(fund: Fund, t: Totals, d: usize, h: usize, f: usize, r: usize) -> Verdict
+fn tested_totals(fund: Fund, t: Totals, d: usize, h: usize, f: usize, r: usize) -> Verdict
     ensures { λ v. ⌜ Tested fund t (record { D = d; H = h; f = f; R = r }) v ⌝ }
 {
     if !t.inside {
@@ -147,7 +147,7 @@ fn first_totals(fund: Fund, lives: [Life; Fund::MEMBER_ROWS], n: usize) -> Total
     if Fund::MOST_MEMBERS < n as u64 {
         return totals::outside();
     }
-    lives::first_totals(fund, lives, n)
+    lives::lent_totals(fund, lives, n)
 }
 
 // D and H of the first n lives, and zeros beyond the horizon.
@@ -185,7 +185,7 @@ fn judged(
     ensures { λ v. ⌜ left v (now (transform .exit)) (now (h .exit)) (now (f .exit)) (now (r .exit)) ≡
         valuation fund n (take n lives) (lengths (now (transform .entry)) (now (h .entry)) (now (f .entry)) (now (r .entry))) ⌝ }
 {
-    let verdict = tested(fund, t, transform.len(), h.len(), f.len(), r.len());
+    let verdict = tested_totals(fund, t, transform.len(), h.len(), f.len(), r.len());
     let Verdict::Accepted = verdict else {
         clear_all(transform, h, f, r);
         return refused(verdict);

@@ -11,7 +11,7 @@ ghost use Rattle.fund.specs.Limits.{most-members};
 ghost use Rattle.valuation.specs.Filling.{TableFits, TableAdded};
 ghost use Rattle.valuation.specs.Totals.{TableTotals};
 
-pub(crate) fn first_totals(fund: Fund, lives: [Life; Fund::MEMBER_ROWS], n: usize) -> Totals
+pub(crate) fn lent_totals(fund: Fund, lives: [Life; Fund::MEMBER_ROWS], n: usize) -> Totals
     requires { ⌜ n ≤ most-members ⌝ }
     ensures { λ t. ⌜ TableTotals fund (take n lives) t ⌝ }
 {

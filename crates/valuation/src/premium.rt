@@ -28,7 +28,7 @@ pub(crate) fn premium(
     let m = deductible as u64;
     let excess = whole::difference(mean + s.plus, m * UNIT + s.minus);
     StopLoss {
-        premium: whole::value(excess),
+        premium: whole::as_i64(excess),
         within: s.bound + 2 * m * truncation,
     }
 }

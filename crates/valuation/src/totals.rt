@@ -63,7 +63,7 @@ fn with_start(load: u64, truncation: u64, mean: u64, first: StartSum, product: P
     requires { ⌜ (product .size ≤ 200 * most-t) × (first .bound ≤ 64000) × (product .singles ≤ most-members) ⌝ }
     ensures { λ r. ⌜ StartedWith load truncation mean first product r ⌝ }
 {
-    let cell = whole::value(Signed {
+    let cell = whole::as_i64(Signed {
         negative: first.negative,
         size: product.size,
     });

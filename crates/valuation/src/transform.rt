@@ -16,7 +16,7 @@ ghost use Rattle.fund.specs.Folding.{claim, stay, single};
 ghost use Rattle.fund.specs.Transform.{nextRow, placeOf, placed as placedOf, replacedTerm, replacedTerms, row as rowOf, rowTerms, singleTerms, unit, weight};
 ghost use Rattle.laws.specs.Accepted.{All};
 ghost use Rattle.widths.specs.Lives.{InRange};
-ghost use Rattle.widths.specs.Adding.{addD, addH, Room, RoomD, Row, TermRoom, termsAt};
+ghost use Rattle.widths.specs.Adding.{addD, addH, Room, RoomD, SingleRow, TermRoom, termsAt};
 ghost use Rattle.whole.specs.Sign.{signed};
 ghost use Rattle.valuation.specs.Filling.{LifeFits, LifeAdded, TableFits, TableAdded};
 
@@ -125,7 +125,7 @@ fn add_term(d: &mut [i64], h: &mut [u64], x: u64, v: u64, n: u64)
 
 // The term of row n and column l, if it is placed.
 fn add_at(d: &mut [i64], h: &mut [u64], horizon: u64, m: Life, v: u64, n: u64, l: u64)
-    requires { ⌜ Row m n × (l ≤ n) × (v ≡ getD (rowOf m n) l 0)
+    requires { ⌜ SingleRow m n × (l ≤ n) × (v ≡ getD (rowOf m n) l 0)
         × Room horizon (now d) (now h) (termsAt horizon m n l) ⌝ }
     ensures { λ r. ⌜ now (d .exit) ≡ addD (now (d .entry)) (termsAt horizon m n l) ⌝ }
     ensures { λ r. ⌜ now (h .exit) ≡ addH (now (h .entry)) (termsAt horizon m n l) ⌝ }
@@ -139,7 +139,7 @@ fn add_at(d: &mut [i64], h: &mut [u64], horizon: u64, m: Life, v: u64, n: u64, l
 
 // The terms of row n.
 fn add_row(d: &mut [i64], h: &mut [u64], horizon: u64, m: Life, row: [u64; 13], n: u64)
-    requires { ⌜ Row m n × (row ≡ rowOf m n) × Room horizon (now d) (now h) (rowTerms horizon m n (n + 1)) ⌝ }
+    requires { ⌜ SingleRow m n × (row ≡ rowOf m n) × Room horizon (now d) (now h) (rowTerms horizon m n (n + 1)) ⌝ }
     ensures { λ r. ⌜ now (d .exit) ≡ addD (now (d .entry)) (rowTerms horizon m n (n + 1)) ⌝ }
     ensures { λ r. ⌜ now (h .exit) ≡ addH (now (h .entry)) (rowTerms horizon m n (n + 1)) ⌝ }
 {

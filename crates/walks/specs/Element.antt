@@ -36,33 +36,33 @@ pub record Element : Type 2 where
 abbrev pub Of : Element → Type 0
 Of L = L .type .D
 
-abbrev pub rowOf : Element → RattleType
-rowOf L = row (L .type)
+abbrev pub elementRow : Element → RattleType
+elementRow L = row (L .type)
 
 abbrev pub mirOf : Element → Ty
-mirOf L = lone (rowOf L .mir)
+mirOf L = lone (elementRow L .mir)
 
-abbrev pub bytesOf : Element → ℕ
-bytesOf L = mem (rowOf L) .size
+abbrev pub elementBytes : Element → ℕ
+elementBytes L = mem (elementRow L) .size
 
 abbrev pub valueOf : (L : Element) → Of L → Val
 valueOf L m = LL.val (L .type) (L .laws) m
 
 abbrev pub borrowed : (L : Element) → Lft → List (Of L) → ℕ → ℕ → Fml
-borrowed L κ ms b o = fshr-bor κ (λ p. arr-parts (shares (rowOf L)) (length ms) .part p ms b o)
+borrowed L κ ms b o = fshr-bor κ (λ p. arr-parts (shares (elementRow L)) (length ms) .part p ms b o)
 
 module _ {M : Type 1} {𝓤 : URA M} {H : Heap 𝓤} {A : Atoms 𝓤} {K : Type 0} {W : Given 𝓤 H A} {Γ : List (Item 𝓤)} {E : Env 𝓤 H} {C : Calls 𝓤 H} {Λ : Loops 𝓤 H} {post : Post 𝓤 H} {rest : Body} where
   pub copies-element : K → (L : Element) (p r : ℕ) {i j lp lm : ℕ} {κ : Lft} {q : Share} (ms : List (Of L)) (k b o : ℕ) → k < length ms
       → spotOf 𝓤 H E i ≡ ((mirOf L), lm, 0) → spotOf 𝓤 H E j ≡ (tyPtr, lp, 0)
-      → nth 𝓤 H A p Γ ≡ ‵ (fat fullShare tyPtr lp 0 (vptr b (k * bytesOf L + o))) → nth 𝓤 H A r Γ ≡ ‵ (froom (mirOf L) lm 0)
-      → Step K W (‵ (flft κ q) ∷ ‵ ((rowOf L) .own (getD ms k (L .blank)) (valueOf L (getD ms k (L .blank)) ∷ [])) ∷ ‵ (borrowed L κ ms b o) ∷ put 𝓤 H A r (‵ (fat fullShare (mirOf L) lm 0 (valueOf L (getD ms k (L .blank))))) Γ) (runs C Λ E rest post)
+      → nth 𝓤 H A p Γ ≡ ‵ (fat fullShare tyPtr lp 0 (vptr b (k * elementBytes L + o))) → nth 𝓤 H A r Γ ≡ ‵ (froom (mirOf L) lm 0)
+      → Step K W (‵ (flft κ q) ∷ ‵ ((elementRow L) .own (getD ms k (L .blank)) (valueOf L (getD ms k (L .blank)) ∷ [])) ∷ ‵ (borrowed L κ ms b o) ∷ put 𝓤 H A r (‵ (fat fullShare (mirOf L) lm 0 (valueOf L (getD ms k (L .blank))))) Γ) (runs C Λ E rest post)
       (‵ (borrowed L κ ms b o) ∷ ‵ (flft κ q) ∷ Γ) (runs C Λ E (seq (assign (place i []) (rvOpd (copy (place j (deref (mirOf L) ∷ []))))) rest) post)
   copies-element t L p r {i} {j} {lp} {lm} ms k b o inside ei ej ep er = step (λ s.
       let m = getD ms k (L .blank) in
-      looks-slice t tt (rowOf L) (Is (rowOf L)) (shows 𝓤 H A (rowOf L)) (LL.vals (L .type) (L .laws)) (LL.tells (L .type) (L .laws)) (LL.copy (L .type) (L .copied) 𝓤 H A W) ms b o (λ q′.
-      elem-out t (rowOf L) (Is (rowOf L)) (shows 𝓤 H A (rowOf L)) (LL.vals (L .type) (L .laws)) (LL.tells (L .type) (L .laws)) q′ ms k (L .blank) b o inside (λ is.
+      looks-slice t tt (elementRow L) (Is (elementRow L)) (shows 𝓤 H A (elementRow L)) (LL.vals (L .type) (L .laws)) (LL.tells (L .type) (L .laws)) (LL.copy (L .type) (L .copied) 𝓤 H A W) ms b o (λ q′.
+      elem-out t (elementRow L) (Is (elementRow L)) (shows 𝓤 H A (elementRow L)) (LL.vals (L .type) (L .laws)) (LL.tells (L .type) (L .laws)) q′ ms k (L .blank) b o inside (λ is.
       -- [the life's cell; what it owns; the others; what shuts; the borrow; …]
-      assigns t (of-opd t (load t (from t (walks-at ej (hop t (look t (suc (suc (suc (suc (suc p))))) (ep ∙ ap (λ (x : ℕ). ‵ (fat fullShare tyPtr lp 0 (vptr b x))) (sym (place-is (bytesOf L) o k)))) (stop t)))) (look-raw t 0 refl))) (from t (walks-at ei (stop t)))
+      assigns t (of-opd t (load t (from t (walks-at ej (hop t (look t (suc (suc (suc (suc (suc p))))) (ep ∙ ap (λ (x : ℕ). ‵ (fat fullShare tyPtr lp 0 (vptr b x))) (sym (place-is (elementBytes L) o k)))) (stop t)))) (look-raw t 0 refl))) (from t (walks-at ei (stop t)))
       (init t (suc (suc (suc (suc (suc r))))) er (LL.lawful (L .type) (L .laws) 𝓤 H A W .typed m _ is .0)) $
-      move t (1 ∷ []) $ use1 W (‵ ((rowOf L) .own m (valueOf L m ∷ [])) ⊛ ‵ ((rowOf L) .own m (valueOf L m ∷ []))) (LL.copy (L .type) (L .copied) 𝓤 H A W .twice m _) $ split t $ move t (2 ∷ 0 ∷ 3 ∷ []) $
-      elem-back t (rowOf L) q′ ms k (L .blank) (valueOf L m ∷ []) b o inside $ move t (0 ∷ 2 ∷ []) $ shuts-slice t tt (rowOf L) q′ ms b o $ s)))
+      move t (1 ∷ []) $ use1 W (‵ ((elementRow L) .own m (valueOf L m ∷ [])) ⊛ ‵ ((elementRow L) .own m (valueOf L m ∷ []))) (LL.copy (L .type) (L .copied) 𝓤 H A W .twice m _) $ split t $ move t (2 ∷ 0 ∷ 3 ∷ []) $
+      elem-back t (elementRow L) q′ ms k (L .blank) (valueOf L m ∷ []) b o inside $ move t (0 ∷ 2 ∷ []) $ shuts-slice t tt (elementRow L) q′ ms b o $ s)))

@@ -29,14 +29,14 @@ use denote.Signature.{plain}
 use denote.Slice.{sliceTy}
 use denote.Triple.Clauses.{Clauses, Ended}
 use denote.Triple.Walked.{needs}
-use Rattle.walks.specs.Element.{Element, Of, rowOf, mirOf, bytesOf}
+use Rattle.walks.specs.Element.{Element, Of, elementRow, mirOf, elementBytes}
 use Rattle.walks.specs.Walks.{ends}
 
-abbrev pub word : Ty
-word = tyInt w64
+abbrev pub wordTy : Ty
+wordTy = tyInt w64
 
 abbrev pub slice : Element → Ty
-slice L = sliceTy (tyRef (named 0) imm (pointee (rowOf L .written)))
+slice L = sliceTy (tyRef (named 0) imm (pointee (elementRow L .written)))
 
 -- ---- the MIR. The locals: the result, the members, x, the running value, k, the count and the byte offset, the test, the element's place, the element
 -- p: whether the step is passed x too
@@ -49,7 +49,7 @@ turn L p f =
     seq (assign (place 5 []) (rvOpd (copy (place 1 (field 1 ∷ [])))))
     (seq (assign (place 6 []) (op2 (lt unsigned) (copy (place 4 [])) (copy (place 5 []))))
     (seq (cond (copy (place 6 [])) skip (exit 1))
-    (seq (assign (place 5 []) (op2 (mul unsigned) (copy (place 4 [])) (int w64 (bytesOf L))))
+    (seq (assign (place 5 []) (op2 (mul unsigned) (copy (place 4 [])) (int w64 (elementBytes L))))
     (seq (assign (place 7 []) (op2 offset (copy (place 1 (field 0 ∷ []))) (copy (place 5 []))))
     (seq (assign (place 8 []) (rvOpd (copy (place 7 (deref (mirOf L) ∷ [])))))
     (seq (call f (operands p) (place 3 []))
@@ -63,7 +63,7 @@ function L τ σ rv p f = record {
   lifetimes = 1;
   outlives = [];
   params = 2;
-  locals = local τ valueLocal ∷ local (slice L) valueLocal ∷ local σ valueLocal ∷ local τ valueLocal ∷ local word valueLocal ∷ local word valueLocal ∷ local tyBool valueLocal ∷ local tyPtr valueLocal ∷ local (mirOf L) valueLocal ∷ [];
+  locals = local τ valueLocal ∷ local (slice L) valueLocal ∷ local σ valueLocal ∷ local τ valueLocal ∷ local wordTy valueLocal ∷ local wordTy valueLocal ∷ local tyBool valueLocal ∷ local tyPtr valueLocal ∷ local (mirOf L) valueLocal ∷ [];
   body = seq (assign (place 3 []) rv) (seq (assign (place 4 []) (rvOpd (int w64 0))) (seq (block (loop (turn L p f))) rest));
 }
 
@@ -83,14 +83,14 @@ clause-out false 𝓤 φ P h k = via 𝓤 P (fst∗ 𝓤 P (emp 𝓤)) (k (h ref
 module _ (L : Element) (R X : RattleType) where
   abbrev pub stepEnded : Bool → Ended
   stepEnded true = record {
-    signature = record { lifetimes = 0; outlives = []; params = plain (λ _. R) ∷ plain (λ _. (rowOf L)) ∷ plain (λ _. X) ∷ []; result = plain (λ _. R) };
+    signature = record { lifetimes = 0; outlives = []; params = plain (λ _. R) ∷ plain (λ _. (elementRow L)) ∷ plain (λ _. X) ∷ []; result = plain (λ _. R) };
     kept = (yes, (yes, (yes, tt)));
   }
-  stepEnded false = record { signature = record { lifetimes = 0; outlives = []; params = plain (λ _. R) ∷ plain (λ _. (rowOf L)) ∷ []; result = plain (λ _. R) }; kept = (yes, (yes, tt)) }
+  stepEnded false = record { signature = record { lifetimes = 0; outlives = []; params = plain (λ _. R) ∷ plain (λ _. (elementRow L)) ∷ []; result = plain (λ _. R) }; kept = (yes, (yes, tt)) }
 
   abbrev pub walkEnded : Ended
   walkEnded = record {
-    signature = record { lifetimes = 1; outlives = []; params = SliceRefOf (0 ∷ []) tt (plain (λ _. (rowOf L))) (λ _. tt) ∷ plain (λ _. X) ∷ []; result = plain (λ _. R) };
+    signature = record { lifetimes = 1; outlives = []; params = SliceRefOf (0 ∷ []) tt (plain (λ _. (elementRow L))) (λ _. tt) ∷ plain (λ _. X) ∷ []; result = plain (λ _. R) };
     kept = (yes, (yes, tt));
   }
 

@@ -38,10 +38,10 @@ use denote.Triple.Clauses.{Clauses, Ended, lasts}
 use denote.Triple.Statement.{Triple}
 use denote.Triple.Table.{entered, framed}
 use denote.Triple.Walked.{needs}
-use Rattle.walks.specs.Element.{Element, Of, rowOf, mirOf, bytesOf, valueOf, borrowed, copies-element}
+use Rattle.walks.specs.Element.{Element, Of, elementRow, mirOf, elementBytes, valueOf, borrowed, copies-element}
 use Rattle.walks.specs.Freeing.{frees-cell, frees-room}
 use Rattle.walks.specs.Walks.{Stated, tokens, passed, Walk, starts, calls-for, ends, cell}
-use Rattle.walks.specs.WalkForm.{word, slice, operands, turn, rest, function, clause-in, clause-out, stepEnded, walkEnded, pass, Says, stepClauses, walkClauses, Facts, Extra, First}
+use Rattle.walks.specs.WalkForm.{wordTy, slice, operands, turn, rest, function, clause-in, clause-out, stepEnded, walkEnded, pass, Says, stepClauses, walkClauses, Facts, Extra, First}
 
 -- the test of a `while`: it holds and the turn goes on, or it fails and the `exit` is taken
 module _ {M : Type 1} {𝓤 : URA M} {H : Heap 𝓤} {A : Atoms 𝓤} {K : Type 0} {W : Given 𝓤 H A} {Γ : List (Item 𝓤)} {E : Env 𝓤 H} {C : Calls 𝓤 H} {Λ : Loops 𝓤 H} {q : Post 𝓤 H} where
@@ -55,7 +55,7 @@ module _ {M : Type 1} (𝓤 : URA M) (H : Heap 𝓤) (A : Atoms 𝓤) (W : Given
   calls-step : (p t : Bool) (S : Says L R X p t) → Triple 𝓤 (C f) (Stated W (stepEnded L R X p) (stepClauses L R X p t S 𝓤)) → S .asks r m (pass L R X p x)
       → ((i : Item 𝓤) → Opd (Go {0}) W (i ∷ Γ) E (copy (place 3 [])) w) → ((i : Item 𝓤) → Opd (Go {0}) W (i ∷ Γ) E (copy (place 8 [])) (valueOf L m)) → ((i : Item 𝓤) → Opd (Go {0}) W (i ∷ Γ) E (copy (place 2 [])) u)
       → ((w′ : Val) (r′ : R .Denot) → S .gives r m (pass L R X p x) r′ → Is R r′ (w′ ∷ []) → Seq (Go {0}) W (‵ (R .own r′ (w′ ∷ [])) ∷ Γ) (lands C Λ E (place 3 []) w′ rest q))
-      → Seq (Go {0}) W (‵ (R .own r (w ∷ [])) ∷ ‵ ((rowOf L) .own m (valueOf L m ∷ [])) ∷ ‵ (X .own x (u ∷ [])) ∷ Γ) (runs C Λ E (seq (call f (operands p) (place 3 [])) rest) q)
+      → Seq (Go {0}) W (‵ (R .own r (w ∷ [])) ∷ ‵ ((elementRow L) .own m (valueOf L m ∷ [])) ∷ ‵ (X .own x (u ∷ [])) ∷ Γ) (runs C Λ E (seq (call f (operands p) (place 3 [])) rest) q)
   calls-step true t S met asks or om ox k =
       let to : Stated W (stepEnded L R X true) (stepClauses L R X true t S 𝓤) .Ghost = ((tt, tt, tt, (r, (m, (x, tt))), (w ∷ [], (valueOf L m ∷ [], (u ∷ [], tt)))), tt) in
       nothing ! $ move ! (3 ∷ 0 ∷ []) $ fjoin ! $ move ! (2 ∷ 0 ∷ []) $ fjoin ! $ move ! (1 ∷ 0 ∷ []) $ fjoin ! $
@@ -140,15 +140,15 @@ module _ {M : Type 1} (𝓤 : URA M) (H : Heap 𝓤) (A : Atoms 𝓤) (W : Given
     unsaid : ent 𝓤 (emp 𝓤) (sem 𝓤 H A (lasts T′ (κ, tt) (members, (x, tt)) (tt, (ξ .last x, tt))))
     unsaid = qed W [] ∵ nothing ! $ frame ! $ nothing ! $ use0 W (‵ (left (X .exit yes) x (ξ .last x))) (ξ .silent 𝓤 H A x) $ frame ! $ done !
 
-    module _ (g : length ms < 2 ^ 64) (gb : length ms * bytesOf L < 2 ^ 63) (l₀ l₁ l₂ l₃ l₄ l₅ l₆ l₇ l₈ : ℕ) where
+    module _ (g : length ms < 2 ^ 64) (gb : length ms * elementBytes L < 2 ^ 63) (l₀ l₁ l₂ l₃ l₄ l₅ l₆ l₇ l₈ : ℕ) where
       abbrev En : Env 𝓤 H
-      En = (τ, l₀) ∷ (slice L, l₁) ∷ (σ, l₂) ∷ (τ, l₃) ∷ (word, l₄) ∷ (word, l₅) ∷ (tyBool, l₆) ∷ (tyPtr, l₇) ∷ ((mirOf L), l₈) ∷ []
+      En = (τ, l₀) ∷ (slice L, l₁) ∷ (σ, l₂) ∷ (τ, l₃) ∷ (wordTy, l₄) ∷ (wordTy, l₅) ∷ (tyBool, l₆) ∷ (tyPtr, l₇) ∷ ((mirOf L), l₈) ∷ []
 
       abbrev At : State → List (Item 𝓤)
       At s = ‵ (R .own (s .r) (s .w ∷ [])) ∷ ‵ (borrowed L κ ms b o) ∷ ‵ (flft κ q) ∷ ‵ (X .own x (u ∷ []))
-          ∷ ‵ (fat fullShare τ l₃ 0 (s .w)) ∷ ‵ (fat fullShare word l₄ 0 (vint w64 (s .k))) ∷ ‵ (froom word l₅ 0) ∷ ‵ (froom tyBool l₆ 0) ∷ ‵ (froom tyPtr l₇ 0) ∷ ‵ (froom (mirOf L) l₈ 0)
+          ∷ ‵ (fat fullShare τ l₃ 0 (s .w)) ∷ ‵ (fat fullShare wordTy l₄ 0 (vint w64 (s .k))) ∷ ‵ (froom wordTy l₅ 0) ∷ ‵ (froom tyBool l₆ 0) ∷ ‵ (froom tyPtr l₇ 0) ∷ ‵ (froom (mirOf L) l₈ 0)
           ∷ ‵ (fat fullShare (slice L) l₁ 0 v) ∷ ‵ (fat fullShare σ l₂ 0 u) ∷ ‵ (froom τ l₀ 0)
-          ∷ ‵ (fdies τ l₀) ∷ ‵ (fdies (slice L) l₁) ∷ ‵ (fdies σ l₂) ∷ ‵ (fdies τ l₃) ∷ ‵ (fdies word l₄) ∷ ‵ (fdies word l₅) ∷ ‵ (fdies tyBool l₆) ∷ ‵ (fdies tyPtr l₇) ∷ ‵ (fdies (mirOf L) l₈) ∷ ‵ ftrue ∷ []
+          ∷ ‵ (fdies τ l₀) ∷ ‵ (fdies (slice L) l₁) ∷ ‵ (fdies σ l₂) ∷ ‵ (fdies τ l₃) ∷ ‵ (fdies wordTy l₄) ∷ ‵ (fdies wordTy l₅) ∷ ‵ (fdies tyBool l₆) ∷ ‵ (fdies tyPtr l₇) ∷ ‵ (fdies (mirOf L) l₈) ∷ ‵ ftrue ∷ []
 
       turns : (s : State) → Seq (Go {0}) W (At s) (runs (𝓣 .C) (𝓣 .Λ) En (turn L p f)
           (anyQ (afterTurn 𝓤 H (Below 𝓤 H A ≺ At s) (afterBlock 𝓤 H (afterSeq 𝓤 H (Wp 𝓤 H (𝓣 .C) (𝓣 .Λ) En rest (atReturn 𝓤 H En (Stated W T′ c .post y))) (atReturn 𝓤 H En (Stated W T′ c .post y)))))))
@@ -158,7 +158,7 @@ module _ {M : Type 1} (𝓤 : URA M) (H : Heap 𝓤) (A : Atoms 𝓤) (W : Given
           assigns ! (bin ! (cell ! 5 refl) (cell ! 6 refl) tt) (from ! (stop !)) (init ! 7 refl (tt, tt)) $
           tests ! (cell ! 7 refl) (λ yes.
           let inside = ltb→lt (s .k) (length ms) yes in
-          let small = byte-fits (bytesOf L) (length ms) (s .k) inside gb in
+          let small = byte-fits (elementBytes L) (length ms) (s .k) inside gb in
           let next = next-fits (length ms) (s .k) inside g in
           let m = getD ms (s .k) (L .blank) in
           let to-come = drop (s .k + 1) ms in
@@ -186,12 +186,12 @@ module _ {M : Type 1} (𝓤 : URA M) (H : Heap 𝓤) (A : Atoms 𝓤) (W : Given
           keep ! (2 ∷ 4 ∷ 0 ∷ []) $ join ! $ use1 W (tokens W T′ c y) (id⊢ 𝓤 _) $ move ! (1 ∷ 0 ∷ []) $
           by ! (ends W T′ c y (s .w) (s .r) (tt, (ξ .last x, tt)) unsaid (factI 𝓤 _ (emp 𝓤) (facts .all ms x (s .r) (subst (λ (l : List (Of L)). facts .Inv ms x l (s .r)) (ap (λ (k : ℕ). drop k ms) done ∙ drop-length ms) (s .inv))))))
 
-    walk : Is (ShrSlice (named 0) κ (rowOf L)) members (v ∷ []) → Is X x (u ∷ []) → S .needs ms x → Walk W T′ c y Run
+    walk : Is (ShrSlice (named 0) κ (elementRow L)) members (v ∷ []) → Is X x (u ∷ []) → S .needs ms x → Walk W T′ c y Run
     walk is is-x needed =
         let zero = F .is x is-x in
         qed W (tokens W T′ c y ∷ passed W T′ c y ∷ []) ∵ enter ! _ _ _ _ _ $
         alloc1 ! (λ l₀. alloc1 ! (λ l₁. alloc1 ! (λ l₂. alloc1 ! (λ l₃. alloc1 ! (λ l₄. alloc1 ! (λ l₅. alloc1 ! (λ l₆. alloc1 ! (λ l₇. alloc1 ! (λ l₈. alloc0 ! $ params1 ! $
-        pass1 ! (init ! 14 refl (shr-slice-lawful 𝓤 H A W (named 0) κ (rowOf L) .typed members (v ∷ []) is .0)) $
+        pass1 ! (init ! 14 refl (shr-slice-lawful 𝓤 H A W (named 0) κ (elementRow L) .typed members (v ∷ []) is .0)) $
         pass1 ! (init ! 12 refl (ξ .typed 𝓤 H A W x u is-x)) $ pass0 ! $
         -- [room for _8; …; _7; …; _6; …; _5; …; _4; …; _3; …; _2; …; _1; …; room for _0; …; the token; what the members and x own]
         assigns ! (F .runs W _ _ x (cell ! 12 refl)) (from ! (stop !)) (init ! 10 refl (ρ .typed 𝓤 H A W (F .start x) (F .val x) zero)) $
@@ -205,7 +205,7 @@ module _ {M : Type 1} (𝓤 : URA M) (H : Heap 𝓤) (A : Atoms 𝓤) (W : Given
 
   pub walks : Triple 𝓤 Run (Stated W T′ c)
   walks y = clause-out t 𝓤 _ _ (λ e. facts .free e (now (y .0 .3 .0)) (y .0 .3 .1 .0)) (λ needed.
-      starts W T′ c y (slice-vals, ((λ x. ξ .val x ∷ []), tt)) (shr-slice-tells (named 0) (y .0 .0 .0) (rowOf L), (ξ .tells, tt)) Run
+      starts W T′ c y (slice-vals, ((λ x. ξ .val x ∷ []), tt)) (shr-slice-tells (named 0) (y .0 .0 .0) (elementRow L), (ξ .tells, tt)) Run
       (λ are. walk (y .0 .0 .0) (y .0 .1 .0) (y .0 .3 .0) (y .0 .3 .1 .0) (are .0) (are .1 .0) needed))
 
 -- the same of a function's own routine: `name` and `env` are its key and what its calls mean

@@ -72,7 +72,7 @@ pub fn difference(plus: u64, minus: u64) -> Signed
 }
 
 // The number itself; a magnitude above the largest i64 is taken as that.
-pub fn value(s: Signed) -> i64
+pub fn as_i64(s: Signed) -> i64
     ensures { λ r. ⌜ r ≡ signed (s .negative) (min (s .size) most-value) ⌝ }
 {
     let size = least(s.size, MOST_VALUE) as i64;

@@ -61,7 +61,7 @@ pub record TermRoom (d : List ℤ) (h : List ℕ) (x v n : ℕ) : Type 0 where
   pub h-room : getD h x 0 + x ≤ 2 ^ 62
 
 -- A life of group 1, and a row of its triangle.
-pub record Row (m : Life) (n : ℕ) : Type 0 where
+pub record SingleRow (m : Life) (n : ℕ) : Type 0 where
   pub life : InRange m
   pub alone : single m ≡ true
   pub n-least : 1 ≤ n

@@ -1,20 +1,10 @@
--- A fund's lives as the code has them: one slice for each field, and a life at each place of the slices.
+-- The ranges of a fund's lives.
 use mathlib.Core.Path.{_≡_}
-use mathlib.Core.List.{List}
 use Prim.Native.Nat.{ℕ, _≤_}
-use lib.ListN.{getD}
 use Rattle.fund.specs.declared.Life.{Life}
-use Rattle.fund.specs.Base.{table}
 use Rattle.fund.specs.Limits.{least-group, most-group, most-rate, most-amount}
 use Rattle.fund.specs.Folding.{claim}
 use Rattle.laws.specs.Accepted.{Limited}
-
-abbrev pub lifeAt : List ℕ → List ℕ → List ℕ → List ℕ → List ℕ → ℕ → Life
-lifeAt groups q i d e k =
-    record { group = getD groups k 0; q = getD q k 0; i = getD i k 0; d = getD d k 0; e = getD e k 0 }
-
-abbrev pub livesOf : ℕ → List ℕ → List ℕ → List ℕ → List ℕ → List ℕ → List Life
-livesOf n groups q i d e = table n (lifeAt groups q i d e)
 
 -- A life of a fund that the ranges and refusal 6 let through.
 pub record InRange (m : Life) : Type 0 where

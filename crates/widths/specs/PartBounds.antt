@@ -13,7 +13,7 @@ use Rattle.fund.specs.Base.{if_then_else_, total}
 use Rattle.fund.specs.Folding.{claim, stay, single}
 use Rattle.fund.specs.Transform.{unit, weight, w, lambda, load}
 use Rattle.widths.specs.Lives.{InRange}
-use Rattle.widths.specs.Parts.{lambdaPart, singlePart, loadPart, truncationPart, meanPart}
+use Rattle.widths.specs.Parts.{lambdaPart, singleLoad, loadPart, truncationPart, meanPart}
 
 -- a bound of either group's value, by what each asks
 pub by-group : (m : Life) (x y b : ℕ) → (single m ≡ true → x ≤ b) → y ≤ b → (if single m then x else y) ≤ b
@@ -27,7 +27,7 @@ pub lambda-le : (m : Life) (a : ℕ) → InRange m → a ≤ 5000 → lambdaPart
 lambda-le m a r h =
     by-group m 0 (weight a (claim m)) 5000000000000 (λ e. omega arith) (omega (arith, N.mul-le-mul (r .rates) h))
 
-pub single-le : (m : Life) → InRange m → singlePart m ≤ 1000000000000
+pub single-le : (m : Life) → InRange m → singleLoad m ≤ 1000000000000
 unfolding unit
 single-le m r =
     by-group m (up (unit * claim m) (stay m)) 0 1000000000000

@@ -10,11 +10,11 @@ use Rattle.fund.specs.Transform.{unit, weight, w}
 abbrev pub lambdaPart : ℕ → Life → ℕ
 lambdaPart a m = if single m then 0 else weight a (claim m)
 
-abbrev pub singlePart : Life → ℕ
-singlePart m = if single m then up (unit * claim m) (stay m) else 0
+abbrev pub singleLoad : Life → ℕ
+singleLoad m = if single m then up (unit * claim m) (stay m) else 0
 
 abbrev pub loadPart : ℕ → Life → ℕ
-loadPart a m = lambdaPart a m + singlePart m
+loadPart a m = lambdaPart a m + singleLoad m
 
 abbrev pub truncationPart : ℕ → Life → ℕ
 truncationPart r m = if single m then up (w m (suc r) * stay m) ((stay m - claim m) * suc r) else 0

@@ -18,7 +18,7 @@ use Rattle.fund.specs.declared.Life.{Life}
 use Rattle.fund.specs.Base.{if_then_else_, total, alternate}
 use Rattle.fund.specs.Folding.{single}
 use Rattle.fund.specs.Transform.{row, placeOf, placed, termOf, rowTerms, singleTerms, weight, replacedTerm, replacedTerms}
-use Rattle.widths.specs.Adding.{addD, addH, sizeD, sizeH, Room, TermRoom, Row, termsAt, lifeTerms}
+use Rattle.widths.specs.Adding.{addD, addH, sizeD, sizeH, Room, TermRoom, SingleRow, termsAt, lifeTerms}
 use Rattle.whole.specs.Sign.{signed}
 use Rattle.widths.specs.AddingLaws.{addH-append}
 use Rattle.widths.specs.Signed.{natAbs-neg}
@@ -88,7 +88,7 @@ module _ (X : ℕ) (m : Life) (n l : ℕ) where
   unfolding sizeH total termOf
   placed-sizeH e = rw e (N.add-zero _)
 
-  pub term-room : {d : List ℤ} {h : List ℕ} {v : ℕ} → placed X m n l ≡ true → Row m n → v ≡ getD (row m n) l 0 → Room X d h (termsAt X m n l) → TermRoom d h (placeOf m n l) v n
+  pub term-room : {d : List ℤ} {h : List ℕ} {v : ℕ} → placed X m n l ≡ true → SingleRow m n → v ≡ getD (row m n) l 0 → Room X d h (termsAt X m n l) → TermRoom d h (placeOf m n l) v n
   term-room {d} {h} {v} e r g o =
       let x = placed-within e in
       record {

@@ -8,8 +8,8 @@ use Rattle.recursion.proofs.recursion.Tie as tie
 carried-out-requires : tie.Need-carried-out-requires
 carried-out-requires c κs = search needs
 
-settled-requires : tie.Need-settled-requires
-settled-requires c κs = search needs
+cleared-unless-done-requires : tie.Need-cleared-unless-done-requires
+cleared-unless-done-requires c κs = search needs
 
 same-length : tie.Need-same-length
 same-length c = search needs
@@ -23,11 +23,11 @@ returns c =
     let s = carried .before .before .before .before .before in
     let a = s .args in
     let o = carried .carried-out in
-    let t = c .before .before .before .settled in
+    let t = c .before .before .before .cleared-unless-done in
     rw (t .ensures .0)
     (outcome-left (a .horizon) (a .d .now) (a .h .now) (record { f = a .first; R = a .bound }) _ _ _ _ _ _ (o .result) (o .kept .1 .1 .1 .1 .1 .0) (o .kept .1 .1 .1 .1 .1 .1 .0)
     (rw (toZ-ofZ (s .fits .first)) at (o .ensures)) (t .ensures .1))
 
 pub recursion-spec : {M : Type 1} → statement M
 recursion-spec =
-    tie.close (tie.spec carried-out-requires settled-requires same-length same-length-2 returns)
+    tie.close (tie.spec carried-out-requires cleared-unless-done-requires same-length same-length-2 returns)

@@ -1,6 +1,6 @@
 -- `text::put_signed` meets its contract: the sign where the number is below 0, and the magnitude in decimal.
 use mathlib.Core.Path.{_≡_}
-use Rattle.fund.specs.Listing.{decimal, signed}
+use Rattle.fund.specs.Listing.{decimal, signedDecimal}
 use mathlib.Core.List.{[], _∷_}
 use Rattle.text.proofs.Putting.{put-length, put-then, room-first, room-then}
 use Rattle.text.proofs.Signed.{signed-below, signed-above}
@@ -8,12 +8,12 @@ use borrow.Author.Needs.{needs}
 use Rattle.text.proofs.put_signed.Statement.{statement}
 use Rattle.text.proofs.put_signed.Tie as tie
 
-below : (c : tie.Then1) → signed (c .before .before .before .args .z) ≡ 45 ∷ decimal (c .before .magnitude .result)
+below : (c : tie.Then1) → signedDecimal (c .before .before .before .args .z) ≡ 45 ∷ decimal (c .before .magnitude .result)
 below c =
     let s = c .before .before .before in
     signed-below (s .args .z) _ (s .fits .z) (c .before .magnitude .ensures) (c .if1 .taken)
 
-above : (c : tie.Else1) → signed (c .before .before .before .args .z) ≡ decimal (c .before .magnitude .result)
+above : (c : tie.Else1) → signedDecimal (c .before .before .before .args .z) ≡ decimal (c .before .magnitude .result)
 above c =
     let s = c .before .before .before in
     signed-above (s .args .z) _ (s .fits .z) (c .before .magnitude .ensures) (c .if1 .left)

@@ -12,13 +12,13 @@ returns c =
     let a = c .before .before .args in
     totals-none (a .fund) (a .n) _ (c .outside .result) (c .before .if1 .taken) (c .outside .ensures)
 
-first-totals-requires : tie.Need-first-totals-requires
-first-totals-requires c κs = search needs
+lent-totals-requires : tie.Need-lent-totals-requires
+lent-totals-requires c κs = search needs
 
 returns-2 : tie.Need-returns-2
 returns-2 c =
     let a = c .before .before .args in
-    totals-first (a .fund) (a .n) _ (c .first-totals .result) (c .before .if1 .left) (c .first-totals .ensures)
+    totals-first (a .fund) (a .n) _ (c .lent-totals .result) (c .before .if1 .left) (c .lent-totals .ensures)
 
 pub first-totals-spec : {M : Type 1} → statement M
-first-totals-spec = tie.close (tie.spec outside-requires returns first-totals-requires returns-2)
+first-totals-spec = tie.close (tie.spec outside-requires returns lent-totals-requires returns-2)

@@ -4,13 +4,13 @@ use borrow.Author.Needs.{needs}
 use lib.ListN.{length, take}
 use Rattle.fund.specs.Refusals.{Lengths}
 use Rattle.valuation.specs.Valued.{lengths}
-use Rattle.valuation.specs.Steps.{Passed, Tested, ReadyFor}
+use Rattle.valuation.specs.Steps.{PassedTests, Tested, ReadyFor}
 use Rattle.valuation.proofs.Judging.{first-few, left-judged, fillable, ready, left-answered}
 use Rattle.valuation.proofs.judged.Statement.{statement}
 use Rattle.valuation.proofs.judged.Tie as tie
 
-tested-requires : tie.Need-tested-requires
-tested-requires c κs = search needs
+tested-totals-requires : tie.Need-tested-totals-requires
+tested-totals-requires c κs = search needs
 
 enum-told : tie.Need-enum-told
 enum-told c = search needs
@@ -42,8 +42,8 @@ entered c = c .before .before .before .before .before
 abbrev slices : tie.Start → Lengths
 slices s = lengths (s .args .transform .now) (s .args .h .now) (s .args .f .now) (s .args .r .now)
 
-passed : (c : tie.After-enum-told) → Passed (entered c .args .fund) (entered c .args .t) (slices (entered c))
-passed c = subst (Tested (entered c .args .fund) (entered c .args .t) (slices (entered c))) (c .enum-told .given .1) (c .before .before .tested .ensures)
+passed : (c : tie.After-enum-told) → PassedTests (entered c .args .fund) (entered c .args .t) (slices (entered c))
+passed c = subst (Tested (entered c .args .fund) (entered c .args .t) (slices (entered c))) (c .enum-told .given .1) (c .before .before .tested-totals .ensures)
 
 returns : tie.Need-returns
 returns c =
@@ -51,7 +51,7 @@ returns c =
     let m = z .before .before .before .before .before .before in
     let s = m .before .before .before .before in
     let a = s .args in
-    left-judged (a .fund) (a .n) (take (a .n) (a .lives)) (first-few (a .n) (a .lives)) (a .t) (s .pre) _ _ (m .before .tested .result) (m .match .keys2) (m .before .tested .ensures) _ _ _ _
+    left-judged (a .fund) (a .n) (take (a .n) (a .lives)) (first-few (a .n) (a .lives)) (a .t) (s .pre) _ _ (m .before .tested-totals .result) (m .match .keys2) (m .before .tested-totals .ensures) _ _ _ _
     (c .before .before .before .before .before .before .before .clear-all .ensures) (c .refused .ensures)
 
 first-transform-requires : tie.Need-first-transform-requires
@@ -104,7 +104,7 @@ pub judged-spec : {M : Type 1} → statement M
 judged-spec =
     tie.close
     (tie.spec
-    tested-requires
+    tested-totals-requires
     enum-told
     enum-told-2
     clear-all-requires

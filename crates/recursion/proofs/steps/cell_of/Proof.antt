@@ -19,8 +19,8 @@ difference-requires c κs = search needs
 nearest-over-requires : tie.Need-nearest-over-requires
 nearest-over-requires c κs = search needs
 
-value-requires : tie.Need-value-requires
-value-requires c κs = search needs
+as-i64-requires : tie.Need-as-i64-requires
+as-i64-requires c κs = search needs
 
 -- the rounded magnitude is at most the sum's, which fits
 size-is : (c : tie.After-nearest-over) → min (c .nearest-over .result .size) most-value ≡ near (c .before .difference .result .size) (c .before .before .args .x)
@@ -37,11 +37,11 @@ returns c =
     let d = c .before .before .difference in
     let a = c .before .before .before .args in
     let n = c .before .nearest-over in
-    toZ-ofZ (sfits-of {w = w64} (c .value .ok))
-    ∙ c .value .ensures
+    toZ-ofZ (sfits-of {w = w64} (c .as-i64 .ok))
+    ∙ c .as-i64 .ensures
     ∙ ap₂ signed (n .ensures .0) (size-is (c .before))
     ∙ sym (nearest-signed (d .result .negative) (d .result .size) (a .x) (c .before .before .before .pre .2))
     ∙ ap (λ z. nearest z (a .x)) (d .ensures .0)
 
 pub cell-of-spec : {M : Type 1} → statement M
-cell-of-spec = tie.close (tie.spec difference-requires nearest-over-requires value-requires returns)
+cell-of-spec = tie.close (tie.spec difference-requires nearest-over-requires as-i64-requires returns)

@@ -14,7 +14,7 @@ use Rattle.rounding.specs.Rounding.{nearest, up}
 use Rattle.fund.specs.Recursion.{Cell}
 use Rattle.whole.specs.Sums.{sumOf}
 use Rattle.recursion.specs.Slices.{cellOf, CellFits}
-use Rattle.recursion.specs.Steps.{most-sum, CellsFilled}
+use Rattle.recursion.specs.Steps.{most-part-sum, CellsFilled}
 use Rattle.recursion.proofs.SumsTo.{sums-fit}
 use Rattle.recursion.proofs.CellsFilled.{filled-first, filled-known, next-f, next-R, filled-more}
 use Rattle.recursion.proofs.steps.fill_cells.Statement.{statement}
@@ -55,7 +55,7 @@ add-x c = omega arith
 
 -- the sums for the next cell fit
 fit : (c : tie.After-sums Inv-loop μ-loop) →
-    (c .sums .result .plus ≤ most-sum) × (c .sums .result .minus ≤ most-sum) × (c .sums .result .bound ≤ most-sum)
+    (c .sums .result .plus ≤ most-part-sum) × (c .sums .result .minus ≤ most-part-sum) × (c .sums .result .bound ≤ most-part-sum)
 fit c =
     let s = c .before .before .before .before .before .before .before .before in
     let a = s .args in

@@ -36,20 +36,20 @@ limited-requires c κs = search needs
 returns-8 : tie.Need-returns-8
 returns-8 c = tells-no (λ h. tells-not (c .before .limited .ensures) (not-true _ (c .if8 .taken)) (h .limited))
 
-folded-requires : tie.Need-folded-requires
-folded-requires c κs = search needs
+is-folded-requires : tie.Need-is-folded-requires
+is-folded-requires c κs = search needs
 
 returns-9 : tie.Need-returns-9
-returns-9 c = tells-no (λ h. tells-not (c .before .folded .ensures) (not-true _ (c .if9 .taken)) (h .no-death))
+returns-9 c = tells-no (λ h. tells-not (c .before .is-folded .ensures) (not-true _ (c .if9 .taken)) (h .no-death))
 
-folded-requires-2 : tie.Need-folded-requires-2
-folded-requires-2 c κs = search needs
+is-folded-requires-2 : tie.Need-is-folded-requires-2
+is-folded-requires-2 c κs = search needs
 
 returns-10 : tie.Need-returns-10
 returns-10 c =
     let f = c .before .before in
     let k = f .before .before in
-    tells-as (c .folded2 .ensures)
+    tells-as (c .is-folded2 .ensures)
     (λ z.
     record {
       group-least = omega (arith, k);
@@ -58,7 +58,7 @@ returns-10 c =
       limited = k .limited .ensures .yes (not-false _ (f .before .if8 .left));
       death = omega (arith, k);
       disability = omega (arith, k);
-      no-death = f .folded .ensures .yes (not-false _ (c .before .if9 .left));
+      no-death = f .is-folded .ensures .yes (not-false _ (c .before .if9 .left));
       no-disability = z;
     })
     (λ h. h .no-disability)
@@ -77,7 +77,7 @@ life-inside-spec =
     returns-7
     limited-requires
     returns-8
-    folded-requires
+    is-folded-requires
     returns-9
-    folded-requires-2
+    is-folded-requires-2
     returns-10)

@@ -32,8 +32,8 @@ add-difference-2 c = search needs
 difference-requires : tie.Need-difference-requires
 difference-requires c κs = search needs
 
-value-requires : tie.Need-value-requires
-value-requires c κs = search needs
+as-i64-requires : tie.Need-as-i64-requires
+as-i64-requires c κs = search needs
 
 mul-t9 : tie.Need-mul-t9
 mul-t9 c = search needs
@@ -58,7 +58,7 @@ returns c =
     let a = c .before .before .before .before .before .before .before .args in
     let sums = c .before .before .before .before .before .below in
     priced (a .deductible) (a .f .now) (a .r .now) (a .mean) (a .truncation) (sums .result) _ (sums .ensures)
-    (toZ-ofZ (sfits-of {w = w64} (c .before .value .ok)) ∙ c .before .value .ensures ∙ ap (signed (c .before .before .difference .result .negative)) (size-is (c .before .before)) ∙ c .before .before .difference .ensures .0)
+    (toZ-ofZ (sfits-of {w = w64} (c .before .as-i64 .ok)) ∙ c .before .as-i64 .ensures ∙ ap (signed (c .before .before .difference .result .negative)) (size-is (c .before .before)) ∙ c .before .before .difference .ensures .0)
 
 pub premium-spec : {M : Type 1} → statement M
 premium-spec =
@@ -69,7 +69,7 @@ premium-spec =
     mul-difference
     add-difference-2
     difference-requires
-    value-requires
+    as-i64-requires
     mul-t9
     mul-t11
     add-t10

@@ -29,8 +29,8 @@ use Rattle.widths.specs.Lives.{InRange}
 use Rattle.whole.specs.Sign.{signed}
 use Rattle.valuation.specs.declared.start.Product.{Product}
 use Rattle.valuation.specs.Table.{Members}
-use Rattle.valuation.specs.Start.{most-t, one, Times, Multiplied}
-use Rattle.walks.specs.WalkForm.{word, Says, Extra, First, Facts}
+use Rattle.valuation.specs.Start.{most-t, countOne, Times, Multiplied}
+use Rattle.walks.specs.WalkForm.{wordTy, Says, Extra, First, Facts}
 use Rattle.walks.specs.WalkTable.{meets}
 use Rattle.valuation.proofs.LifeElement.{life}
 use Rattle.valuation.proofs.LifeSums.{u64-local}
@@ -91,7 +91,7 @@ record So-far (ms : List Life) (x : ℕ) (rest : List Life) (p : Product) : Type
   needed : Members ms × (x ≤ 200 * most-t)
   rest-in : All InRange rest
   product : (s : Bool) → multiplied (signed s (p .size)) rest ≡ multiplied (signed s x) ms
-  count : p .singles + total one rest ≡ total one ms
+  count : p .singles + total countOne rest ≡ total countOne ms
   size-within : p .size ≤ x
   count-within : p .singles + length rest ≤ length ms
 
@@ -111,7 +111,7 @@ unfolding multiplied total
 facts = record {
   free = λ e. absurd (true≢false e);
   Inv = So-far;
-  none = λ ms x n. record { needed = n; rest-in = n .0 .in-range; product = λ s. refl; count = N.zero-add (total one ms); size-within = N.le-refl x; count-within = omega arith };
+  none = λ ms x n. record { needed = n; rest-in = n .0 .in-range; product = λ s. refl; count = N.zero-add (total countOne ms); size-within = N.le-refl x; count-within = omega arith };
   asked = λ ms x m rest p i. (i .rest-in .0, omega (arith, i .size-within, i .needed .1), omega (arith, i .count-within, i .needed .0 .few));
   more = more;
   all = λ ms x p i. record { product = λ s. sym (i .product s); count = omega (arith, i .count); size-within = i .size-within; count-within = omega (arith, i .count-within) };
@@ -120,4 +120,4 @@ facts = record {
 pub multiplied-spec : {M : Type 1} → statement M
 unfolding code.routine product-local u64-local from-size
 multiplied-spec 𝓤 H 𝓜 𝓖 𝓡 =
-    meets 𝓤 H 𝓜 𝓖 𝓡 life P.the-row u64 P′.mir word first-product product-local u64-local from-size false true says facts code.env #multiplied #step (code.unfolded 𝓤 H 𝓜 𝓡) (step-thm.met 𝓤 H 𝓜 𝓖 𝓡)
+    meets 𝓤 H 𝓜 𝓖 𝓡 life P.the-row u64 P′.mir wordTy first-product product-local u64-local from-size false true says facts code.env #multiplied #step (code.unfolded 𝓤 H 𝓜 𝓡) (step-thm.met 𝓤 H 𝓜 𝓖 𝓡)

@@ -9,8 +9,8 @@ use Rattle.whole.specs.Sign.{most-value, signed}
 use Rattle.valuation.proofs.totals.with_start.Statement.{statement}
 use Rattle.valuation.proofs.totals.with_start.Tie as tie
 
-value-requires : tie.Need-value-requires
-value-requires c κs = search needs
+as-i64-requires : tie.Need-as-i64-requires
+as-i64-requires c κs = search needs
 
 add-t8 : tie.Need-add-t8
 add-t8 c = search needs
@@ -24,9 +24,9 @@ returns c =
       load-is = refl;
       truncation-is = refl;
       mean-is = refl;
-      cell-is = toZ-ofZ (sfits-of {w = w64} (c .before .before .value .ok)) ∙ c .before .before .value .ensures ∙ ap (signed (s .args .first .negative)) e;
+      cell-is = toZ-ofZ (sfits-of {w = w64} (c .before .before .as-i64 .ok)) ∙ c .before .before .as-i64 .ensures ∙ ap (signed (s .args .first .negative)) e;
       bound-is = refl;
     }
 
 pub with-start-spec : {M : Type 1} → statement M
-with-start-spec = tie.close (tie.spec value-requires add-t8 returns)
+with-start-spec = tie.close (tie.spec as-i64-requires add-t8 returns)

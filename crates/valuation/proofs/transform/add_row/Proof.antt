@@ -4,7 +4,7 @@ use Prim.Native.Nat.{_+_, _-_, _≤_}
 use native.Mathlib.Omega.{arith}
 use lib.ListN.{length, getD}
 use Rattle.fund.specs.Transform.{row as rowOf, rowTerms}
-use Rattle.widths.specs.Adding.{Row, termsAt}
+use Rattle.widths.specs.Adding.{SingleRow, termsAt}
 use Rattle.widths.specs.Triangle.{length-row}
 use Rattle.widths.specs.Placing.{row-start, row-goes}
 use Rattle.widths.specs.Filling.{Filling, begin, turn-room, turn, end-d, end-h, long-d, long-h}
@@ -13,7 +13,7 @@ use Rattle.valuation.proofs.transform.add_row.Tie as tie
 
 abbrev Inv-loop : tie.InvT-loop
 Inv-loop d₀ h₀ horizon m n row l₀ d h l =
-    Filling horizon d₀ h₀ (rowTerms horizon m n) (n + 1) l d h × Row m n × (row ≡ rowOf m n)
+    Filling horizon d₀ h₀ (rowTerms horizon m n) (n + 1) l d h × SingleRow m n × (row ≡ rowOf m n)
 
 abbrev μ-loop : tie.MeasureT-loop
 μ-loop d₀ h₀ horizon m n row l₀ d h l = n + 1 - l

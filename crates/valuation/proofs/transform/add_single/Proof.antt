@@ -6,7 +6,7 @@ use native.Mathlib.Omega.{arith}
 use Rattle.fund.specs.Folding.{single}
 use Rattle.fund.specs.Transform.{row as rowOf, rowTerms, singleTerms}
 use Rattle.widths.specs.Lives.{InRange}
-use Rattle.widths.specs.Adding.{Row}
+use Rattle.widths.specs.Adding.{SingleRow}
 use Rattle.widths.specs.Triangle.{row-within, row-first, row-next}
 use Rattle.widths.specs.Placing.{single-start, single-goes}
 use Rattle.widths.specs.Filling.{Filling, begin, turn-room, turn, end-d, end-h, long-d, long-h}
@@ -54,7 +54,7 @@ add-row-requires : tie.Need-add-row-requires Inv-loop μ-loop
 add-row-requires c κs =
     let v = c .before .before .before .before .loop .inv in
     let a = c .before .before .before .before .before .before .args in
-    let r : Row (a .m) (c .before .before .before .before .loop .n + 1) = record { life = v .1; alone = v .2; n-least = omega arith; n-most = omega (arith, v .3, c .before .before .before .loop-test .taken) } in (
+    let r : SingleRow (a .m) (c .before .before .before .before .loop .n + 1) = record { life = v .1; alone = v .2; n-least = omega arith; n-most = omega (arith, v .3, c .before .before .before .loop-test .taken) } in (
       r,
       next-is (c .before .before),
       turn-room (singleTerms (a .horizon) (a .m)) (λ n. rowTerms (a .horizon) (a .m) (n + 1) (n + 1 + 1)) (single-goes (a .horizon) (a .m)) (v .0) (c .before .before .before .loop-test .taken),

@@ -45,7 +45,7 @@ use Rattle.valuation.specs.declared.transform.Filling.{Filling}
 use Rattle.valuation.specs.Filling.{LifeAdded, TableFits, TableAdded}
 use Rattle.walks.specs.Freeing.{frees-cell, frees-room}
 use Rattle.walks.specs.Walks.{Stated, tokens, calls-leaving, cell}
-use Rattle.walks.specs.WalkForm.{word, slice}
+use Rattle.walks.specs.WalkForm.{wordTy, slice}
 use Rattle.walks.specs.WalkTable.{tests, byte-fits, next-fits, nearer, ended, next-element, nothing-in, next-in}
 use Rattle.walks.specs.Element.{borrowed, copies-element}
 use Rattle.valuation.proofs.LifeElement.{life}
@@ -67,7 +67,7 @@ sliceE = sliceTy ref
 
 -- a result slice, of the n-th lifetime
 abbrev sliceM : ℕ → Ty
-sliceM n = sliceTy (tyRef (named n) mut word)
+sliceM n = sliceTy (tyRef (named n) mut wordTy)
 
 -- ---- the MIR. The locals: the result, the members, x, d, h, k, the count and byte offset, the test, the step's result, d and h lent again, the element's place, the element
 abbrev turn : Body
@@ -91,7 +91,7 @@ function = record {
   lifetimes = 3;
   outlives = [];
   params = 4;
-  locals = local tyUnit valueLocal ∷ local (slice life) valueLocal ∷ local F′.mir valueLocal ∷ local (sliceM 1) valueLocal ∷ local (sliceM 2) valueLocal ∷ local word valueLocal ∷ local word valueLocal ∷ local tyBool valueLocal ∷ local tyUnit valueLocal ∷ local ref valueLocal ∷ local sliceE valueLocal ∷ local ref valueLocal ∷ local sliceE valueLocal ∷ local tyPtr valueLocal ∷ local L′.mir valueLocal ∷ [];
+  locals = local tyUnit valueLocal ∷ local (slice life) valueLocal ∷ local F′.mir valueLocal ∷ local (sliceM 1) valueLocal ∷ local (sliceM 2) valueLocal ∷ local wordTy valueLocal ∷ local wordTy valueLocal ∷ local tyBool valueLocal ∷ local tyUnit valueLocal ∷ local ref valueLocal ∷ local sliceE valueLocal ∷ local ref valueLocal ∷ local sliceE valueLocal ∷ local tyPtr valueLocal ∷ local L′.mir valueLocal ∷ [];
   body = seq (assign (place 5 []) (rvOpd (int w64 0))) (seq (block (loop turn)) rest);
 }
 
@@ -195,13 +195,13 @@ module _ {M : Type 1} (𝓤 : URA M) (H : Heap 𝓤) (𝓜 : Model 𝓤 H) (𝓖
 
     module _ (g : length ms < 2 ^ 64) (gb : length ms * 40 < 2 ^ 63) (is-x : Is F.the-row x (F′.lowered x ∷ [])) (room-d : Room i64 (length d₀)) (room-h : Room u64 (length h₀)) (l₀ l₁ l₂ l₃ l₄ l₅ l₆ l₇ l₈ l₉ l₁₀ l₁₁ l₁₂ l₁₃ l₁₄ : ℕ) where
       abbrev En : Env 𝓤 H
-      En = (tyUnit, l₀) ∷ (slice life, l₁) ∷ (F′.mir, l₂) ∷ ((sliceM 1), l₃) ∷ ((sliceM 2), l₄) ∷ (word, l₅) ∷ (word, l₆) ∷ (tyBool, l₇) ∷ (tyUnit, l₈) ∷ (ref, l₉) ∷ (sliceE, l₁₀) ∷ (ref, l₁₁) ∷ (sliceE, l₁₂) ∷ (tyPtr, l₁₃) ∷ (L′.mir, l₁₄) ∷ []
+      En = (tyUnit, l₀) ∷ (slice life, l₁) ∷ (F′.mir, l₂) ∷ ((sliceM 1), l₃) ∷ ((sliceM 2), l₄) ∷ (wordTy, l₅) ∷ (wordTy, l₆) ∷ (tyBool, l₇) ∷ (tyUnit, l₈) ∷ (ref, l₉) ∷ (sliceE, l₁₀) ∷ (ref, l₁₁) ∷ (sliceE, l₁₂) ∷ (tyPtr, l₁₃) ∷ (L′.mir, l₁₄) ∷ []
 
       abbrev At : State → List (Item 𝓤)
       At s = own-d (s .d) (length d₀) ∷ own-h (s .h) (length h₀) ∷ ‵ (flft κ₁ q₁) ∷ ‵ (flft κ₂ q₂) ∷ ‵ (borrowed life κ₀ ms b o) ∷ ‵ (flft κ₀ q₀)
-          ∷ ‵ (fat fullShare word l₅ 0 (vint w64 (s .k))) ∷ ‵ (froom word l₆ 0) ∷ ‵ (froom tyBool l₇ 0) ∷ ‵ (froom tyUnit l₈ 0) ∷ ‵ (froom ref l₉ 0) ∷ ‵ (froom sliceE l₁₀ 0) ∷ ‵ (froom ref l₁₁ 0) ∷ ‵ (froom sliceE l₁₂ 0)
+          ∷ ‵ (fat fullShare wordTy l₅ 0 (vint w64 (s .k))) ∷ ‵ (froom wordTy l₆ 0) ∷ ‵ (froom tyBool l₇ 0) ∷ ‵ (froom tyUnit l₈ 0) ∷ ‵ (froom ref l₉ 0) ∷ ‵ (froom sliceE l₁₀ 0) ∷ ‵ (froom ref l₁₁ 0) ∷ ‵ (froom sliceE l₁₂ 0)
           ∷ ‵ (froom tyPtr l₁₃ 0) ∷ ‵ (froom L′.mir l₁₄ 0) ∷ ‵ (fat fullShare (slice life) l₁ 0 v) ∷ ‵ (fat fullShare F′.mir l₂ 0 (F′.lowered x)) ∷ ‵ (fat fullShare (sliceM 1) l₃ 0 (v₁ (length d₀))) ∷ ‵ (fat fullShare (sliceM 2) l₄ 0 (v₂ (length h₀)))
-          ∷ ‵ (froom tyUnit l₀ 0) ∷ ‵ (fdies tyUnit l₀) ∷ ‵ (fdies (slice life) l₁) ∷ ‵ (fdies F′.mir l₂) ∷ ‵ (fdies (sliceM 1) l₃) ∷ ‵ (fdies (sliceM 2) l₄) ∷ ‵ (fdies word l₅) ∷ ‵ (fdies word l₆) ∷ ‵ (fdies tyBool l₇) ∷ ‵ (fdies tyUnit l₈) ∷ ‵ (fdies ref l₉) ∷ ‵ (fdies sliceE l₁₀) ∷ ‵ (fdies ref l₁₁) ∷ ‵ (fdies sliceE l₁₂) ∷ ‵ (fdies tyPtr l₁₃) ∷ ‵ (fdies L′.mir l₁₄) ∷ ‵ ftrue ∷ []
+          ∷ ‵ (froom tyUnit l₀ 0) ∷ ‵ (fdies tyUnit l₀) ∷ ‵ (fdies (slice life) l₁) ∷ ‵ (fdies F′.mir l₂) ∷ ‵ (fdies (sliceM 1) l₃) ∷ ‵ (fdies (sliceM 2) l₄) ∷ ‵ (fdies wordTy l₅) ∷ ‵ (fdies wordTy l₆) ∷ ‵ (fdies tyBool l₇) ∷ ‵ (fdies tyUnit l₈) ∷ ‵ (fdies ref l₉) ∷ ‵ (fdies sliceE l₁₀) ∷ ‵ (fdies ref l₁₁) ∷ ‵ (fdies sliceE l₁₂) ∷ ‵ (fdies tyPtr l₁₃) ∷ ‵ (fdies L′.mir l₁₄) ∷ ‵ ftrue ∷ []
 
       turns : (s : State) → Seq (Go {0}) W (At s) (runs (𝓣 .C) (𝓣 .Λ) En turn
           (anyQ (afterTurn 𝓤 H (Below 𝓤 H A ≺ At s) (afterBlock 𝓤 H (afterSeq 𝓤 H (Wp 𝓤 H (𝓣 .C) (𝓣 .Λ) En rest (atReturn 𝓤 H En Post)) (atReturn 𝓤 H En Post))))))

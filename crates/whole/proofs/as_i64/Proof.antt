@@ -7,8 +7,8 @@ use lib.IntN.{pos, negℤ}
 use mir.Syntax.{w64}
 use mir.Facts.{toZ-pos}
 use Rattle.whole.proofs.Signs.{minus}
-use Rattle.whole.proofs.value.Statement.{statement}
-use Rattle.whole.proofs.value.Tie as tie
+use Rattle.whole.proofs.as_i64.Statement.{statement}
+use Rattle.whole.proofs.as_i64.Tie as tie
 
 small : (c : tie.After-least) → c .least .result < 2 ^ 63
 small c = omega (arith, c .least .ensures)
@@ -28,5 +28,5 @@ returns c = rw (c .if1 .taken) (minus (c .before .least .result) (small (c .befo
 returns-2 : tie.Need-returns-2
 returns-2 c = rw (c .if1 .left) (toZ-pos w64 (small (c .before)) ∙ ap pos (c .before .least .ensures))
 
-pub value-spec : {M : Type 1} → statement M
-value-spec = tie.close (tie.spec least-requires cast-size sub-result returns returns-2)
+pub as-i64-spec : {M : Type 1} → statement M
+as-i64-spec = tie.close (tie.spec least-requires cast-size sub-result returns returns-2)

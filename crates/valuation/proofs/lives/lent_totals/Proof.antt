@@ -1,4 +1,4 @@
--- `valuation::lives::first_totals`: the first lives of an array that is passed by value are lent to `table_totals`. A walk of its MIR by hand: the
+-- `valuation::lives::lent_totals`: the first lives of an array that is passed by value are lent to `table_totals`. A walk of its MIR by hand: the
 -- array is copied to its memory, its first elements are shared out for the call's lifetime, and the memory comes back as room.
 use mathlib.Core.Path.{refl, sym}
 use Prim.Native.Nat.{ℕ, _≤_}
@@ -46,10 +46,10 @@ use Rattle.valuation.proofs.totals.Totals as T
 use Rattle.valuation.proofs.totals.Totals.Laws as T′
 use Rattle.valuation.proofs.totals.table_totals as table
 use Rattle.valuation.proofs.totals.table_totals.Met as table-thm
-use Rattle.valuation.proofs.lives.first_totals.Key.{name as #first}
-use Rattle.valuation.proofs.lives.first_totals as totals
-use Rattle.valuation.proofs.lives.first_totals.Statement as stated
-use Rattle.valuation.proofs.lives.first_totals.Code as code
+use Rattle.valuation.proofs.lives.lent_totals.Key.{name as #first}
+use Rattle.valuation.proofs.lives.lent_totals as totals
+use Rattle.valuation.proofs.lives.lent_totals.Statement as stated
+use Rattle.valuation.proofs.lives.lent_totals.Code as code
 
 module _ {M : Type 1} (𝓤 : URA M) (H : Heap 𝓤) (𝓜 : Model 𝓤 H) (𝓖 : GhostRules 𝓤 H) (𝓡 : Running 𝓤 H 𝓜) where
   abbrev A : Atoms 𝓤
@@ -122,7 +122,7 @@ module _ {M : Type 1} (𝓤 : URA M) (H : Heap 𝓤) (𝓜 : Model 𝓤 H) (𝓖
       (LL.tells G.the-type G′.the-laws, (array-tells L.the-row (LL.vals L.the-type L′.the-laws) (LL.tells L.the-type L′.the-laws) 1000, (uint-tells w64, tt))) Run
       (λ are. walk (y .0 .3 .0) (y .0 .3 .1 .0) (headOf (array-vals (LL.vals L.the-type L′.the-laws) (y .0 .3 .1 .0))) (y .0 .3 .1 .1 .0) (are .0) (are .1 .0) (are .1 .1 .0) asks))
 
-pub first-totals-spec : {M : Type 1} → stated.statement M
+pub lent-totals-spec : {M : Type 1} → stated.statement M
 unfolding code.routine
-first-totals-spec 𝓤 H 𝓜 𝓖 𝓡 =
+lent-totals-spec 𝓤 H 𝓜 𝓖 𝓡 =
     entered 𝓤 H (Stated (givenOf 𝓤 H 𝓜 𝓖) totals.ended (c 𝓤 H 𝓜 𝓖 𝓡)) (tables 𝓤 H 𝓜 𝓡 code.env .C) (tables 𝓤 H 𝓜 𝓡 code.env .Λ) #first code.function (code.unfolded 𝓤 H 𝓜 𝓡) (meets 𝓤 H 𝓜 𝓖 𝓡)

@@ -3,8 +3,8 @@ use mathlib.Core.Path.{refl, sym, subst}
 use borrow.Author.Needs.{needs}
 use Rattle.recursion.specs.Steps.{Settled}
 use Rattle.recursion.proofs.Outcomes.{settled-zeros}
-use Rattle.recursion.proofs.settled.Statement.{statement}
-use Rattle.recursion.proofs.settled.Tie as tie
+use Rattle.recursion.proofs.cleared_unless_done.Statement.{statement}
+use Rattle.recursion.proofs.cleared_unless_done.Tie as tie
 
 enum-told : tie.Need-enum-told
 enum-told c = search needs
@@ -28,6 +28,6 @@ returns-2 c =
     let a = c .before .before .before .args in
     (refl, subst (λ b. Settled b (a .f .now) (a .r .now) (a .f .now) (a .r .now)) (sym (c .enum-told .given .1)) (refl, refl))
 
-pub settled-spec : {M : Type 1} → statement M
-settled-spec =
+pub cleared-unless-done-spec : {M : Type 1} → statement M
+cleared-unless-done-spec =
     tie.close (tie.spec enum-told clear-cells-requires same-length same-length-2 returns returns-2)
