@@ -2,18 +2,25 @@
 #include "../include/miguepo.h"
 #include "peer.h"
 
+static inline struct priced priced_of(const struct miguepo_result *got) {
+    struct priced out = {
+        .number = got->number,
+        .place = got->place,
+        .start = got->line_start,
+        .length = got->line_size,
+        .truncation = got->truncation,
+        .mean = got->mean,
+        .premium = got->premium,
+        .within = got->within,
+        .horizon = got->horizon,
+    };
+    return out;
+}
+
 static inline int verified_price(const unsigned char *file, size_t length, int64_t *D, size_t nD, uint64_t *H, size_t nH,
                                  int64_t *f, size_t nf, uint64_t *R, size_t nR, struct priced *out) {
     struct miguepo_result got;
     miguepo_price(file, length, D, nD, H, nH, f, nf, R, nR, &got);
-    out->number = got.number;
-    out->place = got.place;
-    out->start = got.line_start;
-    out->length = got.line_size;
-    out->horizon = got.horizon;
-    out->truncation = got.truncation;
-    out->mean = got.mean;
-    out->premium = got.premium;
-    out->within = got.within;
+    *out = priced_of(&got);
     return (int)out->number;
 }

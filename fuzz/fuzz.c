@@ -2,7 +2,7 @@
 //
 // The first four bytes of an input choose the slices' lengths, the rest is the file. The peer is built with the fuzzer's
 // coverage and with sanitizers, so that new paths through it lead the search; the library is the archive itself. Before and
-// behind each slice stand cells that must stay as they are, since no sanitizer sees the archive's stores.
+// behind each slice and the result stand bytes that must stay as they are, since no sanitizer sees the archive's stores.
 #include "../bench/verified.h"
 
 #include <stdlib.h>
@@ -47,11 +47,12 @@ int LLVMFuzzerTestOneInput(const uint8_t *data, size_t size) {
         abort();
     memcpy(file, data + 4, length);
 
-    struct priced peer, got;
+    struct priced peer;
     memset(&peer, 0, sizeof peer);
-    memset(&got, 0, sizeof got);
     peer_price(file, length, (int64_t *)slice[0][0], n[0], (uint64_t *)slice[0][1], n[1], (int64_t *)slice[0][2], n[2], (uint64_t *)slice[0][3], n[3], &peer);
-    verified_price(file, length, (int64_t *)slice[1][0], n[0], (uint64_t *)slice[1][1], n[1], (int64_t *)slice[1][2], n[2], (uint64_t *)slice[1][3], n[3], &got);
+    struct miguepo_result *result = (struct miguepo_result *)slice_of(sizeof *result, 0x5c);
+    miguepo_price(file, length, (int64_t *)slice[1][0], n[0], (uint64_t *)slice[1][1], n[1], (int64_t *)slice[1][2], n[2], (uint64_t *)slice[1][3], n[3], result);
+    struct priced got = priced_of(result);
     if (got.length == 0)
         got.start = peer.start = 0; // the start of an empty part says nothing
     same(&peer, &got, sizeof peer);
@@ -60,6 +61,8 @@ int LLVMFuzzerTestOneInput(const uint8_t *data, size_t size) {
         same(slice[0][k], slice[1][k], 8 * n[k]);
 
     free(file);
+    edges_kept((uint8_t *)result, sizeof *result, 0x5c);
+    free((uint8_t *)result - EDGE);
     for (int k = 0; k < 4; k++)
         for (int side = 0; side < 2; side++) {
             edges_kept(slice[side][k], 8 * n[k], 0x5a + side);

@@ -4,6 +4,8 @@
     python3 tests/cases.py check DIR
     python3 tests/cases.py stream DIR N SEED
     python3 tests/cases.py check-stream DIR
+    python3 tests/cases.py programs CRATES
+    python3 tests/cases.py check-programs CRATES
 
 A case is two files of one name.  NAME.fund holds the raw bytes for standard
 input.  NAME.listing holds the exact bytes that the program must print on
@@ -14,6 +16,9 @@ A stream is all cases in two files of one folder, for a program that reads them
 one after the other.  stdin has for each case its length as six decimal digits
 and a line feed, then its bytes.  stdout has each listing, then `line=` and the
 part of the file that is handed back, and an empty line.
+
+The programs `listing` and `overlong` of CRATES are one program, run on a full fund
+and on a file that is longer than what is read.
 """
 
 import random
@@ -126,6 +131,28 @@ def check_stream(directory):
     return 0 if files and same else 1
 
 
+def programs():
+    return {"listing": generate.full_fund().data(), "overlong": generate.overlong_file().data()}
+
+
+def write_programs(crates):
+    for name, data in programs().items():
+        (crates / name / "stdin").write_bytes(data)
+        (crates / name / "stdout").write_bytes(listing_of(data))
+    return len(programs())
+
+
+def check_programs(crates):
+    bad = 0
+    for name in programs():
+        data = (crates / name / "stdin").read_bytes()
+        if listing_of(data) != (crates / name / "stdout").read_bytes():
+            bad += 1
+            print(f"differs: {name}")
+    print(f"{len(programs())} programs, {bad} differ")
+    return 1 if bad else 0
+
+
 def main(arguments):
     if len(arguments) == 4 and arguments[0] == "write":
         count = write(Path(arguments[1]), int(arguments[2]), int(arguments[3]))
@@ -139,6 +166,11 @@ def main(arguments):
         return 0
     if len(arguments) == 2 and arguments[0] == "check-stream":
         return check_stream(Path(arguments[1]))
+    if len(arguments) == 2 and arguments[0] == "programs":
+        print(f"{write_programs(Path(arguments[1]))} programs written")
+        return 0
+    if len(arguments) == 2 and arguments[0] == "check-programs":
+        return check_programs(Path(arguments[1]))
     print(__doc__, file=sys.stderr)
     return 2
 

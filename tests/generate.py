@@ -197,6 +197,21 @@ def large_funds(seed, count):
     return cases
 
 
+def full_fund():
+    """As many rates and members as are allowed, with amounts of up to five digits: some 26,000 bytes."""
+    rng = random.Random(2030)
+    rates = tuple((age, 200 + 30 * age, 100 + 7 * age) for age in range(pricing.AGE_HIGH + 1))
+    members = tuple((rng.randint(20, 100), rng.randint(1, 2), rng.choice((0, rng.randint(1, 250), rng.randint(10000, 65535))),
+                     rng.randint(10000, 65535)) for _ in range(1000))
+    return Text(horizon=250, order=12, deductible=100, rate_rows=rates, member_rows=members)
+
+
+def overlong_file():
+    """The full fund with three times as many members: well-formed lines beyond what is read."""
+    fund = full_fund()
+    return replace(fund, member_rows=fund.member_rows * 3)
+
+
 # Funds at each limit
 
 ONE_MEMBER = Text(horizon=3, order=6, deductible=2, rate_rows=((40, 50000, 20000),),

@@ -2,18 +2,17 @@
 // Writes each listing, the line that the host is handed, and an empty line.
 use libc::STDIN_FILENO;
 use libc::STDOUT_FILENO;
-
-const MOST: usize = 65536;
+use printing::MOST_BYTES;
 
 fn with_digit(value: usize, byte: u8) -> usize {
-    if MOST < value {
+    if MOST_BYTES < value {
         return value;
     }
     if byte < b'0' {
-        return MOST + 1;
+        return MOST_BYTES + 1;
     }
     if b'9' < byte {
-        return MOST + 1;
+        return MOST_BYTES + 1;
     }
     value * 10 + (byte - b'0') as usize
 }
@@ -26,6 +25,13 @@ fn size_of(head: [u8; 7]) -> usize {
     size = with_digit(size, head[3]);
     size = with_digit(size, head[4]);
     with_digit(size, head[5])
+}
+
+// Writes the listing of a file.
+fn write_listing(file: &[u8]) -> bool {
+    let mut text = [0u8; text::ROOM];
+    let size = printing::print(file, &mut text);
+    io::write_all(STDOUT_FILENO, &text[..size])
 }
 
 // Slices of one cell do for the line: the refusals that have one come before short.
@@ -45,7 +51,7 @@ fn write_line(file: &[u8]) -> bool {
 }
 
 // The next file; whether there was one.
-fn next(file: &mut [u8]) -> bool {
+fn next_file(file: &mut [u8]) -> bool {
     let mut head = [0u8; 7];
     if io::read_full(STDIN_FILENO, &mut head) < 7 {
         return false;
@@ -57,16 +63,16 @@ fn next(file: &mut [u8]) -> bool {
     if io::read_full(STDIN_FILENO, &mut file[..size]) < size {
         return false;
     }
-    if !printing::write(&file[..size]) {
+    if !write_listing(&file[..size]) {
         return false;
     }
     write_line(&file[..size])
 }
 
 fn main() {
-    let mut file = [0u8; MOST];
+    let mut file = [0u8; MOST_BYTES];
     let mut turns = u64::MAX;
-    while turns > 0 && next(&mut file) {
+    while turns > 0 && next_file(&mut file) {
         turns -= 1;
     }
 }

@@ -1,4 +1,4 @@
--- The contracts of the pricing calls and of the listing, in plain words (price-demands, host-demands, line-bytes, prints).
+-- The contracts of the pricing calls and of the listing, in plain words (price-demands, host-demands, prints, prints-read).
 use mathlib.Core.Path.{_≡_, refl, sym, _∙_, ap, subst}
 use mathlib.Core.Bool.{Bool, true, false, _&&_}
 use mathlib.Core.List.{List, []}
@@ -17,13 +17,15 @@ use Rattle.fund.specs.Listing.{horizonIn, listing}
 use Rattle.fund.specs.Distance.{WithinBounds}
 use Rattle.text.specs.Shown.{room}
 use Rattle.text.specs.Writing.{Written}
+use Rattle.printing.specs.declared.PrintedInput.{PrintedInput}
+use Rattle.printing.specs.Input.{PrintsInput}
 use Rattle.printing.specs.Printed.{shown}
 use Rattle.pricing.specs.declared.Priced.{Priced}
-use Rattle.pricing.specs.Priced.{left, horizonWith, Prices, lineOf}
+use Rattle.pricing.specs.Priced.{left, horizonWith, Prices}
 use Rattle.miguepo.specs.Host.{Hosts}
 use Rattle.claims.specs.Demands.{bytesOf, Demands}
-use Rattle.claims.specs.Listing.{Listed, Kept, Prints}
-use Rattle.claims.specs.Calls.{priced, hosted}
+use Rattle.claims.specs.Listing.{Listed, Kept, Prints, PrintsRead}
+use Rattle.claims.specs.Calls.{handed, priced, hosted}
 use Rattle.claims.proofs.Deriving.{Answered, demands}
 
 module _ (file : List ℕ) (n : Lengths) (p : Priced) (d : List ℤ) (h : List ℕ) (f : List ℤ) (r : List ℕ) (k : Prices file n p (left p d h f r)) where
@@ -33,11 +35,14 @@ module _ (file : List ℕ) (n : Lengths) (p : Priced) (d : List ℤ) (h : List �
   v : p .verdict ≡ answer file n .verdict
   v = ap (λ (a : Answer). a .verdict) is
 
+  line-is : handed file p ≡ bytesOf file (answer file n .part)
+  line-is = rw (le-leb (p .start) (p .end) (k .answers .ordered), le-leb (p .end) (length file) (k .answers .inside)) (ap (λ (a : Answer). bytesOf file (a .part)) is)
+
   pub price-demands : Demands file n (priced file p d h f r)
   price-demands =
       demands file n (priced file p d h f r)
       (record {
-        refuses = record { number = ap numberIn v; place = ap placeIn v; line = ap (λ (a : Answer). bytesOf file (a .part)) is };
+        refuses = record { number = ap numberIn v; place = ap placeIn v; line = line-is };
         horizon = k .answers .horizon ∙ ap (λ (x : Verdict). horizonWith x (horizonIn (reading file))) v;
         method =
             record {
@@ -49,16 +54,6 @@ module _ (file : List ℕ) (n : Lengths) (p : Priced) (d : List ℤ) (h : List �
             };
         distance = λ fund e a. subst (λ (x : Answer). WithinBounds fund x) is (k .distance fund e (v ∙ a));
       })
-
-  pub line-bytes : (l : List ℕ) → l ≡ lineOf file p → l ≡ bytesOf file (answer file n .part)
-  unfolding lineOf
-  line-bytes l e =
-      e
-      ∙ ap (λ (b : Bool). if b then take (p .end - p .start) (drop (p .start) file) else []) both
-      ∙ ap (λ (a : Answer). bytesOf file (a .part)) is
-    where
-      both : (leb (p .start) (p .end) && leb (p .end) (length file)) ≡ true
-      both = rw (le-leb (p .start) (p .end) (k .answers .ordered), le-leb (p .end) (length file) (k .answers .inside))
 
 module _ (file : List ℕ) (n : Lengths) (result : List ℕ) (d : List ℤ) (h : List ℕ) (f : List ℤ) (r : List ℕ) (k : Hosts file n result d h f r) where
   pub host-demands : Demands file n (hosted file result d h f r)
@@ -79,4 +74,11 @@ prints file before after size w =
           let e = ap (λ (b : Bool). if b then listing file else []) (lt-leb room (length before) l) in
           let z : size ≡ 0 = w .whole ∙ ap length e in
           record { none = z; same = subst (λ k. drop k after ≡ drop k before) z (w .beyond) };
+    }
+
+pub prints-read : (buffer before after : List ℕ) (p : PrintedInput) → PrintsInput buffer before after p → PrintsRead buffer before after (p .failed) (p .read) (p .size)
+prints-read buffer before after p k =
+    record {
+      printed = λ e file h. prints file before after (p .size) (k .prints e file h);
+      stays = λ e. let s = k .kept e in record { none = s .0; same = s .1 };
     }

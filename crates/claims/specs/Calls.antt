@@ -1,19 +1,26 @@
 -- What the public calls leave, as an outcome.
-use mathlib.Core.List.{List}
+use mathlib.Core.Bool.{_&&_}
+use mathlib.Core.List.{List, []}
 use Prim.Native.Nat.{ℕ, _-_}
+use lib.Dec.{leb}
 use lib.IntN.{ℤ}
-use lib.ListN.{getD, take, drop}
+use lib.ListN.{length, getD, take, drop}
+use Rattle.fund.specs.Base.{if_then_else_}
 use Rattle.fund.specs.Refusals.{numberIn, placeIn}
 use Rattle.pricing.specs.declared.Priced.{Priced}
 use Rattle.miguepo.specs.Bits.{readSigned}
 use Rattle.claims.specs.Demands.{Outcome}
+
+-- The bytes from start to end, and none where these lie outside the file.
+abbrev pub handed : List ℕ → Priced → List ℕ
+handed file p = if leb (p .start) (p .end) && leb (p .end) (length file) then take (p .end - p .start) (drop (p .start) file) else []
 
 abbrev pub priced : List ℕ → Priced → List ℤ → List ℕ → List ℤ → List ℕ → Outcome
 priced file p d h f r =
     record {
       number = numberIn (p .verdict);
       place = placeIn (p .verdict);
-      line = take (p .end - p .start) (drop (p .start) file);
+      line = handed file p;
       horizon = p .horizon;
       figures = p .figures;
       D = d;

@@ -1,5 +1,6 @@
 -- What a text holds after a file's listing was printed into it.
 use mathlib.Core.Path.{_≡_}
+use mathlib.Core.Bool.{Bool, true, false}
 use mathlib.Core.List.{List}
 use Prim.Native.Nat.{ℕ, _<_, _≤_}
 use lib.ListN.{length, take, drop}
@@ -20,3 +21,9 @@ pub record Kept (before after : List ℕ) (size : ℕ) : Type 0 where
 pub record Prints (file before after : List ℕ) (size : ℕ) : Type 0 where
   pub listed : room ≤ length before → Listed file before after size
   pub kept : length before < room → Kept before after size
+
+-- Standard input, of which `read` bytes stand in a buffer: whatever the file is, if these are its first bytes, as many as the buffer has
+-- room for, then its listing is printed. Where it fails, the text stays as it is.
+pub record PrintsRead (buffer before after : List ℕ) (failed : Bool) (read size : ℕ) : Type 0 where
+  pub printed : failed ≡ false → (file : List ℕ) → take (length buffer) file ≡ take read buffer → Prints file before after size
+  pub stays : failed ≡ true → Kept before after size

@@ -3,15 +3,15 @@
 mod steps;
 
 use pricing::Priced;
+use printing::PrintedInput;
 ghost use mathlib.Core.Path.{_≡_};
-ghost use Rattle.fund.specs.Answer.{answer};
 ghost use Rattle.valuation.specs.Valued.{lengths};
-ghost use Rattle.claims.specs.Demands.{Demands, bytesOf};
-ghost use Rattle.claims.specs.Listing.{Prints};
-ghost use Rattle.claims.specs.Calls.{priced, hosted};
+ghost use Rattle.claims.specs.Demands.{Demands};
+ghost use Rattle.claims.specs.Listing.{Prints, PrintsRead};
+ghost use Rattle.claims.specs.Calls.{handed, priced, hosted};
 
 // Demands 1, 2 and 3 of the pricing call.
-pub fn price(
+pub fn claimed_price(
     file: &[u8],
     transform: &mut [i64],
     h: &mut [u64],
@@ -24,23 +24,15 @@ pub fn price(
     pricing::price(file, transform, h, f, r)
 }
 
-// The line that the host is handed, as a part of its own bytes.
-pub fn line<'a>(
-    file: &'a [u8],
-    transform: &mut [i64],
-    h: &mut [u64],
-    f: &mut [i64],
-    r: &mut [u64],
-) -> &'a [u8]
-    ensures { λ l. ⌜ now l ≡ bytesOf (now (file .entry))
-        (answer (now (file .entry)) (lengths (now (transform .entry)) (now (h .entry)) (now (f .entry)) (now (r .entry))) .part) ⌝ }
+// The line that the host is handed is that of the outcome.
+pub fn claimed_line<'a>(file: &'a [u8], priced: Priced) -> &'a [u8]
+    ensures { λ l. ⌜ now l ≡ handed (now (file .entry)) priced ⌝ }
 {
-    let p = pricing::price(file, transform, h, f, r);
-    pricing::line(file, p)
+    pricing::line(file, priced)
 }
 
 // The same of the call for C.
-pub fn host(
+pub fn claimed_host(
     file: &[u8],
     transform: &mut [i64],
     h: &mut [u64],
@@ -55,8 +47,15 @@ pub fn host(
 }
 
 // The listing.
-pub fn print(file: &[u8], text: &mut [u8]) -> usize
+pub fn claimed_print(file: &[u8], text: &mut [u8]) -> usize
     ensures { λ size. ⌜ Prints (now (file .entry)) (now (text .entry)) (now (text .exit)) size ⌝ }
 {
     printing::print(file, text)
+}
+
+// The listing of standard input.
+pub fn claimed_input(buffer: &mut [u8], text: &mut [u8]) -> PrintedInput
+    ensures { λ p. ⌜ PrintsRead (now (buffer .exit)) (now (text .entry)) (now (text .exit)) (p .failed) (p .read) (p .size) ⌝ }
+{
+    printing::print_input(buffer, text)
 }

@@ -1,6 +1,7 @@
 // The calls that the pricing call is made of, each a public call of its own: what it gives is its definition's, for every input.
 use fund::Figures;
 use fund::Fund;
+use fund::Life;
 use fund::Limits;
 use fund::Member;
 use fund::Rate;
@@ -9,8 +10,9 @@ use matching::Matched;
 use reader::FileRead;
 use reader::Part;
 use recursion::Recursed;
+use valuation::Valued;
 ghost use mathlib.Core.Path.{_≡_};
-ghost use lib.ListN.{length};
+ghost use lib.ListN.{length, take};
 ghost use Rattle.fund.specs.Limits.{limits};
 ghost use Rattle.fund.specs.Reading.{reading};
 ghost use Rattle.fund.specs.Answer.{part};
@@ -18,32 +20,33 @@ ghost use Rattle.reader.specs.Read.{fileRead};
 ghost use Rattle.reader.specs.Part.{Spans};
 ghost use Rattle.matching.specs.Matching.{matchedTables};
 ghost use Rattle.recursion.specs.Recursion.{left, recursion};
-ghost use Rattle.text.specs.Shown.{printing, shown};
+ghost use Rattle.valuation.specs.Valued.{left as leftOf, lengths, valuation};
+ghost use Rattle.text.specs.Shown.{shownAnswer, listingOf};
 ghost use Rattle.text.specs.Writing.{Written};
 
 // The named constants are the definitions' limits.
-pub fn limits() -> Limits
+pub fn claimed_limits() -> Limits
     ensures { λ r. ⌜ r ≡ limits ⌝ }
 {
     Fund::limits()
 }
 
 // Refusals 1 and 2, or the header and the rows.
-pub fn read(file: &[u8]) -> FileRead
+pub fn claimed_read(file: &[u8]) -> FileRead
     ensures { λ r. ⌜ r ≡ fileRead (reading (now (file .entry))) ⌝ }
 {
     reader::read(file)
 }
 
 // The line of a verdict.
-pub fn part_of(file: &[u8], verdict: Verdict) -> Part
+pub fn claimed_part(file: &[u8], verdict: Verdict) -> Part
     ensures { λ r. ⌜ Spans (now (file .entry)) (part (now (file .entry)) verdict) r ⌝ }
 {
     reader::part_of(file, verdict)
 }
 
 // Refusals 3 to 6, or the lives.
-pub fn matched(
+pub fn claimed_match(
     fund: Fund,
     rates: [Rate; Fund::RATE_ROWS],
     rated: usize,
@@ -55,8 +58,24 @@ pub fn matched(
     matching::matched(fund, rates, rated, members, enrolled)
 }
 
+// Refusals 7 to 10, or the figures and the cells.
+pub fn claimed_value(
+    fund: Fund,
+    lives: [Life; Fund::MEMBER_ROWS],
+    n: usize,
+    transform: &mut [i64],
+    h: &mut [u64],
+    f: &mut [i64],
+    r: &mut [u64],
+) -> Valued
+    ensures { λ v. ⌜ leftOf v (now (transform .exit)) (now (h .exit)) (now (f .exit)) (now (r .exit)) ≡
+        valuation fund n (take n lives) (lengths (now (transform .entry)) (now (h .entry)) (now (f .entry)) (now (r .entry))) ⌝ }
+{
+    valuation::value(fund, lives, n, transform, h, f, r)
+}
+
 // The recursion on any transform and start.
-pub fn recursed(
+pub fn claimed_recursion(
     horizon: usize,
     d: &[i64],
     h: &[u64],
@@ -72,7 +91,7 @@ pub fn recursed(
 }
 
 // The text of an answer.
-pub fn listing(
+pub fn claimed_listing(
     verdict: Verdict,
     figures: Figures,
     horizon: usize,
@@ -80,7 +99,7 @@ pub fn listing(
     r: &[u64],
     text: &mut [u8],
 ) -> usize
-    ensures { λ size. ⌜ Written (shown (printing verdict figures (now (f .entry)) (now (r .entry))) horizon (length (now (text .entry))))
+    ensures { λ size. ⌜ Written (listingOf (shownAnswer verdict figures (now (f .entry)) (now (r .entry))) horizon (length (now (text .entry))))
         (now (text .entry)) (now (text .exit)) size ⌝ }
 {
     text::listing(verdict, figures, horizon, f, r, text)

@@ -219,11 +219,6 @@ header-ranges (h ∷ hs) n ns (l ∷ ls) fund e = go (spelled (h .key) (length (
           reads = subst (λ ms. Reads (headerOf ms) fund) (append-assoc ns vs (r .values)) (r .reads);
         }
 
--- how many header lines there are: `Fund::HEADER_LINES`
-pub header-length : length headerLines ≡ 6
-unfolding headerLines
-header-length = refl
-
 pub record HeaderOk (f : Fund) : Type 0 where
   pub rates-least : least-edition ≤ f .rates
   pub rates-most : f .rates ≤ most-edition

@@ -1,11 +1,24 @@
--- Laws of a table of records, whose first rows are given and the others blank: its length, a row that is put behind the given
+-- A table of records, whose first rows are given and the others blank: its length, a row that is put behind the given
 -- ones, and the given rows taken back.
 use mathlib.Core.Path.{_≡_, refl, ap}
 use mathlib.Core.List.{List, [], _∷_, _++_}
 use Prim.Native.Nat.{ℕ, suc, _-_, _≤_, _<_}
 use native.Mathlib.Omega.{arith}
 use lib.ListN.{length, take, set, replicate, length-append, length-replicate}
+use Rattle.fund.specs.declared.Rate.{Rate}
+use Rattle.fund.specs.declared.Member.{Member}
+use Rattle.fund.specs.declared.Life.{Life}
 use Rattle.fund.specs.Answer.{lent}
+
+-- A row whose numbers are all 0.
+abbrev pub blankRate : Rate
+blankRate = record { age = 0; q = 0; i = 0 }
+
+abbrev pub blankMember : Member
+blankMember = record { age = 0; group = 0; d = 0; e = 0 }
+
+abbrev pub blankLife : Life
+blankLife = record { group = 0; q = 0; i = 0; d = 0; e = 0 }
 
 pub rows-length : {A : Type 0} (blank : A) (n : ℕ) (rows : List A) → length rows ≤ n → length (lent blank n rows) ≡ n
 unfolding lent

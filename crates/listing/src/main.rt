@@ -1,16 +1,16 @@
 // Prints the listing of the fund file on standard input, or the refusal's line.
-mod input;
+use libc::STDOUT_FILENO;
 
-// The listing does not depend on what follows the first 65,536 bytes (`prefix`).
 fn main() {
-    let mut file = [0u8; 65536];
-    let input = input::read(&mut file);
-    if input.failed {
+    let mut file = [0u8; printing::MOST_BYTES];
+    let mut text = [0u8; text::ROOM];
+    let printed = printing::print_input(&mut file, &mut text);
+    if printed.failed {
         os::fail(b"standard input");
         return;
     }
-    let size = input.size;
-    if !printing::write(&file[..size]) {
+    let size = printed.size;
+    if !io::write_all(STDOUT_FILENO, &text[..size]) {
         os::fail(b"standard output");
     }
 }

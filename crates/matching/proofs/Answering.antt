@@ -8,7 +8,6 @@ use native.Mathlib.Omega.{arith}
 use borrow.Author.Tests.{eq-eqb, ne-eqb, leb-true, leb-false, le-leb, lt-leb}
 use lib.Dec.{leb, ltb}
 use lib.ListN.{length, take, length-map}
-use lib.Seq.{length-take-le}
 use Rattle.fund.specs.declared.Fund.{Fund}
 use Rattle.fund.specs.declared.Rate.{Rate}
 use Rattle.fund.specs.declared.Member.{Member}
@@ -19,9 +18,9 @@ use Rattle.fund.specs.declared.Verdict.the-variants.{Accepted, Refused}
 use Rattle.fund.specs.Limits.{half-rate, most-rates, most-members}
 use Rattle.fund.specs.Folding.{life, lives}
 use Rattle.fund.specs.Refusals.{first, unmatched, half, refuse, at0, firstMember, matched}
-use Rattle.laws.specs.Rows.{rows-back}
+use Rattle.laws.specs.Rows.{blankLife, rows-back}
 use Rattle.matching.specs.declared.table.Matched.{Matched}
-use Rattle.matching.specs.Matching.{noLife, lifeTable, withLives, fileOf, matching, matchedTables}
+use Rattle.matching.specs.Matching.{lifeTable, withLives, fileOf, matching, matchedTables}
 use Rattle.matching.specs.Lives.{livesFrom, byMember}
 
 -- 6 without the sum.
@@ -79,7 +78,7 @@ module _ (rates : List Rate) (members : List Member) (at : ℕ) where
       lives-back =
           ap (λ (m : Matched). take n (m .lives)) found
           ∙ ap (λ k. take k (lifeTable (map (life rates) members))) (sym (length-map members (life rates) ∙ count))
-          ∙ rows-back noLife most-members (map (life rates) members)
+          ∙ rows-back blankLife most-members (map (life rates) members)
 
       module _ (h : Verdict) (f : h ≡ refuse Half (first half at (take n (r .lives))) Accepted) where
         by-half : h ≡ refuse Half (first half at (map (life rates) members)) Accepted

@@ -1,5 +1,5 @@
 -- The first n rows of a table from a place on: the rate row of an age, and the first member that meets a condition.
-use mathlib.Core.Path.{_≡_, refl, sym, _∙_, ap}
+use mathlib.Core.Path.{_≡_, _∙_}
 use mathlib.Core.Bool.{Bool, true, false}
 use mathlib.Core.List.{List, [], _∷_}
 use mathlib.Core.Option.{none, some}
@@ -10,9 +10,9 @@ use borrow.Author.Tests.{eq-eqb, ne-eqb}
 use lib.ListN.{length, take, drop, getD, drop-of-length-le}
 use lib.Seq.{drop-cons, length-take-le, getD-take}
 use Rattle.fund.specs.declared.Rate.{Rate}
-use Rattle.fund.specs.Base.{if_then_else_}
 use Rattle.fund.specs.Folding.{rateAt}
 use Rattle.fund.specs.Refusals.{first}
+use Rattle.laws.specs.Rows.{blankRate}
 
 module _ {A : Type 0} (l : List A) (n : ℕ) (room : n ≤ length l) (blank : A) where
   pub row-at : (k : ℕ) → k < n → drop k (take n l) ≡ getD l k blank ∷ drop (suc k) (take n l)
@@ -36,9 +36,6 @@ module _ {A : Type 0} (l : List A) (n : ℕ) (room : n ≤ length l) (blank : A)
     pub first-none : (k : ℕ) → n ≤ k → first met (at + k) (drop k (take n l)) ≡ none
     unfolding first
     first-none k h = rw (no-row-at k h)
-
-abbrev pub blankRate : Rate
-blankRate = record { age = 0; q = 0; i = 0 }
 
 module _ (l : List Rate) (n : ℕ) (room : n ≤ length l) (age : ℕ) where
   pub rate-here : (j : ℕ) → j < n → getD l j blankRate .age ≡ age → rateAt (drop j (take n l)) age ≡ some (getD l j blankRate)

@@ -2,8 +2,8 @@
 use mathlib.Core.Path.{_≡_, refl, sym, _∙_, ap}
 use mathlib.Core.Bool.{true, false}
 use mathlib.Core.List.{List, [], _∷_, _++_, map, map-append}
-use mathlib.Core.Option.{Option, none, some}
-use Prim.Native.Nat.{ℕ, suc, _+_, _≤_, _<_}
+use mathlib.Core.Option.{none, some}
+use Prim.Native.Nat.{ℕ, _+_, _≤_, _<_}
 use native.Mathlib.Numerals.{add-one}
 use native.Mathlib.Omega.{arith}
 use lib.ListN.{length, take, drop, set, getD, length-map}
@@ -13,17 +13,14 @@ use Rattle.fund.specs.declared.Member.{Member}
 use Rattle.fund.specs.declared.Life.{Life}
 use Rattle.fund.specs.declared.Refusal.the-variants.{Unmatched}
 use Rattle.fund.specs.declared.Verdict.the-variants.{Accepted, Refused}
-use Rattle.fund.specs.Limits.{most-rates, most-members}
+use Rattle.fund.specs.Limits.{most-members}
 use Rattle.fund.specs.Folding.{rateAt, folded, life}
 use Rattle.fund.specs.Refusals.{first, unmatched, refuse}
-use Rattle.laws.specs.Rows.{rows-length, rows-put}
+use Rattle.laws.specs.Rows.{blankRate, blankMember, blankLife, rows-length, rows-put}
 use Rattle.matching.specs.declared.table.Matched.{Matched}
-use Rattle.matching.specs.Matching.{noLife, lifeTable, withLives}
+use Rattle.matching.specs.Matching.{lifeTable, withLives}
 use Rattle.matching.specs.Lives.{livesFrom}
-use Rattle.matching.proofs.Searching.{blankRate, first-here, first-later, first-none, rate-here, rate-later, rate-none}
-
-abbrev pub blankMember : Member
-blankMember = record { age = 0; group = 0; d = 0; e = 0 }
+use Rattle.matching.proofs.Searching.{first-here, first-later, first-none, rate-here, rate-later, rate-none}
 
 pub record LivesSoFar (rates : List Rate) (rated : ℕ) (members : List Member) (enrolled line : ℕ) (lives : List Life) (k j : ℕ) : Type 0 where
   pub members-within : k ≤ enrolled
@@ -52,7 +49,7 @@ module _ (rates : List Rate) (rated : ℕ) (members : List Member) (enrolled lin
     unfolding lifeTable
     lives-long =
         ap length (s .lives-are)
-        ∙ rows-length noLife most-members (map (life (take rated rates)) (take k members)) (omega (arith, so-far, s .members-within))
+        ∙ rows-length blankLife most-members (map (life (take rated rates)) (take k members)) (omega (arith, so-far, s .members-within))
 
     module _ (member-left : k < enrolled) where
       -- all rate rows were compared with the member k
@@ -88,7 +85,7 @@ module _ (rates : List Rate) (rated : ℕ) (members : List Member) (enrolled lin
               lives-are =
                   ap (λ l. set l k x) (s .lives-are)
                   ∙ ap (λ n. set (lifeTable (map (life (take rated rates)) (take k members))) n x) (sym so-far)
-                  ∙ rows-put noLife x most-members (map (life (take rated rates)) (take k members)) (omega (arith, so-far))
+                  ∙ rows-put blankLife x most-members (map (life (take rated rates)) (take k members)) (omega (arith, so-far))
                   ∙ ap lifeTable (sym more);
               all-matched = s .all-matched ∙ first-later members enrolled few-members blankMember (unmatched (take rated rates)) line k member-left u;
               no-rate-yet = refl;

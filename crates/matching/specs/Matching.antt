@@ -17,14 +17,12 @@ use Rattle.fund.specs.Reading.{FundFile}
 use Rattle.fund.specs.Folding.{lives}
 use Rattle.fund.specs.Refusals.{matched}
 use Rattle.fund.specs.Answer.{lent}
+use Rattle.laws.specs.Rows.{blankLife}
 use Rattle.matching.specs.declared.table.Matched.{Matched}
-
-abbrev pub noLife : Life
-noLife = record { group = 0; q = 0; i = 0; d = 0; e = 0 }
 
 -- A table that begins with the given lives and is blank behind them.
 unfoldable pub lifeTable : List Life → List Life
-lifeTable ms = lent noLife most-members ms
+lifeTable ms = lent blankLife most-members ms
 
 -- A verdict with the lives of a file that is accepted; a refusal leaves none.
 unfoldable pub withLives : List Life → Verdict → Matched

@@ -34,16 +34,16 @@ pub fn matched(
     ensures { λ r. ⌜ r ≡ matchedTables fund rates rated members enrolled ⌝ }
 {
     if Fund::RATE_ROWS < rated {
-        return table::refused(Refusal::Range, 0);
+        return table::without_lives(Refusal::Range, 0);
     }
     if Fund::MEMBER_ROWS < enrolled {
-        return table::refused(Refusal::Range, 0);
+        return table::without_lives(Refusal::Range, 0);
     }
     if fund.rates != fund.members {
-        return table::refused(Refusal::Edition, 0);
+        return table::without_lives(Refusal::Edition, 0);
     }
     if is_above(fund.deductible, fund.horizon) {
-        return table::refused(Refusal::Deductible, 0);
+        return table::without_lives(Refusal::Deductible, 0);
     }
     // the header lines and the rate lines stand before the first member
     let line = Fund::HEADER_LINES as u64 + rated as u64 + 1;

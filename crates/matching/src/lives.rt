@@ -58,7 +58,7 @@ fn lives_of(
     let mut j: usize = 0;
     while k < enrolled {
         if rated <= j {
-            return table::refused(Refusal::Unmatched, line + k as u64);
+            return table::without_lives(Refusal::Unmatched, line + k as u64);
         }
         let m = members[k];
         let r = rates[j];
@@ -94,7 +94,7 @@ pub(crate) fn by_member(
         Verdict::Accepted => {
             let lives = found.lives;
             match half::first_half(lives, enrolled, line) {
-                Verdict::Refused(why, place) => table::refused(why, place),
+                Verdict::Refused(why, place) => table::without_lives(why, place),
                 Verdict::Accepted => found,
             }
         }

@@ -6,7 +6,8 @@ use fund::Verdict;
 ghost use mathlib.Core.Path.{_≡_};
 ghost use mathlib.Core.List.{[]};
 ghost use Rattle.fund.specs.declared.Verdict.the-variants.{Refused};
-ghost use Rattle.matching.specs.Matching.{noLife, withLives};
+ghost use Rattle.laws.specs.Rows.{blankLife};
+ghost use Rattle.matching.specs.Matching.{withLives};
 
 // What pricing says of the rows by 3 to 6, and the table of the lives, in the members' order. The lives behind these are
 // blank, and so are all lives of a refusal.
@@ -16,7 +17,7 @@ pub struct Matched {
 }
 
 pub(crate) fn no_life() -> Life
-    ensures { λ r. ⌜ r ≡ noLife ⌝ }
+    ensures { λ r. ⌜ r ≡ blankLife ⌝ }
 {
     Life {
         group: 0,
@@ -27,7 +28,7 @@ pub(crate) fn no_life() -> Life
     }
 }
 
-pub(crate) fn refused(why: Refusal, place: u64) -> Matched
+pub(crate) fn without_lives(why: Refusal, place: u64) -> Matched
     ensures { λ r. ⌜ r ≡ withLives [] (Refused why place) ⌝ }
 {
     let life = no_life();

@@ -16,8 +16,8 @@ use Rattle.pricing.specs.Priced.{left, horizonWith, Prices}
 use mir.Syntax.{w64}
 use mir.Val.{SFits}
 use Rattle.miguepo.specs.Bits.{bitsOf, readSigned}
-use Rattle.miguepo.proofs.Signed.{bits-read}
-use Rattle.miguepo.specs.Host.{fields, Hosts}
+use Rattle.miguepo.proofs.Complement.{bits-read}
+use Rattle.miguepo.specs.Host.{resultFields, Hosts}
 
 module _ (file : List ℕ) (n : Lengths) (p : Priced) (D : List ℤ) (H : List ℕ) (f : List ℤ) (R : List ℕ) (k : Prices file n p (left p D H f R)) where
   same : left p D H f R ≡ answer file n
@@ -31,7 +31,7 @@ module _ (file : List ℕ) (n : Lengths) (p : Priced) (D : List ℤ) (H : List �
   pub hosts : (number place premium : ℕ) → number ≡ numberIn (p .verdict) → place ≡ placeIn (p .verdict) → premium ≡ bitsOf (p .figures .premium) → SFits w64 (p .figures .premium) → Hosts file n (handed number place premium) D H f R
   hosts number place premium a b c fits =
       record {
-        result-is = rw (a, b, c, k .answers .horizon) (ap (λ (x : Answer). fields x (horizonIn (reading file))) same);
+        result-is = rw (a, b, c, k .answers .horizon) (ap (λ (x : Answer). resultFields x (horizonIn (reading file))) same);
         premium = subst (λ (x : Answer). readSigned (bitsOf (x .figures .premium)) ≡ x .figures .premium) same (bits-read (p .figures .premium) fits);
         inside = subst (λ (x : Answer). x .part .start + x .part .size ≤ length file) same (omega (arith, k .answers .ordered, k .answers .inside));
         D-is = ap (λ (x : Answer). x .D) same;

@@ -13,8 +13,8 @@ use Rattle.pricing.specs.Priced.{horizonWith}
 use Rattle.miguepo.specs.Bits.{bitsOf, readSigned}
 
 -- The fields of the struct that C declares, in their order, for an answer and the horizon of the file that was read.
-abbrev pub fields : Answer → ℕ → List ℕ
-fields a X =
+abbrev pub resultFields : Answer → ℕ → List ℕ
+resultFields a X =
     numberIn (a .verdict)
     ∷ placeIn (a .verdict)
     ∷ a .part .start
@@ -29,7 +29,7 @@ fields a X =
 -- Everything that is handed over is the answer's, and C reads the premium from its bits; the line lies in the file; and demand 3 holds
 -- of a fund with number 0.
 pub record Hosts (file : List ℕ) (n : Lengths) (result : List ℕ) (D : List ℤ) (H : List ℕ) (f : List ℤ) (R : List ℕ) : Type 0 where
-  pub result-is : result ≡ fields (answer file n) (horizonIn (reading file))
+  pub result-is : result ≡ resultFields (answer file n) (horizonIn (reading file))
   pub premium : readSigned (bitsOf (answer file n .figures .premium)) ≡ answer file n .figures .premium
   pub inside : answer file n .part .start + answer file n .part .size ≤ length file
   pub D-is : D ≡ answer file n .D

@@ -9,7 +9,7 @@ ghost use Rattle.miguepo.specs.Host.{Hosts};
 // How many fields the struct has that C declares.
 pub const FIELDS: usize = 9;
 
-fn number_of(verdict: Verdict) -> u64
+fn verdict_number(verdict: Verdict) -> u64
     ensures { λ r. ⌜ r ≡ numberIn verdict ⌝ }
 {
     match verdict {
@@ -18,7 +18,7 @@ fn number_of(verdict: Verdict) -> u64
     }
 }
 
-fn place_of(verdict: Verdict) -> u64
+fn verdict_place(verdict: Verdict) -> u64
     ensures { λ r. ⌜ r ≡ placeIn verdict ⌝ }
 {
     match verdict {
@@ -55,8 +55,8 @@ pub extern "C" fn miguepo_price(
     let priced = pricing::price(file, transform, h, f, r);
     let verdict = priced.verdict;
     let figures = priced.figures;
-    let number = number_of(verdict);
-    let place = place_of(verdict);
+    let number = verdict_number(verdict);
+    let place = verdict_place(verdict);
     let line_size = priced.end - priced.start;
     let premium = bits(figures.premium);
     *result = [

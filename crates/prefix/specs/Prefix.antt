@@ -1,4 +1,4 @@
--- What is read from a file, and its listing, are those of its first 65,536 bytes (reading-prefix, listing-prefix).
+-- What is read from a file, and its listing, are those of its first bytes (reading-first, listing-first).
 use mathlib.Core.Path.{_≡_, refl, _∙_, ap}
 use mathlib.Core.List.{List, []}
 use Prim.Native.Nat.{ℕ, _+_, _≤_}
@@ -21,9 +21,9 @@ unfolding headerLines bytes
 keys-short = omega arith
 
 -- Reading passes at most the header lines, the rows and the `end=` line: 43,993 bytes are enough.
-pub reading-first : (n : ℕ) (file : List ℕ) → bytes-for (length headerLines + most-rates + most-members) ≤ n → reading (take n file) ≡ reading file
+reading-enough : (n : ℕ) (file : List ℕ) → bytes-for (length headerLines + most-rates + most-members) ≤ n → reading (take n file) ≡ reading file
 unfolding reading
-reading-first n file h = header-same headerLines 1 [] keys-short (lines-cut n file) h
+reading-enough n file h = header-same headerLines 1 [] keys-short (lines-cut n file) h
 
 -- The listing does not show the part of the bytes that is handed back with a refusal.
 printed-of : (f g : List ℕ) (n : Lengths) (fund : FundFile) (X : ℕ) (v : Verdict) →
@@ -43,9 +43,16 @@ unfolding listing answer
 listing-of-reading f g e =
     ap (λ r. printed (answerTo f enough r) (horizonIn r) (answerTo f enough r .verdict)) e ∙ printed-to f g enough (reading g)
 
-pub reading-prefix : (file : List ℕ) → reading (take 65536 file) ≡ reading file
-unfolding headerLines
-reading-prefix file = reading-first 65536 file (omega arith)
+-- No more bytes of a file are read than these.
+abbrev pub most-bytes : ℕ
+most-bytes = 65536
 
-pub listing-prefix : (file : List ℕ) → listing (take 65536 file) ≡ listing file
-listing-prefix file = listing-of-reading (take 65536 file) file (reading-prefix file)
+few-bytes : (n : ℕ) → most-bytes ≤ n → bytes-for (length headerLines + most-rates + most-members) ≤ n
+unfolding headerLines
+few-bytes n h = omega arith
+
+pub reading-first : (n : ℕ) (file : List ℕ) → most-bytes ≤ n → reading (take n file) ≡ reading file
+reading-first n file h = reading-enough n file (few-bytes n h)
+
+pub listing-first : (n : ℕ) (file : List ℕ) → most-bytes ≤ n → listing (take n file) ≡ listing file
+listing-first n file h = listing-of-reading (take n file) file (reading-first n file h)

@@ -17,11 +17,11 @@ use Rattle.fund.specs.Folding.{life, lives}
 use Rattle.fund.specs.Refusals.{Lengths, matched}
 use Rattle.fund.specs.Answer.{Answer, refused, answer}
 use Rattle.laws.specs.Ranges.{read-ranges}
-use Rattle.laws.specs.Rows.{rows-back}
+use Rattle.laws.specs.Rows.{blankRate, blankMember, blankLife, rows-back}
 use Rattle.reader.specs.declared.FileRead.{FileRead}
-use Rattle.reader.specs.Read.{noRate, noMember, rateTable, memberTable, fileRead}
+use Rattle.reader.specs.Read.{rateTable, memberTable, fileRead}
 use Rattle.matching.specs.declared.table.Matched.{Matched}
-use Rattle.matching.specs.Matching.{noLife, lifeTable, withLives, matching, matchedTables}
+use Rattle.matching.specs.Matching.{lifeTable, withLives, matching, matchedTables}
 use Rattle.pricing.specs.declared.Priced.{Priced}
 use Rattle.pricing.specs.Joining.{answer-stopped}
 use Rattle.pricing.specs.Priced.{Answers, MatchedFund}
@@ -51,8 +51,8 @@ module _ (file : List ℕ) (r : FileRead) (e : r ≡ fileRead (reading file)) wh
       rw (
         le-leb (length (fund .rates)) most-rates (ok .few-rates),
         le-leb (length (fund .members)) most-members (ok .few-members),
-        rows-back noRate most-rates (fund .rates),
-        rows-back noMember most-members (fund .members),
+        rows-back blankRate most-rates (fund .rates),
+        rows-back blankMember most-members (fund .members),
       )
 
   matched-fund : (m : Matched) → m ≡ matchedTables (r .fund) (r .rates) (r .rated) (r .members) (r .enrolled) → r .verdict ≡ Accepted → (x : Reading) → reading file ≡ x → MatchedFund file (r .fund) m (r .enrolled)
@@ -98,4 +98,4 @@ module _ (file : List ℕ) (fund : Fund) (m : Matched) (enrolled : ℕ) (k : Mat
       let w : matched (k .of) Accepted ≡ Accepted = sym matched-verdict ∙ v in
       let t : m ≡ withLives (lives (k .of)) Accepted = k .matched ∙ ap (withLives (lives (k .of))) w in
       let n : enrolled ≡ length (lives (k .of)) = k .members ∙ sym (length-map (k .of .members) (life (k .of .rates))) in
-      ap₂ (λ (c : ℕ) (x : Matched). take c (x .lives)) n t ∙ rows-back noLife most-members (lives (k .of))
+      ap₂ (λ (c : ℕ) (x : Matched). take c (x .lives)) n t ∙ rows-back blankLife most-members (lives (k .of))

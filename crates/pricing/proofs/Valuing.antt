@@ -37,10 +37,10 @@ abbrev Unlined : Verdict → Type 0
 Unlined Accepted = Unit {0}
 Unlined (Refused why place) = namesLine why ≡ false
 
-refuse-unlined : (why : Refusal) (o : Option ℕ) (after : Verdict) → namesLine why ≡ false → Unlined after → Unlined (refuse why o after)
+refuse-unlined : (why : Refusal) (o : Option ℕ) (thenVerdict : Verdict) → namesLine why ≡ false → Unlined thenVerdict → Unlined (refuse why o thenVerdict)
 unfolding refuse
-refuse-unlined why none after e k = k
-refuse-unlined why (some place) after e k = e
+refuse-unlined why none thenVerdict e k = k
+refuse-unlined why (some place) thenVerdict e k = e
 
 valued-unlined : (fund : Fund) (ms : List Life) (n : Lengths) (cells : List Cell) → Unlined (valued fund ms n cells)
 unfolding valued

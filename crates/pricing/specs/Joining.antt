@@ -81,16 +81,16 @@ lives-in file ok e =
     members-in (file .rates) (file .members) (ok .rows .rates) (ok .rows .members) (all-map not-half (lives file) (first-none _ _ _ (e6 .0)))
 
 -- ---- refusals 3 to 6, then the rest
-abbrev pub after : Verdict → Verdict → Verdict
-after Accepted v = v
-after (Refused why place) v = Refused why place
+abbrev pub thenVerdict : Verdict → Verdict → Verdict
+thenVerdict Accepted v = v
+thenVerdict (Refused why place) v = Refused why place
 
-refuse-after : (why : Refusal) (o : Option ℕ) (u v : Verdict) → refuse why o (after u v) ≡ after (refuse why o u) v
+refuse-after : (why : Refusal) (o : Option ℕ) (u v : Verdict) → refuse why o (thenVerdict u v) ≡ thenVerdict (refuse why o u) v
 unfolding refuse
 refuse-after why none u v = refl
 refuse-after why (some place) u v = refl
 
-pub matched-first : (file : FundFile) (v : Verdict) → matched file v ≡ after (matched file Accepted) v
+pub matched-first : (file : FundFile) (v : Verdict) → matched file v ≡ thenVerdict (matched file Accepted) v
 unfolding matched
 matched-first file v =
     ap (refuse Edition _) (ap (refuse Deductible _) (ap (refuse Unmatched _) (refuse-after Half _ Accepted v) ∙ refuse-after Unmatched _ _ v) ∙ refuse-after Deductible _ _ v)
@@ -107,11 +107,11 @@ module _ (file : List ℕ) (n : Lengths) (fund : FundFile) (e : reading file ≡
 
   pub answer-matched : (why : Refusal) (place : ℕ) → matched fund Accepted ≡ Refused why place → answer file n ≡ refused file n (Refused why place)
   unfolding answer answerTo answerOf verdict
-  answer-matched why place m = ap (answerTo file n) e ∙ ap (answerOf file n fund) (matched-first fund rest ∙ ap (λ u. after u rest) m)
+  answer-matched why place m = ap (answerTo file n) e ∙ ap (answerOf file n fund) (matched-first fund rest ∙ ap (λ u. thenVerdict u rest) m)
 
   pub answer-valued : matched fund Accepted ≡ Accepted → answer file n ≡ answerOf file n fund (valued (fund .header) (lives fund) n (fundCells (fund .header) (lives fund)))
   unfolding answer answerTo verdict
-  answer-valued m = ap (answerTo file n) e ∙ ap (answerOf file n fund) (matched-first fund rest ∙ ap (λ u. after u rest) m)
+  answer-valued m = ap (answerTo file n) e ∙ ap (answerOf file n fund) (matched-first fund rest ∙ ap (λ u. thenVerdict u rest) m)
 
 -- a refusal without a line is the same for every file
 pub no-line : (file : List ℕ) (n : Lengths) (why : Refusal) (place : ℕ) → namesLine why ≡ false → refused [] n (Refused why place) ≡ refused file n (Refused why place)

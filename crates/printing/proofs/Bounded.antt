@@ -41,15 +41,15 @@ bounded-first (suc n) [] h = refl
 bounded-first (suc n) (R ∷ Rs) h = rw (le-leb R most-bound (h .0), bounded-first n Rs (h .1))
 
 -- ---- answers
-pub record InRange (a : Answer) : Type 0 where
+pub record AnswerIn (a : Answer) : Type 0 where
   pub truncation : a .figures .truncation ≤ most-truncation
   pub bounds : All Narrow (a .R)
 
-refused-in : (file : List ℕ) (n : Lengths) (v : Verdict) → InRange (refused file n v)
+refused-in : (file : List ℕ) (n : Lengths) (v : Verdict) → AnswerIn (refused file n v)
 unfolding refused
 refused-in file n v = record { truncation = omega arith; bounds = all-zero (n .R) }
 
-answer-of-in : (file : List ℕ) (n : Lengths) (fund : FundFile) (v : Verdict) → verdict fund n (fundCells (fund .header) (lives fund)) ≡ v → InRange (answerOf file n fund v)
+answer-of-in : (file : List ℕ) (n : Lengths) (fund : FundFile) (v : Verdict) → verdict fund n (fundCells (fund .header) (lives fund)) ≡ v → AnswerIn (answerOf file n fund v)
 unfolding answerOf accepted lent fundTruncation fundFigures
 answer-of-in file n fund Accepted e =
     let a = accepts fund n (fundCells (fund .header) (lives fund)) e in
@@ -60,10 +60,10 @@ answer-of-in file n fund Accepted e =
     }
 answer-of-in file n fund (Refused why place) e = refused-in file n (Refused why place)
 
-pub answer-in : (file : List ℕ) (n : Lengths) → InRange (answer file n)
+pub answer-in : (file : List ℕ) (n : Lengths) → AnswerIn (answer file n)
 unfolding answer answerTo
 answer-in file n = go (reading file)
   where
-    go : (r : Reading) → InRange (answerTo file n r)
+    go : (r : Reading) → AnswerIn (answerTo file n r)
     go (read fund) = answer-of-in file n fund _ refl
     go (stopped why place) = refused-in file n (Refused why place)

@@ -1,2 +1,3 @@
 pub mod Bounded
 pub mod Printing
+pub mod Reading

@@ -1,5 +1,5 @@
 -- What `text::listing` shows of the call's answer is the file's listing (shown-is).
-use mathlib.Core.Path.{_≡_, refl, sym, _∙_, ap}
+use mathlib.Core.Path.{_≡_, refl, sym, _∙_, ap, subst}
 use mathlib.Core.Bool.{Bool, true, false, _&&_}
 use mathlib.Core.List.{List, []}
 use Prim.Native.Nat.{ℕ, suc, _≤_}
@@ -17,12 +17,14 @@ use Rattle.fund.specs.Answer.{Answer, answer}
 use Rattle.fund.specs.Listing.{listed, printed, horizonIn, enough, listing}
 use Rattle.laws.specs.Ranges.{read-ranges}
 use Rattle.text.specs.Writing.{Written}
-use Rattle.text.specs.Shown.{room, printing as shownPart, inRange, shown}
+use Rattle.text.specs.Shown.{room, shownAnswer, printable, listingOf}
 use Rattle.valuation.specs.Valued.{lengths}
 use Rattle.pricing.specs.declared.Priced.{Priced}
 use Rattle.pricing.specs.Priced.{left, horizonWith, Answers}
-use Rattle.printing.specs.Printed.{shown as shownOf}
-use Rattle.printing.proofs.Bounded.{InRange, bounded-first, answer-in}
+use Rattle.prefix.specs.Prefix.{listing-first}
+use Rattle.printing.specs.Printed.{shown}
+use Rattle.printing.specs.Input.{HoldsFirst, PrintsFirst}
+use Rattle.printing.proofs.Bounded.{AnswerIn, bounded-first, answer-in}
 
 -- what is written lies in the text
 pub written-within : {piece before after : List ℕ} {size : ℕ} → Written piece before after size → (size ≤ length after) × (size ≡ length (take size after))
@@ -32,16 +34,16 @@ written-within {piece} {before} {after} {size} w =
 
 -- the result slices before the call
 abbrev pub cells : List ℕ
-cells = replicate 4096 0
+cells = replicate (suc most-horizon) 0
 
 abbrev pub signedCells : List ℤ
-signedCells = replicate 4096 (pos 0)
+signedCells = replicate (suc most-horizon) (pos 0)
 
 pub cells-length : length cells ≡ suc most-horizon
-cells-length = length-replicate {A = ℕ} 4096 0
+cells-length = length-replicate {A = ℕ} (suc most-horizon) 0
 
 pub signed-length : length signedCells ≡ suc most-horizon
-signed-length = length-replicate {A = ℤ} 4096 (pos 0)
+signed-length = length-replicate {A = ℤ} (suc most-horizon) (pos 0)
 
 pub enough-lent : lengths signedCells cells signedCells cells ≡ enough
 enough-lent = rw (signed-length, cells-length)
@@ -57,24 +59,24 @@ horizon-most file Accepted = go (reading file) refl
 
 -- a listing shows the same of a refusal for every horizon
 printed-left : (p : Priced) (d : List ℤ) (h : List ℕ) (f : List ℤ) (r : List ℕ) (X : ℕ) (v : Verdict) →
-    printed (shownPart (p .verdict) (p .figures) f r) (horizonWith v X) v ≡ printed (left p d h f r) X v
+    printed (shownAnswer (p .verdict) (p .figures) f r) (horizonWith v X) v ≡ printed (left p d h f r) X v
 unfolding printed listed
 printed-left p d h f r X Accepted = refl
 printed-left p d h f r X (Refused why place) = refl
 
 module _ (file : List ℕ) (p : Priced) (d : List ℤ) (h : List ℕ) (f : List ℤ) (r : List ℕ) (k : Answers file p (left p d h f r) (answer file enough)) where
-  abbrev shownFigures : Answer
-  shownFigures = shownPart (p .verdict) (p .figures) f r
+  abbrev shownOne : Answer
+  shownOne = shownAnswer (p .verdict) (p .figures) f r
 
-  within : InRange (left p d h f r)
+  within : AnswerIn (left p d h f r)
   within = rw (k .answer) (answer-in file enough)
 
   X-most : p .horizon ≤ most-horizon
   X-most = rw (k .horizon) (horizon-most file (p .verdict))
 
   module _ (lf : length f ≡ suc most-horizon) (lr : length r ≡ suc most-horizon) (size : ℕ) where
-    range-is : inRange (p .figures .truncation) (p .horizon) (length f) r size ≡ leb room size
-    unfolding inRange
+    range-is : printable (p .figures .truncation) (p .horizon) (length f) r size ≡ leb room size
+    unfolding printable
     range-is =
         rw (
           le-leb (p .horizon) most-horizon X-most,
@@ -89,11 +91,18 @@ module _ (file : List ℕ) (p : Priced) (d : List ℤ) (h : List ℕ) (f : List 
         both true = refl
         both false = refl
 
-    pub shown-is : shown shownFigures (p .horizon) size ≡ shownOf file size
-    unfolding shown listing
+    pub shown-is : listingOf shownOne (p .horizon) size ≡ shown file size
+    unfolding listingOf listing
     shown-is =
         rw range-is
         (ap (λ (l : List ℕ). if leb room size then l else [])
-        (ap (λ (X : ℕ). printed shownFigures X (p .verdict)) (k .horizon)
+        (ap (λ (X : ℕ). printed shownOne X (p .verdict)) (k .horizon)
         ∙ printed-left p d h f r (horizonIn (reading file)) (p .verdict)
         ∙ ap (λ (a : Answer). printed a (horizonIn (reading file)) (a .verdict)) (k .answer)))
+
+-- The listing of a file is that of its first bytes.
+pub prints-first : (buffer : List ℕ) (size : ℕ) {before after : List ℕ} {n : ℕ} → HoldsFirst buffer size → Written (shown (take size buffer) (length before)) before after n → PrintsFirst buffer size before after n
+prints-first buffer size {before} {after} {n} h w file e =
+    subst (λ (l : List ℕ). Written (if leb room (length before) then l else []) before after n)
+    (ap listing (sym e) ∙ listing-first (length buffer) file (h .enough))
+    w

@@ -1,10 +1,25 @@
-// From a fund file's bytes to the bytes of its listing.
-use libc::STDOUT_FILENO;
+// From a fund file's bytes, or from standard input, to the bytes of the listing.
+mod input;
+
 ghost use mathlib.Core.Path.{_≡_};
 ghost use Prim.Native.Nat.{_≤_};
 ghost use lib.ListN.{length, take};
 ghost use Rattle.text.specs.Writing.{Written};
 ghost use Rattle.printing.specs.Printed.{shown};
+ghost use Rattle.printing.specs.Input.{HoldsFirst, PrintsFirst, PrintsInput};
+
+// Cells enough for every horizon.
+const CELLS: usize = 4096;
+
+// No more bytes of a file are read than these.
+pub const MOST_BYTES: usize = 65536;
+
+// How many bytes of standard input were read and the size of the listing; or that nothing was printed.
+pub struct PrintedInput {
+    pub read: usize,
+    pub size: usize,
+    pub failed: bool,
+}
 
 // Prices the fund of a file and writes its listing from the start of the text; returns the listing's size. A text that has no
 // room for every listing is left as it is.
@@ -12,10 +27,10 @@ pub fn print(file: &[u8], text: &mut [u8]) -> usize
     ensures { λ size. ⌜ Written (shown (now (file .entry)) (length (now (text .entry)))) (now (text .entry)) (now (text .exit)) size ⌝ }
     ensures { λ size. ⌜ (size ≤ length (now (text .exit))) × (size ≡ length (take size (now (text .exit)))) ⌝ }
 {
-    let mut transform = [0i64; 4096];
-    let mut h = [0u64; 4096];
-    let mut f = [0i64; 4096];
-    let mut r = [0u64; 4096];
+    let mut transform = [0i64; CELLS];
+    let mut h = [0u64; CELLS];
+    let mut f = [0i64; CELLS];
+    let mut r = [0u64; CELLS];
     let priced = pricing::price(file, &mut transform, &mut h, &mut f, &mut r);
     let verdict = priced.verdict;
     let horizon = priced.horizon as usize;
@@ -23,9 +38,33 @@ pub fn print(file: &[u8], text: &mut [u8]) -> usize
     text::listing(verdict, figures, horizon, &f, &r, text)
 }
 
-// Writes the listing of a file to standard output; whether all of it was written.
-pub fn write(file: &[u8]) -> bool {
-    let mut text = [0u8; 217204];
-    let size = print(file, &mut text);
-    io::write_all(STDOUT_FILENO, &text[..size])
+// The listing of a file of which the first `size` bytes of the buffer are the first ones, as many as the buffer has room for.
+fn print_first(buffer: &[u8], size: usize, text: &mut [u8]) -> usize
+    requires { ⌜ HoldsFirst (now buffer) size ⌝ }
+    ensures { λ n. ⌜ PrintsFirst (now (buffer .entry)) size (now (text .entry)) (now (text .exit)) n ⌝ }
+    ensures { λ n. ⌜ (n ≤ length (now (text .exit))) × (n ≡ length (take n (now (text .exit)))) ⌝ }
+{
+    print(&buffer[..size], text)
+}
+
+// The listing of the file on standard input, which is read into the buffer. It fails where a read does, or where the buffer has no
+// room for all that is read of a file.
+pub fn print_input(buffer: &mut [u8], text: &mut [u8]) -> PrintedInput
+    ensures { λ p. ⌜ PrintsInput (now (buffer .exit)) (now (text .entry)) (now (text .exit)) p ⌝ }
+    ensures { λ p. ⌜ (p .size ≤ length (now (text .exit))) × (p .size ≡ length (take (p .size) (now (text .exit)))) ⌝ }
+{
+    let found = input::read_input(buffer, 0);
+    if found.last < 0 || buffer.len() < MOST_BYTES {
+        return PrintedInput {
+            read: found.size,
+            size: 0,
+            failed: true,
+        };
+    }
+    let size = print_first(&buffer[..], found.size, text);
+    PrintedInput {
+        read: found.size,
+        size,
+        failed: false,
+    }
 }

@@ -13,7 +13,7 @@ use lib.Seq.{take-suc-set, take-all, drop-drop}
 use Rattle.fund.specs.Base.{if_then_else_}
 use Rattle.fund.specs.Spelling.{isNumber, value, inFirst, fields, allNumbers, numbers}
 use Rattle.reader.specs.declared.text.Number.the-variants.{Value, Misspelled}
-use Rattle.reader.specs.Text.{before, numberIn}
+use Rattle.reader.specs.Text.{before, readNumber}
 
 pub before-within : (b : ℕ) (s : List ℕ) → before b s ≤ length s
 unfolding before
@@ -67,35 +67,35 @@ pub numbers-collected : (count : ℕ) (s : List ℕ) → numbers count s ≡ col
 unfolding numbers collected
 numbers-collected count s = refl
 
-spelled-well : (t : List ℕ) (v : ℕ) → numberIn t ≡ Value v → (isNumber t ≡ true) × (value t ≡ v)
-unfolding numberIn
+spelled-well : (t : List ℕ) (v : ℕ) → readNumber t ≡ Value v → (isNumber t ≡ true) × (value t ≡ v)
+unfolding readNumber
 spelled-well t v e = go (isNumber t) refl e
   where
     go : (b : Bool) → isNumber t ≡ b → (if b then Value (value t) else Misspelled) ≡ Value v → (isNumber t ≡ true) × (value t ≡ v)
     go true w e′ = (w, (cc))
     go false w e′ = let z : _≡_ {A = ℕ} 0 1 = cc in absurd (omega arith)
 
-spelled-ill : (t : List ℕ) → numberIn t ≡ Misspelled → isNumber t ≡ false
-unfolding numberIn
+spelled-ill : (t : List ℕ) → readNumber t ≡ Misspelled → isNumber t ≡ false
+unfolding readNumber
 spelled-ill t e = go (isNumber t) refl e
   where
     go : (b : Bool) → isNumber t ≡ b → (if b then Value (value t) else Misspelled) ≡ Misspelled → isNumber t ≡ false
     go true w e′ = let z : _≡_ {A = ℕ} 0 1 = cc in absurd (omega arith)
     go false w e′ = w
 
-collected-more : (ns : List ℕ) (left : ℕ) (s : List ℕ) (v : ℕ) → before 44 s < length s → numberIn (take (before 44 s) s) ≡ Value v → collected ns (suc left) s ≡ collected (ns ++ (v ∷ [])) left (drop (suc (before 44 s)) s)
+collected-more : (ns : List ℕ) (left : ℕ) (s : List ℕ) (v : ℕ) → before 44 s < length s → readNumber (take (before 44 s) s) ≡ Value v → collected ns (suc left) s ≡ collected (ns ++ (v ∷ [])) left (drop (suc (before 44 s)) s)
 unfolding collected allNumbers
 collected-more ns left s v h e =
     let w = spelled-well (take (before 44 s) s) v e in
     rw (fields-split s h, eqb·suc-suc (length (fields (drop (suc (before 44 s)) s))) left, w .0, w .1, append-assoc ns (v ∷ []) (map value (fields (drop (suc (before 44 s)) s))))
 
-collected-last : (ns : List ℕ) (left : ℕ) (s : List ℕ) (v : ℕ) → length s ≤ before 44 s → numberIn s ≡ Value v → collected ns left s ≡ (if eqb 1 left then some (ns ++ (v ∷ [])) else none)
+collected-last : (ns : List ℕ) (left : ℕ) (s : List ℕ) (v : ℕ) → length s ≤ before 44 s → readNumber s ≡ Value v → collected ns left s ≡ (if eqb 1 left then some (ns ++ (v ∷ [])) else none)
 unfolding collected allNumbers
 collected-last ns left s v h e =
     let w = spelled-well s v e in
     rw (fields-last s h, w .0, w .1, and-true (eqb 1 left))
 
-collected-ill : (ns : List ℕ) (left : ℕ) (s : List ℕ) → numberIn (take (before 44 s) s) ≡ Misspelled → collected ns left s ≡ none
+collected-ill : (ns : List ℕ) (left : ℕ) (s : List ℕ) → readNumber (take (before 44 s) s) ≡ Misspelled → collected ns left s ≡ none
 unfolding collected allNumbers
 collected-ill ns left s e =
     let f = fields-first s in
@@ -128,17 +128,17 @@ module _ (text : List ℕ) (at end : ℕ) (e : end ≡ at + before 44 (drop at t
   pub end-within : at ≤ length text → end ≤ length text
   end-within h = omega (arith, before-within 44 (drop at text), length-drop at text)
 
-  pub more-at : (ns : List ℕ) (left v : ℕ) → end < length text → numberIn (take (end - at) (drop at text)) ≡ Value v → collected ns (suc left) (drop at text) ≡ collected (ns ++ (v ∷ [])) left (drop (end + 1) text)
+  pub more-at : (ns : List ℕ) (left v : ℕ) → end < length text → readNumber (take (end - at) (drop at text)) ≡ Value v → collected ns (suc left) (drop at text) ≡ collected (ns ++ (v ∷ [])) left (drop (end + 1) text)
   more-at ns left v h n =
       let w : before 44 (drop at text) < length (drop at text) = omega (arith, length-drop at text) in
       let p : at + suc (before 44 (drop at text)) ≡ end + 1 = omega arith in
-      collected-more ns left (drop at text) v w (ap (λ k. numberIn (take k (drop at text))) (sym size) ∙ n)
+      collected-more ns left (drop at text) v w (ap (λ k. readNumber (take k (drop at text))) (sym size) ∙ n)
       ∙ ap (collected (ns ++ (v ∷ [])) left) (drop-drop (suc (before 44 (drop at text))) at text ∙ ap (λ k. drop k text) p)
 
-  pub last-at : (ns : List ℕ) (left v : ℕ) → length text ≤ end → numberIn (take (end - at) (drop at text)) ≡ Value v → collected ns left (drop at text) ≡ (if eqb 1 left then some (ns ++ (v ∷ [])) else none)
+  pub last-at : (ns : List ℕ) (left v : ℕ) → length text ≤ end → readNumber (take (end - at) (drop at text)) ≡ Value v → collected ns left (drop at text) ≡ (if eqb 1 left then some (ns ++ (v ∷ [])) else none)
   last-at ns left v h n =
       let w : length (drop at text) ≤ end - at = omega (arith, length-drop at text) in
-      collected-last ns left (drop at text) v (omega (arith, size)) (ap numberIn (sym (take-all (end - at) (drop at text) w)) ∙ n)
+      collected-last ns left (drop at text) v (omega (arith, size)) (ap readNumber (sym (take-all (end - at) (drop at text) w)) ∙ n)
 
-  pub ill-at : (ns : List ℕ) (left : ℕ) → numberIn (take (end - at) (drop at text)) ≡ Misspelled → collected ns left (drop at text) ≡ none
-  ill-at ns left n = collected-ill ns left (drop at text) (ap (λ k. numberIn (take k (drop at text))) (sym size) ∙ n)
+  pub ill-at : (ns : List ℕ) (left : ℕ) → readNumber (take (end - at) (drop at text)) ≡ Misspelled → collected ns left (drop at text) ≡ none
+  ill-at ns left n = collected-ill ns left (drop at text) (ap (λ k. readNumber (take k (drop at text))) (sym size) ∙ n)

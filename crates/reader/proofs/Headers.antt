@@ -9,7 +9,7 @@ use native.Mathlib.Omega.{arith}
 use lib.ListN.{length, take, drop, getD, drop-of-length-le}
 use lib.Seq.{drop-cons, take-all}
 use Rattle.fund.specs.declared.Refusal.the-variants.{Form, Range}
-use Rattle.fund.specs.Lines.{Line as FundLine, linesFrom, lines}
+use Rattle.fund.specs.Lines.{linesFrom, lines}
 use Rattle.fund.specs.Spelling.{spelled}
 use Rattle.fund.specs.Reading.{stopped, inRanges, HeaderLine, headerLines, headerOf, readHeader, readRows, reading}
 use Rattle.laws.specs.Accepted.{All}
@@ -18,7 +18,7 @@ use Rattle.reader.specs.declared.line.Line.{Line}
 use Rattle.reader.specs.declared.header.HeaderStep.the-variants.{Number, Stopped}
 use Rattle.reader.specs.declared.text.Numbers.{Numbers}
 use Rattle.reader.specs.Text.{numbersIn}
-use Rattle.reader.specs.Lines.{linesAt, lineOf, NextLine}
+use Rattle.reader.specs.Lines.{linesAt, lineIn, NextLine}
 use Rattle.reader.specs.Header.{noLine, headerLine, numbersOf, headerFrom, HeaderStepped}
 use Rattle.reader.proofs.Texts.{numbers-none, numbers-some}
 
@@ -46,15 +46,15 @@ module _ (file : List ℕ) (k at : ℕ) (h : k < length headerLines) (ns : List 
   header-missing g = rw (split k h, drop-of-length-le file g)
 
   module _ (l : Line) (n : NextLine file at l) where
-    pub header-form : spelled (headerLine k .key) (numbersOf k) (lineOf file l) ≡ none → headerFrom file k ns at ≡ stopped Form (k + 1)
+    pub header-form : spelled (headerLine k .key) (numbersOf k) (lineIn file l) ≡ none → headerFrom file k ns at ≡ stopped Form (k + 1)
     unfolding readHeader
     header-form e = rw (split k h, n .first) (rw (e, readHeader))
 
-    module _ (v : List ℕ) (e : spelled (headerLine k .key) (numbersOf k) (lineOf file l) ≡ some (take (numbersOf k) v)) where
-      one : spelled (headerLine k .key) (numbersOf k) (lineOf file l) ≡ some (getD v 0 0 ∷ [])
+    module _ (v : List ℕ) (e : spelled (headerLine k .key) (numbersOf k) (lineIn file l) ≡ some (take (numbersOf k) v)) where
+      one : spelled (headerLine k .key) (numbersOf k) (lineIn file l) ≡ some (getD v 0 0 ∷ [])
       one =
           let z = one-range k h in
-          e ∙ rw z (ap some (one-number v (rw z at (spelled-length (headerLine k .key) (numbersOf k) (lineOf file l) (take (numbersOf k) v) e))))
+          e ∙ rw z (ap some (one-number v (rw z at (spelled-length (headerLine k .key) (numbersOf k) (lineIn file l) (take (numbersOf k) v) e))))
 
       pub header-range : inRanges (headerLine k .ranges) (getD v 0 0 ∷ []) ≡ false → headerFrom file k ns at ≡ stopped Range (k + 1)
       unfolding readHeader
@@ -69,12 +69,12 @@ module _ (file : List ℕ) (k at : ℕ) (h : k < length headerLines) where
   pub step-missing : length file ≤ at → HeaderStepped file k at (Stopped Form)
   step-missing g ns = header-missing file k at h ns g
 
-  module _ (l : Line) (n : NextLine file at l) (r : Numbers) (e : numbersIn (numbersOf k) r ≡ spelled (headerLine k .key) (numbersOf k) (lineOf file l)) where
+  module _ (l : Line) (n : NextLine file at l) (r : Numbers) (e : numbersIn (numbersOf k) r ≡ spelled (headerLine k .key) (numbersOf k) (lineIn file l)) where
     pub step-form : r .spelled ≡ false → HeaderStepped file k at (Stopped Form)
     step-form g ns = header-form file k at h ns l n (sym e ∙ numbers-none (numbersOf k) r g)
 
     module _ (g : r .spelled ≡ true) where
-      is : spelled (headerLine k .key) (numbersOf k) (lineOf file l) ≡ some (take (numbersOf k) (r .values))
+      is : spelled (headerLine k .key) (numbersOf k) (lineIn file l) ≡ some (take (numbersOf k) (r .values))
       is = sym e ∙ numbers-some (numbersOf k) r g
 
       pub step-range : inRanges (headerLine k .ranges) (getD (r .values) 0 0 ∷ []) ≡ false → HeaderStepped file k at (Stopped Range)

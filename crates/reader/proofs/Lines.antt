@@ -16,7 +16,7 @@ use Rattle.fund.specs.Spelling.{behind, numbers, spelled}
 use Rattle.fund.specs.Answer.{empty, lineAt}
 use Rattle.reader.specs.declared.line.Line.{Line}
 use Rattle.reader.specs.Text.{before}
-use Rattle.reader.specs.Lines.{linesAt, lineOf, NextLine, Passed}
+use Rattle.reader.specs.Lines.{linesAt, lineIn, NextLine, Passed}
 use Rattle.reader.proofs.Fields.{before-within}
 
 lines-first : (at m : ℕ) (s : List ℕ) → 0 < length s → m ≡ at + suc (before 10 s) → linesFrom at s ≡ record { start = at; text = take (before 10 s) s; ended = ltb (before 10 s) (length s) } ∷ linesFrom m (drop (suc (before 10 s)) s)
@@ -111,7 +111,7 @@ module _ (file : List ℕ) (passed at : ℕ) (p : Passed file passed at) where
   line-there place l e n =
       rw e
       (sym
-      (getD-first (λ (x : FundLine). record { start = x .start; size = length (x .text) }) (lines file) passed (lineOf file l) (linesAt file (l .next)) empty (p .left ∙ n .first)
+      (getD-first (λ (x : FundLine). record { start = x .start; size = length (x .text) }) (lines file) passed (lineIn file l) (linesAt file (l .next)) empty (p .left ∙ n .first)
       ∙ ap (λ (m : ℕ). record { start = l .start; size = m }) (length-take-le (l .end - l .start) (drop (l .start) file) (omega (arith, length-drop (l .start) file, n .within .inside)))))
 
   pub line-missing : (place : ℕ) → passed ≤ place - 1 → length file ≤ at → empty ≡ lineAt file place
@@ -122,12 +122,7 @@ module _ (file : List ℕ) (passed at : ℕ) (p : Passed file passed at) where
       sym (getD-none (λ (x : FundLine). record { start = x .start; size = length (x .text) }) (lines file) (place - 1) empty (sym (drop-drop (place - 1 - passed) passed (lines file) ∙ ap (λ n. drop n (lines file)) e) ∙ ap (drop (place - 1 - passed)) none-left ∙ drop-of-length-le [] {i = place - 1 - passed} (omega arith)))
 
   pub passed-next : (l : Line) → NextLine file at l → Passed file (passed + 1) (l .next)
-  passed-next l n =
-      record {
-        inside = n .inside;
-        few = omega (arith, p .few, n .later);
-        left = sym (drop-drop 1 passed (lines file)) ∙ ap (drop 1) (p .left ∙ n .first);
-      }
+  passed-next l n = record { left = sym (drop-drop 1 passed (lines file)) ∙ ap (drop 1) (p .left ∙ n .first) }
 
 pub rest-all : (k : ℕ) (s : List ℕ) → take (length s - k) (drop k s) ≡ drop k s
 rest-all k s = take-all (length s - k) (drop k s) (omega (arith, length-drop k s))
@@ -145,14 +140,14 @@ behind-length (k ∷ key) (b ∷ text) rest e = go (eqb k b) e (behind-length ke
 
 -- How a line of a file is spelled.
 module _ (file : List ℕ) (l : Line) (key : List ℕ) (count : ℕ) where
-  pub spelled-open : l .next ≤ l .end → spelled key count (lineOf file l) ≡ none
+  pub spelled-open : l .next ≤ l .end → spelled key count (lineIn file l) ≡ none
   unfolding spelled
   spelled-open h = rw (le-ltb (l .end) (l .next) h)
 
-  pub spelled-not : l .end < l .next → behind key (lineOf file l .text) ≡ none → spelled key count (lineOf file l) ≡ none
+  pub spelled-not : l .end < l .next → behind key (lineIn file l .text) ≡ none → spelled key count (lineIn file l) ≡ none
   unfolding spelled
   spelled-not h e = rw (lt-ltb (l .end) (l .next) h) (rw (e, spelled))
 
-  pub spelled-behind : (rest : List ℕ) → l .end < l .next → behind key (lineOf file l .text) ≡ some rest → spelled key count (lineOf file l) ≡ numbers count rest
+  pub spelled-behind : (rest : List ℕ) → l .end < l .next → behind key (lineIn file l .text) ≡ some rest → spelled key count (lineIn file l) ≡ numbers count rest
   unfolding spelled
   spelled-behind rest h e = rw (lt-ltb (l .end) (l .next) h) (rw (e, spelled))

@@ -11,38 +11,38 @@ use lib.ListN.{length, getD, drop, drop-of-length-le}
 use lib.Seq.{drop-cons}
 use Rattle.fund.specs.Spelling.{digits, isNumber, valueFrom, value}
 use Rattle.reader.specs.declared.text.Number.the-variants.{Value, Misspelled}
-use Rattle.reader.specs.Text.{numberIn}
+use Rattle.reader.specs.Text.{readNumber}
 
-pub number-none : (s : List ℕ) → length s ≡ 0 → numberIn s ≡ Misspelled
-unfolding numberIn isNumber
+pub number-none : (s : List ℕ) → length s ≡ 0 → readNumber s ≡ Misspelled
+unfolding readNumber isNumber
 number-none [] e = refl
 number-none (b ∷ s) e = absurd (omega arith)
 
-pub number-long : (s : List ℕ) → 7 < length s → numberIn s ≡ Misspelled
-unfolding numberIn isNumber
+pub number-long : (s : List ℕ) → 7 < length s → readNumber s ≡ Misspelled
+unfolding readNumber isNumber
 number-long [] h = absurd (omega arith)
 number-long (b ∷ s) h = rw (lt-leb (suc (length s)) 7 h, and-false (digits (b ∷ s)))
 
-pub number-zero : (s : List ℕ) → getD s 0 0 ≡ 48 → length s ≡ 1 → numberIn s ≡ Value 0
-unfolding numberIn isNumber digits value valueFrom
+pub number-zero : (s : List ℕ) → getD s 0 0 ≡ 48 → length s ≡ 1 → readNumber s ≡ Value 0
+unfolding readNumber isNumber digits value valueFrom
 number-zero [] e h = absurd (omega arith)
 number-zero (b ∷ []) e h = rw e
 number-zero (b ∷ x ∷ s) e h = absurd (omega arith)
 
-pub number-leading : (s : List ℕ) → getD s 0 0 ≡ 48 → 1 < length s → numberIn s ≡ Misspelled
-unfolding numberIn isNumber
+pub number-leading : (s : List ℕ) → getD s 0 0 ≡ 48 → 1 < length s → readNumber s ≡ Misspelled
+unfolding readNumber isNumber
 number-leading [] e h = absurd (omega arith)
 number-leading (b ∷ []) e h = absurd (omega arith)
 number-leading (b ∷ x ∷ s) e h =
     rw (eq-eqb b 48 e, ne-eqb (suc (length s)) 0 (λ w. omega arith), and-false (digits (b ∷ x ∷ s) && leb (suc (suc (length s))) 7))
 
-pub number-misspelled : (s : List ℕ) → digits s ≡ false → numberIn s ≡ Misspelled
-unfolding numberIn isNumber
+pub number-misspelled : (s : List ℕ) → digits s ≡ false → readNumber s ≡ Misspelled
+unfolding readNumber isNumber
 number-misspelled [] e = refl
 number-misspelled (b ∷ s) e = rw e
 
-pub number-value : (s : List ℕ) → 0 < length s → length s ≤ 7 → (getD s 0 0 ≡ 48 → ⊥) → digits s ≡ true → numberIn s ≡ Value (value s)
-unfolding numberIn isNumber
+pub number-value : (s : List ℕ) → 0 < length s → length s ≤ 7 → (getD s 0 0 ≡ 48 → ⊥) → digits s ≡ true → readNumber s ≡ Value (value s)
+unfolding readNumber isNumber
 number-value [] h g n e = absurd (omega arith)
 number-value (b ∷ s) h g n e = rw (e, le-leb (suc (length s)) 7 g, ne-eqb b 48 n)
 

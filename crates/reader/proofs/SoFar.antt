@@ -12,12 +12,12 @@ use Rattle.fund.specs.declared.Refusal.{Refusal}
 use Rattle.fund.specs.declared.Verdict.the-variants.{Accepted}
 use Rattle.fund.specs.Limits.{most-rates, most-members}
 use Rattle.fund.specs.Reading.{stopped, headerLines, readRows, reading}
-use Rattle.laws.specs.Rows.{rows-length, rows-put}
+use Rattle.laws.specs.Rows.{blankRate, blankMember, rows-length, rows-put}
 use Rattle.reader.specs.declared.FileRead.{FileRead}
 use Rattle.reader.specs.declared.row.RowStep.the-variants.{Rate as RateNext, Member as MemberNext, End, Stopped}
 use Rattle.reader.specs.Lines.{linesAt}
 use Rattle.reader.specs.Rows.{leastAge, rowsFrom, RowStepped}
-use Rattle.reader.specs.Read.{noRate, noMember, rateTable, memberTable, fileRead}
+use Rattle.reader.specs.Read.{rateTable, memberTable, fileRead}
 use Rattle.reader.proofs.Rows.{least-last}
 
 pub record RowsSoFar (file : List ℕ) (fund : Fund) (rates : List Rate) (members : List Member) (rated enrolled least at : ℕ) : Type 0 where
@@ -52,11 +52,11 @@ start file fund at e =
 module _ (file : List ℕ) (fund : Fund) (rates : List Rate) (members : List Member) (rated enrolled least at : ℕ) (s : RowsSoFar file fund rates members rated enrolled least at) where
   pub rates-long : length rates ≡ most-rates
   unfolding rateTable
-  rates-long = ap length (s .rates-are) ∙ rows-length noRate most-rates (s .rs) (omega (arith, s .rated-is, s .few-rates))
+  rates-long = ap length (s .rates-are) ∙ rows-length blankRate most-rates (s .rs) (omega (arith, s .rated-is, s .few-rates))
 
   pub members-long : length members ≡ most-members
   unfolding memberTable
-  members-long = ap length (s .members-are) ∙ rows-length noMember most-members (s .ms) (omega (arith, s .enrolled-is, s .few-members))
+  members-long = ap length (s .members-are) ∙ rows-length blankMember most-members (s .ms) (omega (arith, s .enrolled-is, s .few-members))
 
   pub rate-taken : (r : Rate) (next : ℕ) → RowStepped file at rated enrolled least (RateNext r next) → RowsSoFar file fund (set rates rated r) members (rated + 1) enrolled (r .age + 1) next
   unfolding rateTable
@@ -65,7 +65,7 @@ module _ (file : List ℕ) (fund : Fund) (rates : List Rate) (members : List Mem
       record {
         rs = s .rs ++ (r ∷ []);
         ms = s .ms;
-        rates-are = rw (s .rates-are, ← s .rated-is) (rows-put noRate r most-rates (s .rs) (omega (arith, s .rated-is, few)));
+        rates-are = rw (s .rates-are, ← s .rated-is) (rows-put blankRate r most-rates (s .rs) (omega (arith, s .rated-is, few)));
         members-are = s .members-are;
         rated-is = omega (arith, length-append (s .rs) (r ∷ []), s .rated-is);
         enrolled-is = s .enrolled-is;
@@ -83,7 +83,7 @@ module _ (file : List ℕ) (fund : Fund) (rates : List Rate) (members : List Mem
         rs = s .rs;
         ms = s .ms ++ (m ∷ []);
         rates-are = s .rates-are;
-        members-are = rw (s .members-are, ← s .enrolled-is) (rows-put noMember m most-members (s .ms) (omega (arith, s .enrolled-is, few)));
+        members-are = rw (s .members-are, ← s .enrolled-is) (rows-put blankMember m most-members (s .ms) (omega (arith, s .enrolled-is, few)));
         rated-is = s .rated-is;
         enrolled-is = omega (arith, length-append (s .ms) (m ∷ []), s .enrolled-is);
         few-rates = s .few-rates;

@@ -1,5 +1,5 @@
 -- Laws of the rows: each step of the definition `readRows`, at a line of a file and at the file's end.
-use mathlib.Core.Path.{_≡_, refl, sym, ap, _∙_}
+use mathlib.Core.Path.{_≡_, sym, ap, _∙_}
 use mathlib.Core.Bool.{true, false}
 use mathlib.Core.List.{List, [], _∷_, _++_}
 use Prim.Native.Nat.{ℕ, suc, _+_, _≤_, _<_}
@@ -12,11 +12,11 @@ use Rattle.fund.specs.declared.Member.{Member}
 use Rattle.fund.specs.declared.Refusal.{Refusal}
 use Rattle.fund.specs.declared.Refusal.the-variants.{Form, Range}
 use Rattle.fund.specs.Lines.{Line as FundLine, linesFrom}
-use Rattle.fund.specs.Reading.{stopped, headerLines, rowOf, rateRow, memberRow, endRow, otherRow, rateInRange, memberInRange, noMember, atEnd, readRows}
+use Rattle.fund.specs.Reading.{stopped, rowOf, rateRow, memberRow, endRow, otherRow, rateInRange, memberInRange, noMember, atEnd, readRows}
 use Rattle.reader.specs.declared.line.Line.{Line}
 use Rattle.reader.specs.declared.row.RowStep.the-variants.{Rate as RateNext, Member as MemberNext, End, Stopped}
-use Rattle.reader.specs.Lines.{linesAt, lineOf, NextLine}
-use Rattle.reader.specs.Rows.{placeOf, leastAge, rateFits, memberFits, rowsFrom, RowStepped}
+use Rattle.reader.specs.Lines.{linesAt, lineIn, NextLine}
+use Rattle.reader.specs.Rows.{linePlace, leastAge, rateFits, memberFits, rowsFrom, RowStepped}
 use Rattle.reader.proofs.Lines.{line-left}
 use Rattle.reader.proofs.Rows.{rate-fits, member-fits, no-member, some-member, fits-rated, fits-enrolled}
 
@@ -59,8 +59,8 @@ module _ (n : ℕ) (fund : Fund) (rs : List Rate) (ms : List Member) (l : FundLi
     rows-end f = rw (e, readRows) (rw (eq-eqb k (length ms) f, readRows))
 
 -- What a line answers, behind rows of these counts.
-module _ (file : List ℕ) (at rated enrolled least place : ℕ) (p : place ≡ placeOf rated enrolled) where
-  here : (rs : List Rate) (ms : List Member) → length rs ≡ rated → length ms ≡ enrolled → placeOf (length rs) (length ms) ≡ place
+module _ (file : List ℕ) (at rated enrolled least place : ℕ) (p : place ≡ linePlace rated enrolled) where
+  here : (rs : List Rate) (ms : List Member) → length rs ≡ rated → length ms ≡ enrolled → linePlace (length rs) (length ms) ≡ place
   here rs ms a b = rw (a, b, p)
 
   pub step-missing : length file ≤ at → RowStepped file at rated enrolled least (Stopped Form place)
@@ -72,15 +72,15 @@ module _ (file : List ℕ) (at rated enrolled least place : ℕ) (p : place ≡ 
     stop
         : (why : Refusal)
         → ((fund : Fund) (rs : List Rate) (ms : List Member) → length rs ≡ rated → length ms ≡ enrolled → leastAge rs ≡ least →
-        readRows (placeOf (length rs) (length ms)) fund rs ms (lineOf file l ∷ linesAt file (l .next)) ≡ stopped why (placeOf (length rs) (length ms)))
+        readRows (linePlace (length rs) (length ms)) fund rs ms (lineIn file l ∷ linesAt file (l .next)) ≡ stopped why (linePlace (length rs) (length ms)))
         → RowStepped file at rated enrolled least (Stopped why place)
     stop why is =
         record { takes = tt; same = λ fund rs ms a b c. rw (n .first) (is fund rs ms a b c) ∙ ap (stopped why) (here rs ms a b) }
 
-    pub step-other : rowOf (lineOf file l) ≡ otherRow → RowStepped file at rated enrolled least (Stopped Form place)
+    pub step-other : rowOf (lineIn file l) ≡ otherRow → RowStepped file at rated enrolled least (Stopped Form place)
     step-other o = stop Form (λ fund rs ms a b c. rows-other _ fund rs ms _ _ o)
 
-    module _ (r : Rate) (o : rowOf (lineOf file l) ≡ rateRow r) where
+    module _ (r : Rate) (o : rowOf (lineIn file l) ≡ rateRow r) where
       pub step-order : 0 < enrolled → RowStepped file at rated enrolled least (Stopped Form place)
       step-order h = stop Form (λ fund rs ms a b c. rows-order _ fund rs ms _ _ r o (some-member ms (omega arith)))
 
@@ -95,12 +95,12 @@ module _ (file : List ℕ) (at rated enrolled least place : ℕ) (p : place ≡ 
             record {
               takes = (record { later = n .later; inside = n .inside; few = w .0 }, w .1);
               same = λ fund rs ms a b c.
-                  let z : suc (placeOf (length rs) (length ms)) ≡ placeOf (length (rs ++ (r ∷ []))) (length ms) = omega (arith, length-append rs (r ∷ [])) in
+                  let z : suc (linePlace (length rs) (length ms)) ≡ linePlace (length (rs ++ (r ∷ []))) (length ms) = omega (arith, length-append rs (r ∷ [])) in
                   rw (n .first) (rows-rate _ fund rs ms _ _ r o (no-member ms (b ∙ h)) (rate-fits rs r ∙ rw (a, c) f))
                   ∙ ap (λ k. readRows k fund (rs ++ (r ∷ [])) ms (linesAt file (l .next))) z;
             }
 
-    module _ (m : Member) (o : rowOf (lineOf file l) ≡ memberRow m) where
+    module _ (m : Member) (o : rowOf (lineIn file l) ≡ memberRow m) where
       pub step-member-out : memberFits enrolled m ≡ false → RowStepped file at rated enrolled least (Stopped Range place)
       step-member-out f = stop Range (λ fund rs ms a b c. rows-member-out _ fund rs ms _ _ m o (member-fits ms m ∙ rw b f))
 
@@ -109,18 +109,18 @@ module _ (file : List ℕ) (at rated enrolled least place : ℕ) (p : place ≡ 
           record {
             takes = record { later = n .later; inside = n .inside; few = fits-enrolled enrolled m f };
             same = λ fund rs ms a b c.
-                let z : suc (placeOf (length rs) (length ms)) ≡ placeOf (length rs) (length (ms ++ (m ∷ []))) = omega (arith, length-append ms (m ∷ [])) in
+                let z : suc (linePlace (length rs) (length ms)) ≡ linePlace (length rs) (length (ms ++ (m ∷ []))) = omega (arith, length-append ms (m ∷ [])) in
                 rw (n .first) (rows-member _ fund rs ms _ _ m o (member-fits ms m ∙ rw b f))
                 ∙ ap (λ k. readRows k fund rs (ms ++ (m ∷ [])) (linesAt file (l .next))) z;
           }
 
-    module _ (k : ℕ) (o : rowOf (lineOf file l) ≡ endRow k) where
+    module _ (k : ℕ) (o : rowOf (lineIn file l) ≡ endRow k) where
       pub step-count : (k ≡ enrolled → ⊥) → RowStepped file at rated enrolled least (Stopped Range place)
       step-count f = stop Range (λ fund rs ms a b c. rows-count _ fund rs ms _ _ k o (λ w. f (w ∙ b)))
 
       module _ (e : k ≡ enrolled) where
         ended : (fund : Fund) (rs : List Rate) (ms : List Member) → length ms ≡ enrolled →
-            rowsFrom file fund rs ms at ≡ atEnd (suc (placeOf (length rs) (length ms))) (record { header = fund; rates = rs; members = ms }) (linesAt file (l .next))
+            rowsFrom file fund rs ms at ≡ atEnd (suc (linePlace (length rs) (length ms))) (record { header = fund; rates = rs; members = ms }) (linesAt file (l .next))
         ended fund rs ms b = rw (n .first) (rows-end _ fund rs ms _ _ k o (e ∙ sym b))
 
         pub step-more : l .next < length file → RowStepped file at rated enrolled least (Stopped Form (place + 1))
@@ -129,7 +129,7 @@ module _ (file : List ℕ) (at rated enrolled least place : ℕ) (p : place ≡ 
             record {
               takes = tt;
               same = λ fund rs ms a b c.
-                  let z : suc (placeOf (length rs) (length ms)) ≡ place + 1 = omega (arith, here rs ms a b) in
+                  let z : suc (linePlace (length rs) (length ms)) ≡ place + 1 = omega (arith, here rs ms a b) in
                   let w = line-left file (l .next) h in
                   ended fund rs ms b ∙ rw (w .1 .1) (ap (stopped Form) z);
             }

@@ -11,22 +11,20 @@ use Rattle.reader.specs.declared.line.Line.{Line}
 abbrev pub linesAt : List ℕ → ℕ → List FundLine
 linesAt file at = linesFrom at (drop at file)
 
-abbrev pub lineOf : List ℕ → Line → FundLine
-lineOf file l = record { start = l .start; text = take (l .end - l .start) (drop (l .start) file); ended = ltb (l .end) (l .next) }
+abbrev pub lineIn : List ℕ → Line → FundLine
+lineIn file l = record { start = l .start; text = take (l .end - l .start) (drop (l .start) file); ended = ltb (l .end) (l .next) }
 
-pub record Within (file : List ℕ) (l : Line) : Type 0 where
+pub record LineInside (file : List ℕ) (l : Line) : Type 0 where
   pub ordered : l .start ≤ l .end
   pub inside : l .end ≤ length file
 
 -- The line at a place, and the place of the next.
 pub record NextLine (file : List ℕ) (at : ℕ) (l : Line) : Type 0 where
-  pub within : Within file l
+  pub within : LineInside file l
   pub later : at < l .next
   pub inside : l .next ≤ length file
-  pub first : linesAt file at ≡ lineOf file l ∷ linesAt file (l .next)
+  pub first : linesAt file at ≡ lineIn file l ∷ linesAt file (l .next)
 
 -- The lines from `at` on are the file's after those that were passed.
 pub record Passed (file : List ℕ) (passed at : ℕ) : Type 0 where
-  pub inside : at ≤ length file
-  pub few : passed ≤ at
   pub left : drop passed (lines file) ≡ linesAt file at

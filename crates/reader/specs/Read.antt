@@ -8,23 +8,18 @@ use Rattle.fund.specs.declared.Verdict.the-variants.{Accepted, Refused}
 use Rattle.fund.specs.Limits.{most-rates, most-members}
 use Rattle.fund.specs.Reading.{Reading, read, stopped}
 use Rattle.fund.specs.Answer.{lent}
+use Rattle.laws.specs.Rows.{blankRate, blankMember}
 use Rattle.reader.specs.declared.FileRead.{FileRead}
 
-abbrev pub noFund : Fund
-noFund = record { rates = 0; members = 0; horizon = 0; order = 0; frequency = 0; deductible = 0 }
-
-abbrev pub noRate : Rate
-noRate = record { age = 0; q = 0; i = 0 }
-
-abbrev pub noMember : Member
-noMember = record { age = 0; group = 0; d = 0; e = 0 }
+abbrev pub blankFund : Fund
+blankFund = record { rates = 0; members = 0; horizon = 0; order = 0; frequency = 0; deductible = 0 }
 
 -- Tables that begin with the given rows and are blank behind them.
 unfoldable pub rateTable : List Rate → List Rate
-rateTable rows = lent noRate most-rates rows
+rateTable rows = lent blankRate most-rates rows
 
 unfoldable pub memberTable : List Member → List Member
-memberTable rows = lent noMember most-members rows
+memberTable rows = lent blankMember most-members rows
 
 -- A fund's header and tables, or the refusal and its line.
 unfoldable pub fileRead : Reading → FileRead
@@ -40,7 +35,7 @@ fileRead (read f) =
 fileRead (stopped why place) =
     record {
       verdict = Refused why place;
-      fund = noFund;
+      fund = blankFund;
       rates = rateTable [];
       rated = 0;
       members = memberTable [];

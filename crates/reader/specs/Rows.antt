@@ -23,8 +23,8 @@ rowIn (EndLine n) = endRow n
 rowIn Other = otherRow
 
 -- The place of the line behind the header and so many rows.
-abbrev pub placeOf : ℕ → ℕ → ℕ
-placeOf rated enrolled = suc (length headerLines + rated + enrolled)
+abbrev pub linePlace : ℕ → ℕ → ℕ
+linePlace rated enrolled = suc (length headerLines + rated + enrolled)
 
 -- "strictly rising": the least age that a row behind these may have.
 unfoldable pub leastAge : List Rate → ℕ
@@ -52,7 +52,7 @@ memberFits enrolled m =
 
 -- The reading from a place on, behind the rows that are read.
 abbrev pub rowsFrom : List ℕ → Fund → List Rate → List Member → ℕ → Reading
-rowsFrom file fund rs ms at = readRows (placeOf (length rs) (length ms)) fund rs ms (linesAt file at)
+rowsFrom file fund rs ms at = readRows (linePlace (length rs) (length ms)) fund rs ms (linesAt file at)
 
 -- The reading after a line, behind the rows before it.
 abbrev pub afterRowLine : List ℕ → Fund → List Rate → List Member → RowStep → Reading

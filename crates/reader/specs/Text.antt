@@ -21,8 +21,8 @@ abbrev pub behindIf : Bool → ℕ → List ℕ → Option (List ℕ)
 behindIf true n text = some (drop n text)
 behindIf false n text = none
 
-unfoldable pub numberIn : List ℕ → Number
-numberIn text = if isNumber text then Value (value text) else Misspelled
+unfoldable pub readNumber : List ℕ → Number
+readNumber text = if isNumber text then Value (value text) else Misspelled
 
 -- The first numbers of an answer, where the text is spelled so.
 unfoldable pub numbersIn : ℕ → Numbers → Option (List ℕ)

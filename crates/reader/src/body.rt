@@ -9,12 +9,13 @@ use fund::Refusal;
 use fund::Verdict;
 ghost use mathlib.Core.Path.{_≡_};
 ghost use Rattle.fund.specs.Reading.{stopped, reading};
+ghost use Rattle.laws.specs.Rows.{blankRate, blankMember};
 ghost use Rattle.reader.specs.declared.header.Header.the-variants.{Whole};
 ghost use Rattle.reader.specs.Header.{HeaderRead};
-ghost use Rattle.reader.specs.Read.{noFund, noRate, noMember, fileRead};
+ghost use Rattle.reader.specs.Read.{blankFund, fileRead};
 
 fn no_fund() -> Fund
-    ensures { λ r. ⌜ r ≡ noFund ⌝ }
+    ensures { λ r. ⌜ r ≡ blankFund ⌝ }
 {
     Fund {
         rates: 0,
@@ -27,13 +28,13 @@ fn no_fund() -> Fund
 }
 
 fn no_rate() -> Rate
-    ensures { λ r. ⌜ r ≡ noRate ⌝ }
+    ensures { λ r. ⌜ r ≡ blankRate ⌝ }
 {
     Rate { age: 0, q: 0, i: 0 }
 }
 
 fn no_member() -> Member
-    ensures { λ r. ⌜ r ≡ noMember ⌝ }
+    ensures { λ r. ⌜ r ≡ blankMember ⌝ }
 {
     Member {
         age: 0,
@@ -44,7 +45,7 @@ fn no_member() -> Member
 }
 
 // A refusal at a line; all else is blank.
-pub(crate) fn refused(why: Refusal, place: u64) -> FileRead
+pub(crate) fn without_rows(why: Refusal, place: u64) -> FileRead
     ensures { λ r. ⌜ r ≡ fileRead (stopped why place) ⌝ }
 {
     let fund = no_fund();
@@ -76,7 +77,7 @@ pub(crate) fn read_rows(file: &[u8], fund: Fund, start: usize) -> FileRead
     let mut least: u64 = 0;
     let mut at = start;
     loop {
-        match row::step(file, at, rated, enrolled, least) {
+        match row::row_step(file, at, rated, enrolled, least) {
             RowStep::Rate(r, next) => {
                 rates[rated] = r;
                 rated += 1;
@@ -101,7 +102,7 @@ pub(crate) fn read_rows(file: &[u8], fund: Fund, start: usize) -> FileRead
                 };
             }
             RowStep::Stopped(why, place) => {
-                return refused(why, place);
+                return without_rows(why, place);
             }
         }
     }

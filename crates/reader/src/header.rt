@@ -11,7 +11,7 @@ ghost use lib.ListN.{length};
 ghost use Rattle.fund.specs.Spelling.{spelled};
 ghost use Rattle.fund.specs.Reading.{between, inRanges, headerLines};
 ghost use Rattle.reader.specs.Text.{numbersIn};
-ghost use Rattle.reader.specs.Lines.{lineOf, Within};
+ghost use Rattle.reader.specs.Lines.{lineIn, LineInside};
 ghost use Rattle.reader.specs.Header.{headerLine, numbersOf, HeaderStepped, HeaderRead};
 
 // What a header line gives: its number and the next line's start, or why reading stops at it.
@@ -37,9 +37,9 @@ pub(crate) fn within(least: u64, most: u64, n: u64) -> bool
 
 // The numbers of the header line k.
 fn numbers_at(file: &[u8], line: Line, k: usize) -> Numbers
-    requires { ⌜ Within (now file) line ⌝ }
+    requires { ⌜ LineInside (now file) line ⌝ }
     requires { ⌜ k < length headerLines ⌝ }
-    ensures { λ r. ⌜ numbersIn (numbersOf k) r ≡ spelled (headerLine k .key) (numbersOf k) (lineOf (now (file .entry)) line) ⌝ }
+    ensures { λ r. ⌜ numbersIn (numbersOf k) r ≡ spelled (headerLine k .key) (numbersOf k) (lineIn (now (file .entry)) line) ⌝ }
 {
     match k {
         0 => line::spelled(file, line, b"rates=", 1),
@@ -52,7 +52,7 @@ fn numbers_at(file: &[u8], line: Line, k: usize) -> Numbers
 }
 
 // Whether n is in the range of the header line k, which has one number.
-fn in_range(k: usize, n: u64) -> bool
+fn header_in_range(k: usize, n: u64) -> bool
     requires { ⌜ k < length headerLines ⌝ }
     ensures { λ r. ⌜ r ≡ inRanges (headerLine k .ranges) (n ∷ []) ⌝ }
 {
@@ -67,7 +67,7 @@ fn in_range(k: usize, n: u64) -> bool
 }
 
 // The header line k, which starts at `at`: form before range.
-fn step(file: &[u8], at: usize, k: usize) -> HeaderStep
+fn header_step(file: &[u8], at: usize, k: usize) -> HeaderStep
     requires { ⌜ k < length headerLines ⌝ }
     ensures { λ r. ⌜ HeaderStepped (now (file .entry)) k at r ⌝ }
 {
@@ -79,7 +79,7 @@ fn step(file: &[u8], at: usize, k: usize) -> HeaderStep
     if ns.spelled {
         let values = ns.values;
         let n = values[0];
-        if in_range(k, n) {
+        if header_in_range(k, n) {
             return HeaderStep::Number(n, l.next);
         }
         return HeaderStep::Stopped(Refusal::Range);
@@ -94,7 +94,7 @@ pub(crate) fn read_header(file: &[u8]) -> Header
     let mut at: usize = 0;
     let mut k: usize = 0;
     while k < Fund::HEADER_LINES {
-        match step(file, at, k) {
+        match header_step(file, at, k) {
             HeaderStep::Stopped(why) => {
                 return Header::Stopped(why, k as u64 + 1);
             }

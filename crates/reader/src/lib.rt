@@ -34,6 +34,6 @@ pub fn read(file: &[u8]) -> FileRead
 {
     match header::read_header(file) {
         Header::Whole(fund, at) => body::read_rows(file, fund, at),
-        Header::Stopped(why, place) => body::refused(why, place),
+        Header::Stopped(why, place) => body::without_rows(why, place),
     }
 }

@@ -6,7 +6,7 @@ ghost use Prim.Native.Nat.{_≤_, _<_};
 ghost use lib.ListN.{length};
 ghost use Rattle.fund.specs.Spelling.{spelled};
 ghost use Rattle.reader.specs.Text.{numbersIn};
-ghost use Rattle.reader.specs.Lines.{lineOf, Within, NextLine};
+ghost use Rattle.reader.specs.Lines.{lineIn, LineInside, NextLine};
 
 // A line is the bytes from start to end; the next one starts at next, which is behind end where the line feed is there.
 pub(crate) struct Line {
@@ -67,9 +67,9 @@ pub(crate) fn next_line(file: &[u8], at: usize) -> Line
 
 // The numbers of a line `key=..`, where there are just `count`. "A last line without its line feed is form."
 pub(crate) fn spelled(file: &[u8], line: Line, key: &[u8], count: usize) -> Numbers
-    requires { ⌜ Within (now file) line ⌝ }
+    requires { ⌜ LineInside (now file) line ⌝ }
     requires { ⌜ count ≤ 4 ⌝ }
-    ensures { λ r. ⌜ numbersIn count r ≡ spelled (now (key .entry)) count (lineOf (now (file .entry)) line) ⌝ }
+    ensures { λ r. ⌜ numbersIn count r ≡ spelled (now (key .entry)) count (lineIn (now (file .entry)) line) ⌝ }
 {
     let start = line.start;
     let end = line.end;

@@ -10,8 +10,8 @@ ghost use mathlib.Core.Path.{_≡_};
 ghost use Prim.Native.Nat.{_≤_};
 ghost use Rattle.fund.specs.Limits.{most-rates, most-members};
 ghost use Rattle.fund.specs.Reading.{rowOf};
-ghost use Rattle.reader.specs.Lines.{lineOf, Within};
-ghost use Rattle.reader.specs.Rows.{rowIn, placeOf, rateFits, memberFits, RowStepped};
+ghost use Rattle.reader.specs.Lines.{lineIn, LineInside};
+ghost use Rattle.reader.specs.Rows.{rowIn, linePlace, rateFits, memberFits, RowStepped};
 
 pub(crate) enum Row {
     Rate(Rate),
@@ -29,8 +29,8 @@ pub(crate) enum RowStep {
 }
 
 pub(crate) fn row_of(file: &[u8], line: Line) -> Row
-    requires { ⌜ Within (now file) line ⌝ }
-    ensures { λ r. ⌜ rowIn r ≡ rowOf (lineOf (now (file .entry)) line) ⌝ }
+    requires { ⌜ LineInside (now file) line ⌝ }
+    ensures { λ r. ⌜ rowIn r ≡ rowOf (lineIn (now (file .entry)) line) ⌝ }
 {
     let rate = line::spelled(file, line, b"rate=", 3);
     if rate.spelled {
@@ -60,9 +60,9 @@ pub(crate) fn row_of(file: &[u8], line: Line) -> Row
 }
 
 // The place of the line behind the header and so many rows, counted from 1.
-fn place(rated: usize, enrolled: usize) -> u64
+fn line_place(rated: usize, enrolled: usize) -> u64
     requires { ⌜ (rated ≤ most-rates) × (enrolled ≤ most-members) ⌝ }
-    ensures { λ r. ⌜ r ≡ placeOf rated enrolled ⌝ }
+    ensures { λ r. ⌜ r ≡ linePlace rated enrolled ⌝ }
 {
     Fund::HEADER_LINES as u64 + rated as u64 + enrolled as u64 + 1
 }
@@ -109,11 +109,11 @@ fn member_in_range(enrolled: usize, m: Member) -> bool
 
 // The line at `at`, behind the rows before it. A rate line after a member line breaks the order. `end=`: "the number of
 // member lines; nothing after it."
-pub(crate) fn step(file: &[u8], at: usize, rated: usize, enrolled: usize, least: u64) -> RowStep
+pub(crate) fn row_step(file: &[u8], at: usize, rated: usize, enrolled: usize, least: u64) -> RowStep
     requires { ⌜ (rated ≤ most-rates) × (enrolled ≤ most-members) ⌝ }
     ensures { λ r. ⌜ RowStepped (now (file .entry)) at rated enrolled least r ⌝ }
 {
-    let here = place(rated, enrolled);
+    let here = line_place(rated, enrolled);
     if file.len() <= at {
         return RowStep::Stopped(Refusal::Form, here);
     }

@@ -3,7 +3,7 @@ ghost use mathlib.Core.Path.{_≡_};
 ghost use Prim.Native.Nat.{_+_, _≤_};
 ghost use lib.ListN.{length, drop};
 ghost use Rattle.fund.specs.Spelling.{behind, numbers};
-ghost use Rattle.reader.specs.Text.{before, behindIf, numberIn, numbersIn};
+ghost use Rattle.reader.specs.Text.{before, behindIf, readNumber, numbersIn};
 
 // A number of one to seven digits.
 pub(crate) enum Number {
@@ -50,7 +50,7 @@ pub(crate) fn begins(text: &[u8], key: &[u8]) -> bool
 
 // "decimal, without sign, space or leading zero (0 itself is `0`), of one to seven digits"
 pub(crate) fn number_of(text: &[u8]) -> Number
-    ensures { λ r. ⌜ r ≡ numberIn (now (text .entry)) ⌝ }
+    ensures { λ r. ⌜ r ≡ readNumber (now (text .entry)) ⌝ }
 {
     let n = text.len();
     if n == 0 {

@@ -7,7 +7,7 @@ use native.Mathlib.Nat.{add-zero, add-suc, suc-add, zero-add}
 use native.Mathlib.Omega.{arith}
 use lib.ListN.{length, take, drop, length-append}
 use lib.Seq.{sets, length-sets, sets-eq, take-at, drop-at}
-use Rattle.text.specs.Writing.{Room, Put, Written}
+use Rattle.text.specs.Writing.{HasRoom, Put, Written}
 
 pub sets-append : (a b text : List ℕ) (at : ℕ) → sets (sets text at a) (at + length a) b ≡ sets text at (a ++ b)
 sets-append [] b text at = rw add-zero
@@ -24,11 +24,11 @@ put-then {before} {at} {a} {middle} {m} {b} p q =
       stored = q .stored ∙ rw (p .behind, p .stored) (sets-append a b before at);
     }
 
-pub room-first : {text : List ℕ} {at : ℕ} (a b : List ℕ) → Room text at (a ++ b) → Room text at a
+pub room-first : {text : List ℕ} {at : ℕ} (a b : List ℕ) → HasRoom text at (a ++ b) → HasRoom text at a
 room-first a b room = record { fits = omega (arith, room .fits, length-append a b) }
 
 pub room-then : {text : List ℕ} {at : ℕ} (a b : List ℕ) {middle : List ℕ} {m : ℕ}
-    → Room text at (a ++ b) → Put text at a middle m → Room middle m b
+    → HasRoom text at (a ++ b) → Put text at a middle m → HasRoom middle m b
 room-then a b room p = record { fits = omega (arith, room .fits, length-append a b, p .behind, put-length p) }
 
 -- From the start of a text, and nothing at all.
@@ -54,7 +54,7 @@ pub left-all : (text : List ℕ) (at : ℕ) (piece : List ℕ) → Left text at 
 left-all text at piece = record { place = refl; text = refl; size = refl }
 
 pub left-room : {before : List ℕ} {at : ℕ} {piece now : List ℕ} {next : ℕ} (a rest : List ℕ)
-    → Room before at piece → Left before at piece now next (a ++ rest) → Room now next a
+    → HasRoom before at piece → Left before at piece now next (a ++ rest) → HasRoom now next a
 left-room a rest room l = record { fits = omega (arith, room .fits, l .place, l .size, length-append a rest) }
 
 pub left-step : {before : List ℕ} {at : ℕ} {piece now : List ℕ} {next : ℕ} (a rest : List ℕ) {after : List ℕ} {behind : ℕ}

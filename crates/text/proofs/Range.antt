@@ -16,11 +16,11 @@ use Rattle.fund.specs.Base.{if_then_else_}
 use Rattle.fund.specs.Limits.{most-horizon, most-truncation}
 use Rattle.fund.specs.Answer.{Answer}
 use Rattle.fund.specs.Listing.{printed, listed, refusedLine}
-use Rattle.text.specs.Shown.{room, bounded, inRange, shown}
-use Rattle.text.specs.Pieces.{head, foot, lines, Given}
+use Rattle.text.specs.Shown.{room, bounded, printable, listingOf}
+use Rattle.text.specs.Pieces.{head, foot, acceptedLines, PrintableCells}
 use Rattle.text.proofs.Pieces.{and-left, and-right}
 
-pub record InRange (E X cells : ℕ) (R : List ℕ) (size : ℕ) : Type 0 where
+pub record Printable (E X cells : ℕ) (R : List ℕ) (size : ℕ) : Type 0 where
   pub horizon : X ≤ most-horizon
   pub enough-f : X < cells
   pub enough-R : X < length R
@@ -28,8 +28,8 @@ pub record InRange (E X cells : ℕ) (R : List ℕ) (size : ℕ) : Type 0 where
   pub enough-text : room ≤ size
   pub bounds : bounded (take (suc X) R) ≡ true
 
-pub in-range : (E X cells : ℕ) (R : List ℕ) (size : ℕ) → inRange E X cells R size ≡ true → InRange E X cells R size
-unfolding inRange
+pub in-range : (E X cells : ℕ) (R : List ℕ) (size : ℕ) → printable E X cells R size ≡ true → Printable E X cells R size
+unfolding printable
 in-range E X cells R size e =
     let e₁ = and-right (leb X most-horizon) _ e in
     let e₂ = and-right (ltb X cells) _ e₁ in
@@ -45,31 +45,31 @@ in-range E X cells R size e =
     }
 
 -- The figures of the cells 0 to X.
-pub given : {E X : ℕ} (f : List ℤ) (R : List ℕ) {size : ℕ} → InRange E X (length f) R size → Given E (take (X + 1) f) (take (X + 1) R)
+pub given : {E X : ℕ} (f : List ℤ) (R : List ℕ) {size : ℕ} → Printable E X (length f) R size → PrintableCells E (take (X + 1) f) (take (X + 1) R)
 given {E} {X} f R h =
     let n : length (take (X + 1) f) ≡ X + 1 = length-take-le (X + 1) f (omega (arith, h .enough-f)) in
     let m : length (take (X + 1) R) ≡ X + 1 = length-take-le (X + 1) R (omega (arith, h .enough-R)) in
     record { counts = n ∙ sym m; most = omega (arith, h .horizon); truncation = h .truncation; bounds = rw add-one (h .bounds) }
 
 module _ (a : Answer) (X size : ℕ) where
-  pub shown-out : inRange (a .figures .truncation) X (length (a .f)) (a .R) size ≡ false → shown a X size ≡ []
-  unfolding shown
-  shown-out e = ap (λ b. if b then printed a X (a .verdict) else []) e
+  pub listing-out : printable (a .figures .truncation) X (length (a .f)) (a .R) size ≡ false → listingOf a X size ≡ []
+  unfolding listingOf
+  listing-out e = ap (λ b. if b then printed a X (a .verdict) else []) e
 
-  pub shown-in : inRange (a .figures .truncation) X (length (a .f)) (a .R) size ≡ true → shown a X size ≡ printed a X (a .verdict)
-  unfolding shown
-  shown-in e = ap (λ b. if b then printed a X (a .verdict) else []) e
+  pub listing-in : printable (a .figures .truncation) X (length (a .f)) (a .R) size ≡ true → listingOf a X size ≡ printed a X (a .verdict)
+  unfolding listingOf
+  listing-in e = ap (λ b. if b then printed a X (a .verdict) else []) e
 
-  listed-lines : listed X a ≡ lines (a .figures) (take (X + 1) (a .f)) (take (X + 1) (a .R))
-  unfolding listed lines head foot
+  listed-lines : listed X a ≡ acceptedLines (a .figures) (take (X + 1) (a .f)) (take (X + 1) (a .R))
+  unfolding listed acceptedLines head foot
   listed-lines = rw add-one (simp append-assoc)
 
-  pub shown-accepted : inRange (a .figures .truncation) X (length (a .f)) (a .R) size ≡ true → a .verdict ≡ Accepted
-      → shown a X size ≡ lines (a .figures) (take (X + 1) (a .f)) (take (X + 1) (a .R))
+  pub listing-accepted : printable (a .figures .truncation) X (length (a .f)) (a .R) size ≡ true → a .verdict ≡ Accepted
+      → listingOf a X size ≡ acceptedLines (a .figures) (take (X + 1) (a .f)) (take (X + 1) (a .R))
   unfolding printed
-  shown-accepted e v = shown-in e ∙ ap (printed a X) v ∙ listed-lines
+  listing-accepted e v = listing-in e ∙ ap (printed a X) v ∙ listed-lines
 
-  pub shown-refused : (why : Refusal) (place : ℕ) → inRange (a .figures .truncation) X (length (a .f)) (a .R) size ≡ true → a .verdict ≡ Refused why place
-      → shown a X size ≡ refusedLine why place
+  pub listing-refused : (why : Refusal) (place : ℕ) → printable (a .figures .truncation) X (length (a .f)) (a .R) size ≡ true → a .verdict ≡ Refused why place
+      → listingOf a X size ≡ refusedLine why place
   unfolding printed
-  shown-refused why place e v = shown-in e ∙ ap (printed a X) v
+  listing-refused why place e v = listing-in e ∙ ap (printed a X) v

@@ -1,4 +1,4 @@
--- How long a piece can be: a word has at most 20 digits, and so a cell line at most 53 bytes.
+-- How long a piece can be: a word has at most 20 digits, and so a cell line is no longer than `most-cell-line`.
 use mathlib.Core.Path.{_≡_, sym}
 use mathlib.Core.List.{List}
 use Prim.Native.Nat.{ℕ, suc, _≤_, _<_, _^_}
@@ -10,10 +10,11 @@ use mir.Val.{SFits}
 use Rattle.fund.specs.declared.Figures.{Figures}
 use Rattle.fund.specs.declared.Refusal.{Refusal}
 use Rattle.fund.specs.Base.{bytes}
+use Rattle.fund.specs.Limits.{most-horizon}
 use Rattle.fund.specs.Refusals.{numberOf}
 use Rattle.fund.specs.Listing.{decimal, signed, joined, refusedLine}
-use Rattle.text.specs.Writing.{Room}
-use Rattle.text.specs.Shown.{room}
+use Rattle.text.specs.Writing.{HasRoom}
+use Rattle.text.specs.Shown.{most-cell-line, room}
 use Rattle.text.specs.Pieces.{cellLine, head, foot}
 use Rattle.text.proofs.Decimal.{decimal-length}
 
@@ -25,7 +26,7 @@ unfolding signed
 signed-word (pos n) f = omega (arith, decimal-word n (omega (arith, f .sfits)))
 signed-word (negsuc n) f = omega (arith, decimal-word (suc n) (omega (arith, f .sfits)))
 
-pub cell-size : (x : ℕ) (f : ℤ) (bound : ℕ) → x < 4096 → SFits w64 f → bound < 2 ^ 64 → length (cellLine x f bound) ≤ 53
+pub cell-size : (x : ℕ) (f : ℤ) (bound : ℕ) → x ≤ most-horizon → SFits w64 f → bound < 2 ^ 64 → length (cellLine x f bound) ≤ most-cell-line
 unfolding cellLine joined bytes
 cell-size x f bound h g b =
     simp length-append (omega (arith, decimal-length 3 x (omega arith), signed-word f g, decimal-word bound b))
@@ -39,7 +40,7 @@ unfolding foot joined bytes
 foot-size a h g = simp length-append (omega (arith, signed-word (a .premium) h, decimal-word (a .within) g))
 
 pub refusal-room : {text : List ℕ} (why : Refusal) (place n : ℕ) → n ≡ numberOf why → n < 2 ^ 64 → place < 2 ^ 64 → room ≤ length text
-    → Room text 0 (refusedLine why place)
+    → HasRoom text 0 (refusedLine why place)
 unfolding refusedLine joined bytes
 refusal-room why place n e h g r =
     record { fits = simp (length-append, sym e) (omega (arith, decimal-word n h, decimal-word place g)) }

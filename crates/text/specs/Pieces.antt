@@ -23,11 +23,11 @@ unfoldable pub foot : Figures → List ℕ
 foot a = (bytes "premium=" ++ joined (signed (a .premium)) []) ++ (bytes "within=" ++ joined (decimal (a .within)) [])
 
 -- The lines of an accepted fund, from its figures and its cells.
-unfoldable pub lines : Figures → List ℤ → List ℕ → List ℕ
-lines a f R = head a ++ (cellLines (a .truncation) 0 f R ++ foot a)
+unfoldable pub acceptedLines : Figures → List ℤ → List ℕ → List ℕ
+acceptedLines a f R = head a ++ (cellLines (a .truncation) 0 f R ++ foot a)
 
 -- The figures of the cells are as many as there are cells, and in range.
-pub record Given (E : ℕ) (f : List ℤ) (R : List ℕ) : Type 0 where
+pub record PrintableCells (E : ℕ) (f : List ℤ) (R : List ℕ) : Type 0 where
   pub counts : length f ≡ length R
   pub most : length R ≤ suc most-horizon
   pub truncation : E ≤ most-truncation

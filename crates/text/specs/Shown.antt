@@ -1,7 +1,7 @@
 -- What `listing` writes: the listing of the figures that it is given, where they are in range and there is room for it.
 use mathlib.Core.Bool.{Bool, true, _&&_}
 use mathlib.Core.List.{List, [], _∷_}
-use Prim.Native.Nat.{ℕ, suc}
+use Prim.Native.Nat.{ℕ, suc, _+_, _*_}
 use lib.Dec.{leb, ltb}
 use lib.IntN.{ℤ}
 use lib.ListN.{length, take}
@@ -12,13 +12,20 @@ use Rattle.fund.specs.Limits.{most-horizon, most-truncation, most-bound}
 use Rattle.fund.specs.Answer.{Answer, empty}
 use Rattle.fund.specs.Listing.{printed}
 
--- Room for every listing: 4,096 cell lines of at most 53 bytes, and 116 bytes for the other lines.
+-- The most bytes of a cell line, and of the other lines of a listing together.
+abbrev pub most-cell-line : ℕ
+most-cell-line = 53
+
+abbrev pub most-other-lines : ℕ
+most-other-lines = 116
+
+-- Room for every listing.
 abbrev pub room : ℕ
-room = 217204
+room = most-cell-line * suc most-horizon + most-other-lines
 
 -- What is printed of an answer.
-abbrev pub printing : Verdict → Figures → List ℤ → List ℕ → Answer
-printing verdict figures f R = record { verdict = verdict; part = empty; figures = figures; D = []; H = []; f = f; R = R }
+abbrev pub shownAnswer : Verdict → Figures → List ℤ → List ℕ → Answer
+shownAnswer verdict figures f R = record { verdict = verdict; part = empty; figures = figures; D = []; H = []; f = f; R = R }
 
 -- No R(x) is above its limit.
 unfoldable pub bounded : List ℕ → Bool
@@ -26,9 +33,9 @@ bounded [] = true
 bounded (R ∷ Rs) = leb R most-bound && bounded Rs
 
 -- The figures of the cells 0 to X are there and in range, and a text of that size has room for every listing.
-unfoldable pub inRange : ℕ → ℕ → ℕ → List ℕ → ℕ → Bool
-inRange E X cells R size =
+unfoldable pub printable : ℕ → ℕ → ℕ → List ℕ → ℕ → Bool
+printable E X cells R size =
     leb X most-horizon && (ltb X cells && (ltb X (length R) && (leb E most-truncation && (leb room size && bounded (take (suc X) R)))))
 
-unfoldable pub shown : Answer → ℕ → ℕ → List ℕ
-shown a X size = if inRange (a .figures .truncation) X (length (a .f)) (a .R) size then printed a X (a .verdict) else []
+unfoldable pub listingOf : Answer → ℕ → ℕ → List ℕ
+listingOf a X size = if printable (a .figures .truncation) X (length (a .f)) (a .R) size then printed a X (a .verdict) else []

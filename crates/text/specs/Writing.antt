@@ -6,7 +6,7 @@ use lib.ListN.{length, take, drop}
 use lib.Seq.{sets}
 
 -- The text has room for the piece from `at` on.
-pub record Room (text : List ℕ) (at : ℕ) (piece : List ℕ) : Type 0 where
+pub record HasRoom (text : List ℕ) (at : ℕ) (piece : List ℕ) : Type 0 where
   pub fits : at + length piece ≤ length text
 
 -- The piece is stored in `before` from `at` on, which gives `after`; `next` is the place behind it.

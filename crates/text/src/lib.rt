@@ -6,12 +6,11 @@ use fund::Verdict;
 ghost use mathlib.Core.Path.{_≡_};
 ghost use mathlib.Core.List.{[], _∷_, _++_};
 ghost use Prim.Native.Nat.{_+_, _*_, _<_, _≤_};
-ghost use lib.IntN.{natAbs};
 ghost use lib.ListN.{length};
 ghost use Rattle.fund.specs.Listing.{decimal, signed, joined, cellLines, refusedLine};
-ghost use Rattle.text.specs.Writing.{Room, Put, Written};
-ghost use Rattle.text.specs.Pieces.{cellLine, head, foot, lines, Given};
-ghost use Rattle.text.specs.Shown.{room, printing, bounded, inRange, shown};
+ghost use Rattle.text.specs.Writing.{HasRoom, Put, Written};
+ghost use Rattle.text.specs.Pieces.{cellLine, head, foot, acceptedLines, PrintableCells};
+ghost use Rattle.text.specs.Shown.{most-cell-line, room, shownAnswer, bounded, printable, listingOf};
 
 // Bytes enough for every listing.
 pub const ROOM: usize = 217204;
@@ -28,10 +27,10 @@ pub fn listing(
 ) -> usize
     ensures { λ size. ⌜
         Written
-        (shown (printing verdict figures (now (f .entry)) (now (r .entry))) horizon (length (now (text .entry))))
+        (listingOf (shownAnswer verdict figures (now (f .entry)) (now (r .entry))) horizon (length (now (text .entry))))
         (now (text .entry)) (now (text .exit)) size ⌝ }
 {
-    if !in_range(figures.truncation, horizon, f.len(), r, text.len()) {
+    if !printable(figures.truncation, horizon, f.len(), r, text.len()) {
         return 0;
     }
     let count = horizon + 1;
@@ -43,7 +42,7 @@ pub fn listing(
 
 // Writes the byte.
 fn put_byte(byte: u8, text: &mut [u8], at: usize) -> usize
-    requires { ⌜ Room (now text) at (byte ∷ []) ⌝ }
+    requires { ⌜ HasRoom (now text) at (byte ∷ []) ⌝ }
     ensures { λ next. ⌜ Put (now (text .entry)) at (byte ∷ []) (now (text .exit)) next ⌝ }
 {
     text[at] = byte;
@@ -52,7 +51,7 @@ fn put_byte(byte: u8, text: &mut [u8], at: usize) -> usize
 
 // Writes the key's bytes.
 fn put_key(key: &[u8], text: &mut [u8], at: usize) -> usize
-    requires { ⌜ Room (now text) at (now key) ⌝ }
+    requires { ⌜ HasRoom (now text) at (now key) ⌝ }
     ensures { λ next. ⌜ Put (now (text .entry)) at (now (key .entry)) (now (text .exit)) next ⌝ }
 {
     let mut next = at;
@@ -66,7 +65,7 @@ fn put_key(key: &[u8], text: &mut [u8], at: usize) -> usize
 
 // Writes one digit.
 fn put_digit(digit: u64, text: &mut [u8], at: usize) -> usize
-    requires { ⌜ (digit < 10) × Room (now text) at ((48 + digit) ∷ []) ⌝ }
+    requires { ⌜ (digit < 10) × HasRoom (now text) at ((48 + digit) ∷ []) ⌝ }
     ensures { λ next. ⌜ Put (now (text .entry)) at ((48 + digit) ∷ []) (now (text .exit)) next ⌝ }
 {
     put_byte(b'0' + digit as u8, text, at)
@@ -74,7 +73,7 @@ fn put_digit(digit: u64, text: &mut [u8], at: usize) -> usize
 
 // Writes the number in decimal: the digits before the last, then the last.
 fn put_decimal(n: u64, text: &mut [u8], at: usize) -> usize
-    requires { ⌜ Room (now text) at (decimal n) ⌝ }
+    requires { ⌜ HasRoom (now text) at (decimal n) ⌝ }
     ensures { λ next. ⌜ Put (now (text .entry)) at (decimal n) (now (text .exit)) next ⌝ }
 {
     if n < 10 {
@@ -84,25 +83,12 @@ fn put_decimal(n: u64, text: &mut [u8], at: usize) -> usize
     put_digit(n % 10, text, last)
 }
 
-// The magnitude, also of the least number.
-fn magnitude(z: i64) -> u64
-    ensures { λ n. ⌜ n ≡ natAbs z ⌝ }
-{
-    if z < 0 {
-        let below = -1 - z;
-        let n = below as u64;
-        n + 1
-    } else {
-        z as u64
-    }
-}
-
 // Writes the number in decimal, a negative one with its sign.
 fn put_signed(z: i64, text: &mut [u8], at: usize) -> usize
-    requires { ⌜ Room (now text) at (signed z) ⌝ }
+    requires { ⌜ HasRoom (now text) at (signed z) ⌝ }
     ensures { λ next. ⌜ Put (now (text .entry)) at (signed z) (now (text .exit)) next ⌝ }
 {
-    let n = magnitude(z);
+    let n = whole::magnitude(z);
     if z < 0 {
         let digits = put_byte(b'-', text, at);
         return put_decimal(n, text, digits);
@@ -112,7 +98,7 @@ fn put_signed(z: i64, text: &mut [u8], at: usize) -> usize
 
 // Writes the number and the byte behind it: a comma, or the line feed.
 fn put_figure(n: u64, end: u8, text: &mut [u8], at: usize) -> usize
-    requires { ⌜ Room (now text) at (decimal n ++ (end ∷ [])) ⌝ }
+    requires { ⌜ HasRoom (now text) at (decimal n ++ (end ∷ [])) ⌝ }
     ensures { λ next. ⌜ Put (now (text .entry)) at (decimal n ++ (end ∷ [])) (now (text .exit)) next ⌝ }
 {
     let behind = put_decimal(n, text, at);
@@ -121,7 +107,7 @@ fn put_figure(n: u64, end: u8, text: &mut [u8], at: usize) -> usize
 
 // The same for a number that may be negative.
 fn put_signed_figure(z: i64, end: u8, text: &mut [u8], at: usize) -> usize
-    requires { ⌜ Room (now text) at (signed z ++ (end ∷ [])) ⌝ }
+    requires { ⌜ HasRoom (now text) at (signed z ++ (end ∷ [])) ⌝ }
     ensures { λ next. ⌜ Put (now (text .entry)) at (signed z ++ (end ∷ [])) (now (text .exit)) next ⌝ }
 {
     let behind = put_signed(z, text, at);
@@ -130,7 +116,7 @@ fn put_signed_figure(z: i64, end: u8, text: &mut [u8], at: usize) -> usize
 
 // Writes a line with one figure.
 fn put_line(key: &[u8], n: u64, text: &mut [u8], at: usize) -> usize
-    requires { ⌜ Room (now text) at (now key ++ joined (decimal n) []) ⌝ }
+    requires { ⌜ HasRoom (now text) at (now key ++ joined (decimal n) []) ⌝ }
     ensures { λ next. ⌜ Put (now (text .entry)) at (now (key .entry) ++ joined (decimal n) []) (now (text .exit)) next ⌝ }
 {
     let figure = put_key(key, text, at);
@@ -139,7 +125,7 @@ fn put_line(key: &[u8], n: u64, text: &mut [u8], at: usize) -> usize
 
 // Writes the line of a cell.
 fn put_cell(x: u64, f: i64, bound: u64, text: &mut [u8], at: usize) -> usize
-    requires { ⌜ Room (now text) at (cellLine x f bound) ⌝ }
+    requires { ⌜ HasRoom (now text) at (cellLine x f bound) ⌝ }
     ensures { λ next. ⌜ Put (now (text .entry)) at (cellLine x f bound) (now (text .exit)) next ⌝ }
 {
     let x_at = put_key(b"cell=", text, at);
@@ -148,11 +134,11 @@ fn put_cell(x: u64, f: i64, bound: u64, text: &mut [u8], at: usize) -> usize
     put_figure(bound, b'\n', text, bound_at)
 }
 
-// Writes the lines of the cells, from x = 0 on, each with the bound R(x) + 2×E. A line has at most 53 bytes.
+// Writes the lines of the cells, from x = 0 on, each with the bound R(x) + 2×E.
 fn put_cells(truncation: u64, f: &[i64], r: &[u64], text: &mut [u8], at: usize) -> usize
-    requires { ⌜ Given truncation (now f) (now r) × (at + 53 * length (now r) ≤ length (now text)) ⌝ }
+    requires { ⌜ PrintableCells truncation (now f) (now r) × (at + most-cell-line * length (now r) ≤ length (now text)) ⌝ }
     ensures { λ next. ⌜ Put (now (text .entry)) at (cellLines truncation 0 (now (f .entry)) (now (r .entry))) (now (text .exit)) next ⌝ }
-    ensures { λ next. ⌜ next ≤ at + 53 * length (now (r .entry)) ⌝ }
+    ensures { λ next. ⌜ next ≤ at + most-cell-line * length (now (r .entry)) ⌝ }
 {
     let mut next = at;
     let mut x = 0;
@@ -165,7 +151,7 @@ fn put_cells(truncation: u64, f: &[i64], r: &[u64], text: &mut [u8], at: usize) 
 
 // Writes the lines before the cells.
 fn put_head(figures: Figures, text: &mut [u8]) -> usize
-    requires { ⌜ Room (now text) 0 (head figures) ⌝ }
+    requires { ⌜ HasRoom (now text) 0 (head figures) ⌝ }
     ensures { λ next. ⌜ Put (now (text .entry)) 0 (head figures) (now (text .exit)) next ⌝ }
 {
     let next = put_line(b"truncation=", figures.truncation, text, 0);
@@ -174,7 +160,7 @@ fn put_head(figures: Figures, text: &mut [u8]) -> usize
 
 // Writes the lines behind the cells.
 fn put_foot(figures: Figures, text: &mut [u8], at: usize) -> usize
-    requires { ⌜ Room (now text) at (foot figures) ⌝ }
+    requires { ⌜ HasRoom (now text) at (foot figures) ⌝ }
     ensures { λ next. ⌜ Put (now (text .entry)) at (foot figures) (now (text .exit)) next ⌝ }
 {
     let figure = put_key(b"premium=", text, at);
@@ -184,8 +170,8 @@ fn put_foot(figures: Figures, text: &mut [u8], at: usize) -> usize
 
 // Writes the lines of an accepted fund.
 fn put_accepted(figures: Figures, f: &[i64], r: &[u64], text: &mut [u8]) -> usize
-    requires { ⌜ Given (figures .truncation) (now f) (now r) × (room ≤ length (now text)) ⌝ }
-    ensures { λ size. ⌜ Written (lines figures (now (f .entry)) (now (r .entry))) (now (text .entry)) (now (text .exit)) size ⌝ }
+    requires { ⌜ PrintableCells (figures .truncation) (now f) (now r) × (room ≤ length (now text)) ⌝ }
+    ensures { λ size. ⌜ Written (acceptedLines figures (now (f .entry)) (now (r .entry))) (now (text .entry)) (now (text .exit)) size ⌝ }
 {
     let cells = put_head(figures, text);
     let foot = put_cells(figures.truncation, f, r, text, cells);
@@ -218,8 +204,8 @@ fn all_bounded(r: &[u64]) -> bool
 }
 
 // The figures of the cells are there and in range, and there is room.
-fn in_range(truncation: u64, horizon: usize, cells: usize, r: &[u64], room: usize) -> bool
-    ensures { λ yes. ⌜ yes ≡ inRange truncation horizon cells (now (r .entry)) room ⌝ }
+fn printable(truncation: u64, horizon: usize, cells: usize, r: &[u64], room: usize) -> bool
+    ensures { λ yes. ⌜ yes ≡ printable truncation horizon cells (now (r .entry)) room ⌝ }
 {
     if Fund::MOST_HORIZON < horizon as u64 {
         return false;

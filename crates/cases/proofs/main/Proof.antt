@@ -2,11 +2,12 @@
 use mathlib.Core.Path.{_≡_}
 use borrow.Author.Needs.{needs}
 use lib.ListN.{length}
+use Rattle.prefix.specs.Prefix.{most-bytes}
 use Rattle.cases.proofs.main.Statement.{statement}
 use Rattle.cases.proofs.main.Tie as tie
 
 abbrev Inv-loop : tie.InvT-loop
-Inv-loop file₀ turns₀ file turns = length file ≡ 65536
+Inv-loop file₀ turns₀ file turns = length file ≡ most-bytes
 
 abbrev μ-loop : tie.MeasureT-loop
 μ-loop file₀ turns₀ file turns = turns
@@ -14,11 +15,11 @@ abbrev μ-loop : tie.MeasureT-loop
 loop-holds : tie.Need-loop-holds Inv-loop μ-loop
 loop-holds c = search needs
 
-slice-aggregate-next : tie.Need-slice-aggregate-next Inv-loop μ-loop
-slice-aggregate-next c = search needs
+slice-aggregate-next-file : tie.Need-slice-aggregate-next-file Inv-loop μ-loop
+slice-aggregate-next-file c = search needs
 
-next-requires : tie.Need-next-requires Inv-loop μ-loop
-next-requires c κs = search needs
+next-file-requires : tie.Need-next-file-requires Inv-loop μ-loop
+next-file-requires c κs = search needs
 
 sub-turns : tie.Need-sub-turns Inv-loop μ-loop
 sub-turns c = search needs
@@ -42,8 +43,8 @@ main-spec =
     Inv-loop
     μ-loop
     loop-holds
-    slice-aggregate-next
-    next-requires
+    slice-aggregate-next-file
+    next-file-requires
     sub-turns
     loop-less
     loop-again

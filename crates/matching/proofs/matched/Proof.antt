@@ -2,50 +2,50 @@
 use mathlib.Core.Path.{sym, _∙_}
 use native.Mathlib.Omega.{arith}
 use borrow.Author.Needs.{needs}
+use Rattle.fund.specs.Reading.{headerLines}
 use lib.Seq.{length-take-le}
 use Rattle.fund.specs.Refusals.{firstMember}
-use Rattle.laws.specs.Ranges.{header-length}
 use Rattle.matching.proofs.Answering.{beyond-rates, beyond-members, three, four, then-members}
 use Rattle.matching.proofs.matched.Statement.{statement}
 use Rattle.matching.proofs.matched.Tie as tie
 
-refused-requires : tie.Need-refused-requires
-refused-requires c κs = search needs
+without-lives-requires : tie.Need-without-lives-requires
+without-lives-requires c κs = search needs
 
 returns : tie.Need-returns
 returns c =
     let a = c .before .before .args in
-    beyond-rates (a .fund) (a .rates) (a .rated) (a .members) (a .enrolled) _ (c .before .if1 .taken) (c .refused .ensures)
+    beyond-rates (a .fund) (a .rates) (a .rated) (a .members) (a .enrolled) _ (c .before .if1 .taken) (c .without-lives .ensures)
 
-refused-requires-2 : tie.Need-refused-requires-2
-refused-requires-2 c κs = search needs
+without-lives-requires-2 : tie.Need-without-lives-requires-2
+without-lives-requires-2 c κs = search needs
 
 returns-2 : tie.Need-returns-2
 returns-2 c =
     let a = c .before .before .before .args in
-    beyond-members (a .fund) (a .rates) (a .rated) (a .members) (a .enrolled) _ (c .before .before .if1 .left) (c .before .if2 .taken) (c .refused2 .ensures)
+    beyond-members (a .fund) (a .rates) (a .rated) (a .members) (a .enrolled) _ (c .before .before .if1 .left) (c .before .if2 .taken) (c .without-lives2 .ensures)
 
-refused-requires-3 : tie.Need-refused-requires-3
-refused-requires-3 c κs = search needs
+without-lives-requires-3 : tie.Need-without-lives-requires-3
+without-lives-requires-3 c κs = search needs
 
 returns-3 : tie.Need-returns-3
 returns-3 c =
     let t = c .before .before .before in
     let a = t .before .before .args in
-    three (a .fund) (a .rates) (a .rated) (a .members) (a .enrolled) _ (t .before .if1 .left) (t .if2 .left) (c .before .if3 .taken) (c .refused3 .ensures)
+    three (a .fund) (a .rates) (a .rated) (a .members) (a .enrolled) _ (t .before .if1 .left) (t .if2 .left) (c .before .if3 .taken) (c .without-lives3 .ensures)
 
 is-above-requires : tie.Need-is-above-requires
 is-above-requires c κs = search needs
 
-refused-requires-4 : tie.Need-refused-requires-4
-refused-requires-4 c κs = search needs
+without-lives-requires-4 : tie.Need-without-lives-requires-4
+without-lives-requires-4 c κs = search needs
 
 returns-4 : tie.Need-returns-4
 returns-4 c =
     let e = c .before .before .before in
     let t = e .before .before in
     let a = t .before .before .args in
-    four (a .fund) (a .rates) (a .rated) (a .members) (a .enrolled) _ (t .before .if1 .left) (t .if2 .left) (e .if3 .left) (sym (c .before .before .is-above .ensures) ∙ c .before .if4 .taken) (c .refused4 .ensures)
+    four (a .fund) (a .rates) (a .rated) (a .members) (a .enrolled) _ (t .before .if1 .left) (t .if2 .left) (e .if3 .left) (sym (c .before .before .is-above .ensures) ∙ c .before .if4 .taken) (c .without-lives4 .ensures)
 
 add-line : tie.Need-add-line
 add-line c = search needs
@@ -57,26 +57,26 @@ by-member-requires : tie.Need-by-member-requires
 by-member-requires c κs = search needs
 
 returns-5 : tie.Need-returns-5
-unfolding firstMember
+unfolding firstMember headerLines
 returns-5 c =
     let e = c .before .before .before in
     let t = e .before .before in
     let a = t .before .before .args in
     let count = length-take-le (a .rated) (a .rates) (omega arith) in
-    then-members (a .fund) (a .rates) (a .rated) (a .members) (a .enrolled) _ (t .before .if1 .left) (t .if2 .left) (e .if3 .left) _ (sym (c .before .before .is-above .ensures) ∙ c .before .if4 .left) (omega (arith, header-length, count)) (c .by-member .ensures)
+    then-members (a .fund) (a .rates) (a .rated) (a .members) (a .enrolled) _ (t .before .if1 .left) (t .if2 .left) (e .if3 .left) _ (sym (c .before .before .is-above .ensures) ∙ c .before .if4 .left) (omega (arith, count)) (c .by-member .ensures)
 
 pub matched-spec : {M : Type 1} → statement M
 matched-spec =
     tie.close
     (tie.spec
-    refused-requires
+    without-lives-requires
     returns
-    refused-requires-2
+    without-lives-requires-2
     returns-2
-    refused-requires-3
+    without-lives-requires-3
     returns-3
     is-above-requires
-    refused-requires-4
+    without-lives-requires-4
     returns-4
     add-line
     add-line-2

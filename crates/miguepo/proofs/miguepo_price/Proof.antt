@@ -10,11 +10,11 @@ use Rattle.miguepo.proofs.miguepo_price.Tie as tie
 price-requires : tie.Need-price-requires
 price-requires c κs = search needs
 
-number-of-requires : tie.Need-number-of-requires
-number-of-requires c κs = search needs
+verdict-number-requires : tie.Need-verdict-number-requires
+verdict-number-requires c κs = search needs
 
-place-of-requires : tie.Need-place-of-requires
-place-of-requires c κs = search needs
+verdict-place-requires : tie.Need-verdict-place-requires
+verdict-place-requires c κs = search needs
 
 sub-line-size : tie.Need-sub-line-size
 sub-line-size c = search needs
@@ -43,15 +43,15 @@ returns c =
     let o = p .last .1 in
     let same : toZ w64 (ofZ w64 (p .result .figures .premium)) ≡ p .result .figures .premium = search needs in
     let fits : SFits w64 (p .result .figures .premium) = search needs in
-    hosts _ _ (p .result) (o .0) (o .1 .0) (o .1 .1 .0) (o .1 .1 .1 .0) (p .ensures) _ _ _ (number .number-of .ensures) (place .place-of .ensures) (rw same at (bits .bits .ensures)) fits
+    hosts _ _ (p .result) (o .0) (o .1 .0) (o .1 .1 .0) (o .1 .1 .1 .0) (p .ensures) _ _ _ (number .verdict-number .ensures) (place .verdict-place .ensures) (rw same at (bits .bits .ensures)) fits
 
 pub miguepo-price-spec : {M : Type 1} → statement M
 miguepo-price-spec =
     tie.close
     (tie.spec
     price-requires
-    number-of-requires
-    place-of-requires
+    verdict-number-requires
+    verdict-place-requires
     sub-line-size
     bits-requires
     same-length

@@ -41,8 +41,9 @@ same-length c = search needs
 
 returns : tie.Need-returns
 returns c =
-    let a = c .before .before .before .before .before .before .before .before .before .before .before .before .before .before .before .before .before .before .args in
-    let p = c .before .before .before .before .before .before .before .before .before .before .before .price in
+    let priced = c .before .before .before .before .before .before .before .before .before .before .before in
+    let a = priced .before .before .before .before .before .before .before .args in
+    let p = priced .price in
     let l = c .before .before .listing in
     let o = p .last .1 in
     let answers = subst (λ (n : Lengths). Answers (a .file .now) (p .result) (left (p .result) (o .0) (o .1 .0) (o .1 .1 .0) (o .1 .1 .1 .0)) (answer (a .file .now) n)) enough-lent (p .ensures .answers) in

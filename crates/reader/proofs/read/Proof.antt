@@ -17,8 +17,8 @@ read-rows-requires c κs = rw (c .before .fund .given .1) at (c .before .before 
 enum-known-why : tie.Need-enum-known-why
 enum-known-why c = search needs
 
-refused-requires : tie.Need-refused-requires
-refused-requires c κs = search needs
+without-rows-requires : tie.Need-without-rows-requires
+without-rows-requires c κs = search needs
 
 returns : tie.Need-returns
 returns c = c .read-rows .ensures
@@ -26,7 +26,7 @@ returns c = c .read-rows .ensures
 returns-2 : tie.Need-returns-2
 returns-2 c =
     let e = rw (c .before .before .why .given .1) at (c .before .before .before .before .read-header .ensures) in
-    c .refused .ensures ∙ ap fileRead (sym e)
+    c .without-rows .ensures ∙ ap fileRead (sym e)
 
 pub read-spec : {M : Type 1} → statement M
 read-spec =
@@ -36,6 +36,6 @@ read-spec =
     enum-known-fund
     read-rows-requires
     enum-known-why
-    refused-requires
+    without-rows-requires
     returns
     returns-2)

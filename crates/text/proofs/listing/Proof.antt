@@ -1,29 +1,29 @@
--- `text::listing` meets its contract: the range test decides what is shown, and the verdict which of the two texts.
+-- `text::listing` meets its contract: the range test decides what is written, and the verdict which of the two texts.
 use mathlib.Core.Path.{_≡_, sym, _∙_}
 use mathlib.Core.Bool.{true}
 use native.Mathlib.Omega.{arith}
 use borrow.Author.Tests.{not-true, not-false}
 use lib.ListN.{length}
 use lib.Seq.{length-take-le}
-use Rattle.text.specs.Shown.{inRange}
+use Rattle.text.specs.Shown.{printable}
 use Rattle.text.proofs.Putting.{written-none, written-as}
-use Rattle.text.proofs.Range.{InRange, in-range, given, shown-out, shown-accepted, shown-refused}
+use Rattle.text.proofs.Range.{Printable, in-range, given, listing-out, listing-accepted, listing-refused}
 use borrow.Author.Needs.{needs}
 use Rattle.text.proofs.listing.Statement.{statement}
 use Rattle.text.proofs.listing.Tie as tie
 
-in-range-requires : tie.Need-in-range-requires
-in-range-requires c κs = search needs
+printable-requires : tie.Need-printable-requires
+printable-requires c κs = search needs
 
 -- Past the range test.
-test : (c : tie.Else1) → let a = c .before .before .before .before .args in inRange (a .figures .truncation) (a .horizon) (length (a .f .now)) (a .r .now) (length (a .text .now)) ≡ true
-test c = sym (c .before .in-range .ensures) ∙ not-false _ (c .if1 .left)
+test : (c : tie.Else1) → let a = c .before .before .before .before .args in printable (a .figures .truncation) (a .horizon) (length (a .f .now)) (a .r .now) (length (a .text .now)) ≡ true
+test c = sym (c .before .printable .ensures) ∙ not-false _ (c .if1 .left)
 
-range : (c : tie.Else1) → let a = c .before .before .before .before .args in InRange (a .figures .truncation) (a .horizon) (length (a .f .now)) (a .r .now) (length (a .text .now))
+range : (c : tie.Else1) → let a = c .before .before .before .before .args in Printable (a .figures .truncation) (a .horizon) (length (a .f .now)) (a .r .now) (length (a .text .now))
 range c = in-range _ _ _ _ _ (test c)
 
 returns : tie.Need-returns
-returns c = written-as _ (shown-out _ _ _ (sym (c .before .in-range .ensures) ∙ not-true _ (c .if1 .taken))) (written-none _)
+returns c = written-as _ (listing-out _ _ _ (sym (c .before .printable .ensures) ∙ not-true _ (c .if1 .taken))) (written-none _)
 
 add-count : tie.Need-add-count
 add-count c = omega (arith, range c .horizon)
@@ -50,7 +50,7 @@ returns-2 : tie.Need-returns-2
 returns-2 c =
     let p = c .before .before in
     let told = p .before .before .before .before in
-    written-as _ (shown-accepted _ _ _ (test (told .before .before)) (told .enum-told .given .1)) (p .put-accepted .ensures)
+    written-as _ (listing-accepted _ _ _ (test (told .before .before)) (told .enum-told .given .1)) (p .put-accepted .ensures)
 
 same-length : tie.Need-same-length
 same-length c = search needs
@@ -59,7 +59,7 @@ returns-3 : tie.Need-returns-3
 returns-3 c =
     let p = c .before .before in
     let told = p .before .before .before in
-    written-as _ (shown-refused _ _ _ _ _ (test (told .before .before)) (told .verdict .given .1)) (p .put-refusal .ensures)
+    written-as _ (listing-refused _ _ _ _ _ (test (told .before .before)) (told .verdict .given .1)) (p .put-refusal .ensures)
 
 same-length-2 : tie.Need-same-length-2
 same-length-2 c = search needs
@@ -68,7 +68,7 @@ pub listing-spec : {M : Type 1} → statement M
 listing-spec =
     tie.close
     (tie.spec
-    in-range-requires
+    printable-requires
     returns
     add-count
     enum-told

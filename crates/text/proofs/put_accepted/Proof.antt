@@ -4,7 +4,7 @@ use Prim.Native.Nat.{_≤_}
 use lib.ListN.{length}
 use native.Mathlib.Omega.{arith}
 use borrow.Author.Needs.{needs}
-use Rattle.text.specs.Pieces.{head, foot, lines}
+use Rattle.text.specs.Pieces.{head, foot, acceptedLines}
 use Rattle.text.proofs.Putting.{put-length, put-then, put-written}
 use Rattle.text.proofs.Sizes.{head-size, foot-size}
 use Rattle.text.proofs.put_accepted.Statement.{statement}
@@ -38,7 +38,7 @@ put-foot-requires c κs =
     record { fits = omega (arith, s .pre .1, s .pre .0 .most, head-small s, foot-small s, p .behind, put-length p, q .1, put-length (q .0)) }
 
 returns : tie.Need-returns
-unfolding lines
+unfolding acceptedLines
 returns c =
     let e = c .before .before in
     let x = e .before .before .before .before in

@@ -2,7 +2,7 @@
 use mathlib.Core.Path.{_≡_, _∙_}
 use mathlib.Core.List.{[], _∷_, _++_}
 use Rattle.fund.specs.Listing.{decimal, refusedLine}
-use Rattle.text.specs.Writing.{Room}
+use Rattle.text.specs.Writing.{HasRoom}
 use native.Mathlib.Omega.{arith}
 use Rattle.fund.specs.Base.{bytes}
 use Rattle.text.proofs.Putting.{put-then, put-written, room-first, room-then}
@@ -19,7 +19,7 @@ pieces c = refusal-pieces _ _ _ (c .number .ensures)
 
 space : (c : tie.After-number)
     → let a = c .before .before .args in
-    Room (a .text .now) 0 (bytes "refused=" ++ ((decimal (c .number .result) ++ (44 ∷ [])) ++ (decimal (a .place) ++ (10 ∷ []))))
+    HasRoom (a .text .now) 0 (bytes "refused=" ++ ((decimal (c .number .result) ++ (44 ∷ [])) ++ (decimal (a .place) ++ (10 ∷ []))))
 space c =
     let s = c .before .before in
     rw (pieces c) at (refusal-room {text = s .args .text .now} (s .args .why) _ _ (c .number .ensures) (c .number .ok) (s .fits .place .fits) (s .pre))

@@ -5,7 +5,7 @@ use native.Mathlib.Omega.{arith}
 use borrow.Author.Needs.{needs}
 use lib.ListN.{length, take, drop}
 use Rattle.fund.specs.Refusals.{first, half, refuse}
-use Rattle.matching.specs.Matching.{noLife}
+use Rattle.laws.specs.Rows.{blankLife}
 use Rattle.matching.proofs.Searching.{first-here, first-later, first-none}
 use Rattle.matching.proofs.half.first_half.Statement.{statement}
 use Rattle.matching.proofs.half.first_half.Tie as tie
@@ -41,7 +41,7 @@ returns c =
     let a = l .before .args in
     let room : a .enrolled ≤ length (a .t1) = omega arith in
     sym
-    (rw (l .loop .inv .1 ∙ first-here (a .t1) (a .enrolled) room noLife half (a .line) (l .loop .k) (c .before .before .before .loop-test .taken) (sym (c .before .is-half .ensures) ∙ c .if1 .taken)))
+    (rw (l .loop .inv .1 ∙ first-here (a .t1) (a .enrolled) room blankLife half (a .line) (l .loop .k) (c .before .before .before .loop-test .taken) (sym (c .before .is-half .ensures) ∙ c .if1 .taken)))
 
 add-k : tie.Need-add-k Inv-loop μ-loop
 add-k c = search needs
@@ -55,7 +55,7 @@ loop-again c =
     let a = l .before .args in
     let room : a .enrolled ≤ length (a .t1) = omega arith in (
       omega arith,
-      l .loop .inv .1 ∙ first-later (a .t1) (a .enrolled) room noLife half (a .line) (l .loop .k) (c .before .before .before .loop-test .taken) (sym (c .before .is-half .ensures) ∙ c .if1 .left),
+      l .loop .inv .1 ∙ first-later (a .t1) (a .enrolled) room blankLife half (a .line) (l .loop .k) (c .before .before .before .loop-test .taken) (sym (c .before .is-half .ensures) ∙ c .if1 .left),
     )
 
 returns-2 : tie.Need-returns-2 Inv-loop μ-loop
@@ -64,7 +64,7 @@ returns-2 c =
     let l = c .before in
     let a = l .before .args in
     let room : a .enrolled ≤ length (a .t1) = omega arith in
-    sym (rw (l .loop .inv .1 ∙ first-none (a .t1) (a .enrolled) room noLife half (a .line) (l .loop .k) (omega arith)))
+    sym (rw (l .loop .inv .1 ∙ first-none (a .t1) (a .enrolled) room blankLife half (a .line) (l .loop .k) (omega arith)))
 
 pub first-half-spec : {M : Type 1} → statement M
 first-half-spec =

@@ -23,8 +23,8 @@ first-half-requires c κs = search needs
 enum-known-why : tie.Need-enum-known-why
 enum-known-why c = search needs
 
-refused-requires : tie.Need-refused-requires
-refused-requires c κs = search needs
+without-lives-requires : tie.Need-without-lives-requires
+without-lives-requires c κs = search needs
 
 enum-told-3 : tie.Need-enum-told-3
 enum-told-3 c = search needs
@@ -41,7 +41,7 @@ returns-2 c =
     let l = h .before .before .before .before in
     let a = l .before .args in
     let count : length (take (a .enrolled) (a .members)) ≡ a .enrolled = length-take-le (a .enrolled) (a .members) (omega arith) in
-    six (take (a .rated) (a .rates)) (take (a .enrolled) (a .members)) (a .line) _ (l .lives-of .ensures) (h .before .before .enum-told2 .given .1) (a .enrolled) count _ (h .first-half .ensures) _ _ (c .before .before .why .given .1) _ (c .refused .ensures)
+    six (take (a .rated) (a .rates)) (take (a .enrolled) (a .members)) (a .line) _ (l .lives-of .ensures) (h .before .before .enum-told2 .given .1) (a .enrolled) count _ (h .first-half .ensures) _ _ (c .before .before .why .given .1) _ (c .without-lives .ensures)
 
 returns-3 : tie.Need-returns-3
 returns-3 c =
@@ -60,7 +60,7 @@ by-member-spec =
     enum-told-2
     first-half-requires
     enum-known-why
-    refused-requires
+    without-lives-requires
     enum-told-3
     returns
     returns-2

@@ -1,6 +1,5 @@
 -- `matching::lives::lives_of`: one law for each way through the loop. A turn takes a member, or a rate row of the member.
 use mathlib.Core.Path.{_≡_}
-use mathlib.Core.List.{[]}
 use Prim.Native.Nat.{suc, _+_, _-_, _*_, _≤_}
 use native.Mathlib.Omega.{arith}
 use borrow.Author.Needs.{needs}
@@ -27,11 +26,11 @@ loop-holds c =
     let a = c .before .args in
     rw (c .no-life .ensures) (start (a .t1) (a .rated) (a .t3) (a .enrolled) (a .line))
 
-add-refused : tie.Need-add-refused Inv-loop μ-loop
-add-refused c = search needs
+add-without-lives : tie.Need-add-without-lives Inv-loop μ-loop
+add-without-lives c = search needs
 
-refused-requires : tie.Need-refused-requires Inv-loop μ-loop
-refused-requires c κs = search needs
+without-lives-requires : tie.Need-without-lives-requires Inv-loop μ-loop
+without-lives-requires c κs = search needs
 
 returns : tie.Need-returns Inv-loop μ-loop
 returns c =
@@ -40,7 +39,7 @@ returns c =
     let few-rates : a .rated ≤ length (a .t1) = omega arith in
     let few-members : a .enrolled ≤ length (a .t3) = omega arith in
     let long : length (a .t3) ≡ most-members = omega arith in
-    no-rate (a .t1) (a .rated) (a .t3) (a .enrolled) (a .line) few-rates few-members long _ (l .loop .k) (l .loop .j) (l .loop .inv) (c .before .before .loop-test .taken) (c .before .if1 .taken) _ (c .refused .ensures)
+    no-rate (a .t1) (a .rated) (a .t3) (a .enrolled) (a .line) few-rates few-members long _ (l .loop .k) (l .loop .j) (l .loop .inv) (c .before .before .loop-test .taken) (c .before .if1 .taken) _ (c .without-lives .ensures)
 
 mul-m : tie.Need-mul-m Inv-loop μ-loop
 mul-m c = search needs
@@ -116,8 +115,8 @@ lives-of-spec =
     μ-loop
     no-life-requires
     loop-holds
-    add-refused
-    refused-requires
+    add-without-lives
+    without-lives-requires
     returns
     mul-m
     array-copy-out-m

@@ -1,9 +1,8 @@
 -- `reader::body::read_rows`: the tables hold the rows that are read; one law for each way through the loop.
-use mathlib.Core.Path.{_≡_, sym, _∙_, ap₂, subst}
 use Prim.Native.Nat.{_-_}
 use native.Mathlib.Omega.{arith}
 use borrow.Author.Needs.{needs}
-use lib.ListN.{length, replicate}
+use lib.ListN.{length}
 use Rattle.fund.specs.Answer.{lent}
 use Rattle.reader.specs.Read.{rateTable, memberTable}
 use Rattle.reader.proofs.SoFar.{RowsSoFar, start, rates-long, members-long, rate-taken, member-taken, at-end, at-stop}
@@ -28,8 +27,8 @@ loop-holds c =
     let o = c .before .before .before in
     rw (c .before .no-rate .ensures, c .no-member .ensures) (start (o .args .file .now) (o .args .fund) (o .args .start) (o .pre))
 
-step-requires : tie.Need-step-requires Inv-loop μ-loop
-step-requires c κs = (c .loop .inv .few-rates, c .loop .inv .few-members)
+row-step-requires : tie.Need-row-step-requires Inv-loop μ-loop
+row-step-requires c κs = (c .loop .inv .few-rates, c .loop .inv .few-members)
 
 enum-known-r : tie.Need-enum-known-r Inv-loop μ-loop
 enum-known-r c = search needs
@@ -40,7 +39,7 @@ mul-rates c = omega (arith, c .before .before .before .before .loop .inv .few-ra
 array-set-from-rates : tie.Need-array-set-from-rates Inv-loop μ-loop
 array-set-from-rates c =
     let l = c .before .before .before .before .loop in
-    let w = rw (c .before .r .given .1) at (c .before .before .before .step .ensures) in
+    let w = rw (c .before .r .given .1) at (c .before .before .before .row-step .ensures) in
     omega (arith, w .takes .0 .few, rates-long _ _ _ _ _ _ _ _ (l .inv))
 
 add-rated : tie.Need-add-rated Inv-loop μ-loop
@@ -48,17 +47,17 @@ add-rated c = omega (arith, c .before .before .before .before .loop .inv .few-ra
 
 add-least : tie.Need-add-least Inv-loop μ-loop
 add-least c =
-    let w = rw (c .before .before .r .given .1) at (c .before .before .before .before .step .ensures) in
+    let w = rw (c .before .before .r .given .1) at (c .before .before .before .before .row-step .ensures) in
     omega (arith, w .takes .1)
 
 loop-less : tie.Need-loop-less Inv-loop μ-loop
 loop-less c =
-    let w = rw (c .before .before .r .given .1) at (c .before .before .before .before .step .ensures) in
+    let w = rw (c .before .before .r .given .1) at (c .before .before .before .before .row-step .ensures) in
     omega (arith, w .takes .0 .later, w .takes .0 .inside)
 
 loop-again : tie.Need-loop-again Inv-loop μ-loop
 loop-again c =
-    let w = rw (c .before .before .r .given .1) at (c .before .before .before .before .step .ensures) in
+    let w = rw (c .before .before .r .given .1) at (c .before .before .before .before .row-step .ensures) in
     rate-taken _ _ _ _ _ _ _ _ (c .before .before .before .before .before .loop .inv) _ _ w
 
 enum-known-m : tie.Need-enum-known-m Inv-loop μ-loop
@@ -70,7 +69,7 @@ mul-members c = omega (arith, c .before .before .before .before .loop .inv .few-
 array-set-from-members : tie.Need-array-set-from-members Inv-loop μ-loop
 array-set-from-members c =
     let l = c .before .before .before .before .loop in
-    let w = rw (c .before .m .given .1) at (c .before .before .before .step .ensures) in
+    let w = rw (c .before .m .given .1) at (c .before .before .before .row-step .ensures) in
     omega (arith, w .takes .few, members-long _ _ _ _ _ _ _ _ (l .inv))
 
 add-enrolled : tie.Need-add-enrolled Inv-loop μ-loop
@@ -78,12 +77,12 @@ add-enrolled c = omega (arith, c .before .before .before .before .loop .inv .few
 
 loop-less-2 : tie.Need-loop-less-2 Inv-loop μ-loop
 loop-less-2 c =
-    let w = rw (c .before .m .given .1) at (c .before .before .before .step .ensures) in
+    let w = rw (c .before .m .given .1) at (c .before .before .before .row-step .ensures) in
     omega (arith, w .takes .later, w .takes .inside)
 
 loop-again-2 : tie.Need-loop-again-2 Inv-loop μ-loop
 loop-again-2 c =
-    let w = rw (c .before .m .given .1) at (c .before .before .before .step .ensures) in
+    let w = rw (c .before .m .given .1) at (c .before .before .before .row-step .ensures) in
     member-taken _ _ _ _ _ _ _ _ (c .before .before .before .before .loop .inv) _ _ w
 
 enum-told : tie.Need-enum-told Inv-loop μ-loop
@@ -91,19 +90,19 @@ enum-told c = search needs
 
 returns : tie.Need-returns Inv-loop μ-loop
 returns c =
-    let w = rw (c .enum-told .given .1) at (c .before .before .step .ensures) in
+    let w = rw (c .enum-told .given .1) at (c .before .before .row-step .ensures) in
     at-end _ _ _ _ _ _ _ _ (c .before .before .before .loop .inv) w
 
 enum-known-why : tie.Need-enum-known-why Inv-loop μ-loop
 enum-known-why c = search needs
 
-refused-requires : tie.Need-refused-requires Inv-loop μ-loop
-refused-requires c κs = search needs
+without-rows-requires : tie.Need-without-rows-requires Inv-loop μ-loop
+without-rows-requires c κs = search needs
 
 returns-2 : tie.Need-returns-2 Inv-loop μ-loop
 returns-2 c =
-    let w = rw (c .before .before .why .given .1) at (c .before .before .before .before .step .ensures) in
-    at-stop _ _ _ _ _ _ _ _ (c .before .before .before .before .before .loop .inv) _ _ _ w (c .refused .ensures)
+    let w = rw (c .before .before .why .given .1) at (c .before .before .before .before .row-step .ensures) in
+    at-stop _ _ _ _ _ _ _ _ (c .before .before .before .before .before .loop .inv) _ _ _ w (c .without-rows .ensures)
 
 pub read-rows-spec : {M : Type 1} → statement M
 read-rows-spec =
@@ -114,7 +113,7 @@ read-rows-spec =
     no-rate-requires
     no-member-requires
     loop-holds
-    step-requires
+    row-step-requires
     enum-known-r
     mul-rates
     array-set-from-rates
@@ -131,5 +130,5 @@ read-rows-spec =
     enum-told
     returns
     enum-known-why
-    refused-requires
+    without-rows-requires
     returns-2)

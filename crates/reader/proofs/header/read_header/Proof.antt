@@ -1,5 +1,5 @@
 -- `reader::header::read_header`: the reading of the file is that from the header line k on, after k numbers.
-use mathlib.Core.Path.{_≡_, sym, _∙_}
+use mathlib.Core.Path.{_≡_, refl, sym, _∙_}
 use Prim.Native.Nat.{_-_, _≤_, _<_}
 use native.Mathlib.Numerals.{add-one}
 use native.Mathlib.Omega.{arith}
@@ -7,7 +7,6 @@ use borrow.Author.Needs.{needs}
 use lib.ListN.{length, take, length-set}
 use lib.Seq.{take-suc-set}
 use Rattle.fund.specs.Reading.{headerLines, headerOf, reading}
-use Rattle.laws.specs.Ranges.{header-length}
 use Rattle.reader.specs.Header.{headerFrom}
 use Rattle.reader.proofs.Headers.{header-start, header-end}
 use Rattle.reader.proofs.header.read_header.Statement.{statement}
@@ -20,71 +19,85 @@ abbrev μ-loop : tie.MeasureT-loop
 μ-loop file values₀ at₀ k₀ values at k = length headerLines - k
 
 loop-holds : tie.Need-loop-holds Inv-loop μ-loop
-loop-holds c = (omega arith, sym header-length, header-start _)
+unfolding headerLines
+loop-holds c = (omega arith, refl, header-start _)
 
-step-requires : tie.Need-step-requires Inv-loop μ-loop
-step-requires c κs = omega (arith, header-length)
+header-step-requires : tie.Need-header-step-requires Inv-loop μ-loop
+unfolding headerLines
+header-step-requires c κs = omega arith
 
 enum-known-why : tie.Need-enum-known-why Inv-loop μ-loop
 enum-known-why c = search needs
 
 add-t12 : tie.Need-add-t12 Inv-loop μ-loop
-add-t12 c = omega (arith, header-length)
+unfolding headerLines
+add-t12 c = omega arith
 
 returns : tie.Need-returns Inv-loop μ-loop
 returns c =
     let l = c .before .before .before .before .before .loop in
-    let e = rw (c .before .why .given .1) at (c .before .before .before .step .ensures) in
+    let e = rw (c .before .why .given .1) at (c .before .before .before .header-step .ensures) in
     l .inv .2 ∙ e (take (l .k) (l .values))
 
 enum-known-n : tie.Need-enum-known-n Inv-loop μ-loop
 enum-known-n c = search needs
 
 mul-values : tie.Need-mul-values Inv-loop μ-loop
-mul-values c = omega (arith, header-length)
+unfolding headerLines
+mul-values c = omega arith
 
 array-write-values : tie.Need-array-write-values Inv-loop μ-loop
-array-write-values c = omega (arith, header-length)
+unfolding headerLines
+array-write-values c = omega arith
 
 add-k : tie.Need-add-k Inv-loop μ-loop
-add-k c = omega (arith, header-length)
+unfolding headerLines
+add-k c = omega arith
 
 loop-less : tie.Need-loop-less Inv-loop μ-loop
-loop-less c = omega (arith, header-length)
+unfolding headerLines
+loop-less c = omega arith
 
 loop-again : tie.Need-loop-again Inv-loop μ-loop
+unfolding headerLines
 loop-again c =
     let l = c .before .before .before .before .before .loop in
-    let e = rw (c .before .n .given .1) at (c .before .before .before .step .ensures) in
-    let w : l .k < length (l .values) = omega (arith, header-length) in (
-      omega (arith, header-length),
+    let e = rw (c .before .n .given .1) at (c .before .before .before .header-step .ensures) in
+    let w : l .k < length (l .values) = omega arith in (
+      omega arith,
       simp length-set (l .inv .1),
       l .inv .2 ∙ e (take (l .k) (l .values)) ∙ rw (add-one (l .k), take-suc-set (l .values) (l .k) _ w),
     )
 
 array-read-t18 : tie.Need-array-read-t18 Inv-loop μ-loop
-array-read-t18 c = omega (arith, header-length)
+unfolding headerLines
+array-read-t18 c = omega arith
 
 array-read-t21 : tie.Need-array-read-t21 Inv-loop μ-loop
-array-read-t21 c = omega (arith, header-length)
+unfolding headerLines
+array-read-t21 c = omega arith
 
 array-read-t24 : tie.Need-array-read-t24 Inv-loop μ-loop
-array-read-t24 c = omega (arith, header-length)
+unfolding headerLines
+array-read-t24 c = omega arith
 
 array-read-t27 : tie.Need-array-read-t27 Inv-loop μ-loop
-array-read-t27 c = omega (arith, header-length)
+unfolding headerLines
+array-read-t27 c = omega arith
 
 array-read-t30 : tie.Need-array-read-t30 Inv-loop μ-loop
-array-read-t30 c = omega (arith, header-length)
+unfolding headerLines
+array-read-t30 c = omega arith
 
 array-read-t33 : tie.Need-array-read-t33 Inv-loop μ-loop
-array-read-t33 c = omega (arith, header-length)
+unfolding headerLines
+array-read-t33 c = omega arith
 
 returns-2 : tie.Need-returns-2 Inv-loop μ-loop
-unfolding headerOf
+unfolding headerOf headerLines
 returns-2 c =
     let l = c .before .loop in
-    let z : l .k ≡ length headerLines = omega (arith, header-length) in
+    let z : l .k ≡ length headerLines = omega arith in
     l .inv .2 ∙ header-end _ (l .values) (l .k) (l .at) z (l .inv .1 ∙ sym z)
 
 pub read-header-spec : {M : Type 1} → statement M
@@ -94,7 +107,7 @@ read-header-spec =
     Inv-loop
     μ-loop
     loop-holds
-    step-requires
+    header-step-requires
     enum-known-why
     add-t12
     returns

@@ -6,7 +6,7 @@ use borrow.Author.Needs.{needs}
 use lib.ListN.{length, drop}
 use Rattle.fund.specs.Spelling.{behind, numbers}
 use Rattle.reader.specs.Text.{numbersIn}
-use Rattle.reader.specs.Lines.{lineOf}
+use Rattle.reader.specs.Lines.{lineIn}
 use Rattle.reader.proofs.Lines.{rest-all, behind-length, spelled-open, spelled-not, spelled-behind}
 use Rattle.reader.proofs.line.spelled.Statement.{statement}
 use Rattle.reader.proofs.line.spelled.Tie as tie
@@ -30,7 +30,7 @@ begins-requires : tie.Need-begins-requires
 begins-requires c κs = search needs
 
 -- behind the key, where it begins the text
-begun : (c : tie.Then2) → let a = c .before .before .before .before .before .before .before .args in behind (a .key .now) (lineOf (a .file .now) (a .line) .text) ≡ some (drop (length (a .key .now)) (lineOf (a .file .now) (a .line) .text))
+begun : (c : tie.Then2) → let a = c .before .before .before .before .before .before .before .args in behind (a .key .now) (lineIn (a .file .now) (a .line) .text) ≡ some (drop (length (a .key .now)) (lineIn (a .file .now) (a .line) .text))
 begun c = rw (c .if2 .taken) at (c .before .begins .ensures)
 
 sub-numbers-of : tie.Need-sub-numbers-of
@@ -49,7 +49,7 @@ returns-2 : tie.Need-returns-2
 returns-2 c =
     let a = c .before .before .before .before .before .before .before .before .before .args in
     c .numbers-of .ensures
-    ∙ ap (numbers (a .count)) (rest-all (length (a .key .now)) (lineOf (a .file .now) (a .line) .text))
+    ∙ ap (numbers (a .count)) (rest-all (length (a .key .now)) (lineIn (a .file .now) (a .line) .text))
     ∙ sym (spelled-behind (a .file .now) (a .line) (a .key .now) (a .count) _ (omega arith) (begun (c .before .before)))
 
 returns-3 : tie.Need-returns-3

@@ -27,7 +27,7 @@ unfolding lines
 loop-holds c =
     let n = c .before .args .place - 1 in
     let z : 0 ≡ n - n = omega arith in
-    record { fewer = omega arith; passed = subst (λ (k : ℕ). Passed (c .before .args .file .now) k 0) z (record { inside = omega arith; few = omega arith; left = refl }) }
+    record { fewer = omega arith; passed = subst (λ (k : ℕ). Passed (c .before .args .file .now) k 0) z (record { left = refl }) }
 
 next-line-requires : tie.Need-next-line-requires Inv-loop μ-loop
 next-line-requires c κs = search needs
