@@ -96,10 +96,11 @@ pub fn up(a: u64, b: u64) -> u64
     if b == 0 {
         return 0;
     }
+    let quotient = a / b;
     if a % b == 0 {
-        return a / b;
+        return quotient;
     }
-    a / b + 1
+    quotient + 1
 }
 
 // a / b to the nearest, halves up; a division by 0 is 0.
@@ -109,9 +110,10 @@ pub fn nearest(a: u64, b: u64) -> u64
     if b == 0 {
         return 0;
     }
+    let quotient = a / b;
     let rest = a % b;
     if rest < b - rest {
-        return a / b;
+        return quotient;
     }
-    a / b + 1
+    quotient + 1
 }

@@ -17,22 +17,19 @@ below c = N.mod-lt (c .before .args .a) (omega (arith, c .if1 .left))
 returns : tie.Need-returns
 returns c = sym (ap (near (c .before .args .a)) (c .if1 .taken) ∙ near-by-zero (c .before .args .a))
 
+div-quotient : tie.Need-div-quotient
+div-quotient c = search needs
+
 rem-rest : tie.Need-rem-rest
 rem-rest c = search needs
 
 sub-if2 : tie.Need-sub-if2
 sub-if2 c = omega (arith, below c)
 
-div-result : tie.Need-div-result
-div-result c = search needs
-
 returns-2 : tie.Need-returns-2
 returns-2 c =
     let a = c .before .before .args in
     sym (near-rest-low (a .a) (a .b) _ _ (parts (a .a) (a .b)) (omega (arith, c .if2 .taken, below (c .before))))
-
-div-result-2 : tie.Need-div-result-2
-div-result-2 c = search needs
 
 add-result : tie.Need-add-result
 add-result c =
@@ -45,4 +42,4 @@ returns-3 c =
     sym (near-rest-high (a .a) (a .b) _ _ (parts (a .a) (a .b)) (omega (arith, c .if2 .left, below (c .before))) (below (c .before)))
 
 pub nearest-spec : {M : Type 1} → statement M
-nearest-spec = tie.close (tie.spec returns rem-rest sub-if2 div-result returns-2 div-result-2 add-result returns-3)
+nearest-spec = tie.close (tie.spec returns div-quotient rem-rest sub-if2 returns-2 add-result returns-3)
