@@ -6,15 +6,6 @@ use borrow.Author.Needs.{needs}
 use Rattle.claims.proofs.steps.claimed_recursion.Statement.{statement}
 use Rattle.claims.proofs.steps.claimed_recursion.Tie as tie
 
-recursion-requires : tie.Need-recursion-requires
-recursion-requires c κs = search needs
-
-same-length : tie.Need-same-length
-same-length c = search needs
-
-same-length-2 : tie.Need-same-length-2
-same-length-2 c = search needs
-
 returns : tie.Need-returns
 returns c =
     let call = c .before .before .before in
@@ -23,4 +14,4 @@ returns c =
     rw same at (call .recursion .ensures)
 
 pub claimed-recursion-spec : {M : Type 1} → statement M
-claimed-recursion-spec = tie.close (tie.spec recursion-requires same-length same-length-2 returns)
+claimed-recursion-spec = tie.close (tie.spec (λ c κs. search needs) (λ c. search needs) (λ c. search needs) returns)
