@@ -151,10 +151,12 @@ loop-less c = omega arith
 
 loop-again : tie.Need-loop-again Inv-loop μ-loop
 loop-again c =
-    let a = c .before .before .before .before .before .before .before .before .before .before .before .before .before .args in
+    let turn = c .before .before .before in
+    let start = turn .before .before .before .before .before .before .before .before .before .before in
+    let a = start .args in
     let l = c .before .before .before .before .before .before .before .before .before .loop in
     let R-is = bound-is (c .before .before .before .before) in
-    let limited : CellFits (cell (c .before .before .before .before .before .before .before .before .before .before .before .before .before) (suc (l .last))) =
+    let limited : CellFits (cell start (suc (l .last))) =
     record { narrow = omega (arith, R-is, c .before .before .before .if1 .left); level = omega (arith, size-is (c .before), c .if2 .left) } in (
       omega arith,
       simp length-set (l .inv .1),
