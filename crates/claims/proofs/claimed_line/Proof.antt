@@ -4,12 +4,9 @@ use Rattle.pricing.specs.Priced.{lineOf}
 use Rattle.claims.proofs.claimed_line.Statement.{statement}
 use Rattle.claims.proofs.claimed_line.Tie as tie
 
-line-requires : tie.Need-line-requires
-line-requires c κs = search needs
-
 returns : tie.Need-returns
 unfolding lineOf
 returns c = c .line .ensures
 
 pub claimed-line-spec : {M : Type 1} → statement M
-claimed-line-spec = tie.close (tie.spec line-requires returns)
+claimed-line-spec = tie.close (tie.spec (λ c κs. search needs) returns)

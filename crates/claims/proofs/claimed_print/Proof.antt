@@ -4,14 +4,8 @@ use Rattle.claims.proofs.Calls.{prints}
 use Rattle.claims.proofs.claimed_print.Statement.{statement}
 use Rattle.claims.proofs.claimed_print.Tie as tie
 
-print-requires : tie.Need-print-requires
-print-requires c κs = search needs
-
-same-length : tie.Need-same-length
-same-length c = search needs
-
 returns : tie.Need-returns
 returns c = prints _ _ _ _ (c .before .before .print .ensures .0)
 
 pub claimed-print-spec : {M : Type 1} → statement M
-claimed-print-spec = tie.close (tie.spec print-requires same-length returns)
+claimed-print-spec = tie.close (tie.spec (λ c κs. search needs) (λ c. search needs) returns)

@@ -7,33 +7,6 @@ use Rattle.miguepo.proofs.Hosting.{hosts}
 use Rattle.miguepo.proofs.miguepo_price.Statement.{statement}
 use Rattle.miguepo.proofs.miguepo_price.Tie as tie
 
-price-requires : tie.Need-price-requires
-price-requires c κs = search needs
-
-verdict-number-requires : tie.Need-verdict-number-requires
-verdict-number-requires c κs = search needs
-
-verdict-place-requires : tie.Need-verdict-place-requires
-verdict-place-requires c κs = search needs
-
-sub-line-size : tie.Need-sub-line-size
-sub-line-size c = search needs
-
-bits-requires : tie.Need-bits-requires
-bits-requires c κs = search needs
-
-same-length : tie.Need-same-length
-same-length c = search needs
-
-same-length-2 : tie.Need-same-length-2
-same-length-2 c = search needs
-
-same-length-3 : tie.Need-same-length-3
-same-length-3 c = search needs
-
-same-length-4 : tie.Need-same-length-4
-same-length-4 c = search needs
-
 returns : tie.Need-returns
 returns c =
     let bits = c .before in
@@ -48,14 +21,6 @@ returns c =
 pub miguepo-price-spec : {M : Type 1} → statement M
 miguepo-price-spec =
     tie.close
-    (tie.spec
-    price-requires
-    verdict-number-requires
-    verdict-place-requires
-    sub-line-size
-    bits-requires
-    same-length
-    same-length-2
-    same-length-3
-    same-length-4
-    returns)
+    (tie.spec (λ c κs. search needs) (λ c κs. search needs) (λ c κs. search needs)
+    (λ c. search needs) (λ c κs. search needs) (λ c. search needs) (λ c. search needs)
+    (λ c. search needs) (λ c. search needs) returns)

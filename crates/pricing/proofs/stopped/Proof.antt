@@ -5,36 +5,6 @@ use Rattle.pricing.proofs.Stopping.{stopped-answers}
 use Rattle.pricing.proofs.stopped.Statement.{statement}
 use Rattle.pricing.proofs.stopped.Tie as tie
 
-clear-signed-requires : tie.Need-clear-signed-requires
-clear-signed-requires c κs = search needs
-
-clear-requires : tie.Need-clear-requires
-clear-requires c κs = search needs
-
-clear-signed-requires-2 : tie.Need-clear-signed-requires-2
-clear-signed-requires-2 c κs = search needs
-
-clear-requires-2 : tie.Need-clear-requires-2
-clear-requires-2 c κs = search needs
-
-part-of-requires : tie.Need-part-of-requires
-part-of-requires c κs = search needs
-
-no-figures-requires : tie.Need-no-figures-requires
-no-figures-requires c κs = search needs
-
-same-length : tie.Need-same-length
-same-length c = search needs
-
-same-length-2 : tie.Need-same-length-2
-same-length-2 c = search needs
-
-same-length-3 : tie.Need-same-length-3
-same-length-3 c = search needs
-
-same-length-4 : tie.Need-same-length-4
-same-length-4 c = search needs
-
 returns : tie.Need-returns
 returns c =
     let clear-r = c .before .before .before .before in
@@ -53,15 +23,6 @@ returns c =
 pub stopped-spec : {M : Type 1} → statement M
 stopped-spec =
     tie.close
-    (tie.spec
-    clear-signed-requires
-    clear-requires
-    clear-signed-requires-2
-    clear-requires-2
-    part-of-requires
-    no-figures-requires
-    same-length
-    same-length-2
-    same-length-3
-    same-length-4
-    returns)
+    (tie.spec (λ c κs. search needs) (λ c κs. search needs) (λ c κs. search needs)
+    (λ c κs. search needs) (λ c κs. search needs) (λ c κs. search needs) (λ c. search needs)
+    (λ c. search needs) (λ c. search needs) (λ c. search needs) returns)

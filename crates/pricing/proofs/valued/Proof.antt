@@ -10,33 +10,6 @@ use Rattle.pricing.proofs.Reading.{matched-verdict, matched-lives, few-
 use Rattle.pricing.proofs.valued.Statement.{statement}
 use Rattle.pricing.proofs.valued.Tie as tie
 
-enum-known-verdict : tie.Need-enum-known-verdict
-enum-known-verdict c = search needs
-
-stopped-requires : tie.Need-stopped-requires
-stopped-requires c κs = search needs
-
-enum-told : tie.Need-enum-told
-enum-told c = search needs
-
-value-requires : tie.Need-value-requires
-value-requires c κs = search needs
-
-horizon-of-requires : tie.Need-horizon-of-requires
-horizon-of-requires c κs = search needs
-
-same-length : tie.Need-same-length
-same-length c = search needs
-
-same-length-2 : tie.Need-same-length-2
-same-length-2 c = search needs
-
-same-length-3 : tie.Need-same-length-3
-same-length-3 c = search needs
-
-same-length-4 : tie.Need-same-length-4
-same-length-4 c = search needs
-
 returns : tie.Need-returns
 returns c =
     let stop = c .before .before .before .before .before .before in
@@ -46,18 +19,6 @@ returns c =
     let k = o .pre in
     let n = lengths (a .transform .now) (a .h .now) (a .f .now) (a .r .now) in
     matched-answers _ n (k .of) (k .is) _ _ _ _ _ (matched-verdict _ _ _ _ k) (told .verdict .given .1) (stop .stopped .ensures)
-
-same-length-5 : tie.Need-same-length-5
-same-length-5 c = search needs
-
-same-length-6 : tie.Need-same-length-6
-same-length-6 c = search needs
-
-same-length-7 : tie.Need-same-length-7
-same-length-7 c = search needs
-
-same-length-8 : tie.Need-same-length-8
-same-length-8 c = search needs
 
 returns-2 : tie.Need-returns-2
 returns-2 c =
@@ -78,19 +39,7 @@ returns-2 c =
 pub valued-spec : {M : Type 1} → statement M
 valued-spec =
     tie.close
-    (tie.spec
-    enum-known-verdict
-    stopped-requires
-    enum-told
-    value-requires
-    horizon-of-requires
-    same-length
-    same-length-2
-    same-length-3
-    same-length-4
-    returns
-    same-length-5
-    same-length-6
-    same-length-7
-    same-length-8
-    returns-2)
+    (tie.spec (λ c. search needs) (λ c κs. search needs) (λ c. search needs)
+    (λ c κs. search needs) (λ c κs. search needs) (λ c. search needs) (λ c. search needs)
+    (λ c. search needs) (λ c. search needs) returns (λ c. search needs)
+    (λ c. search needs) (λ c. search needs) (λ c. search needs) returns-2)

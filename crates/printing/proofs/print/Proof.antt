@@ -12,33 +12,6 @@ use Rattle.printing.proofs.Printing.{written-within, cells-length, sign
 use Rattle.printing.proofs.print.Statement.{statement}
 use Rattle.printing.proofs.print.Tie as tie
 
-slice-aggregate-price : tie.Need-slice-aggregate-price
-slice-aggregate-price c = search needs
-
-slice-aggregate-price-2 : tie.Need-slice-aggregate-price-2
-slice-aggregate-price-2 c = search needs
-
-slice-aggregate-price-3 : tie.Need-slice-aggregate-price-3
-slice-aggregate-price-3 c = search needs
-
-slice-aggregate-price-4 : tie.Need-slice-aggregate-price-4
-slice-aggregate-price-4 c = search needs
-
-price-requires : tie.Need-price-requires
-price-requires c κs = search needs
-
-slice-aggregate-listing : tie.Need-slice-aggregate-listing
-slice-aggregate-listing c = search needs
-
-slice-aggregate-listing-2 : tie.Need-slice-aggregate-listing-2
-slice-aggregate-listing-2 c = search needs
-
-listing-requires : tie.Need-listing-requires
-listing-requires c κs = search needs
-
-same-length : tie.Need-same-length
-same-length c = search needs
-
 returns : tie.Need-returns
 returns c =
     let priced = c .before .before .before .before .before .before .before .before .before .before .before in
@@ -55,14 +28,6 @@ returns c =
 pub print-spec : {M : Type 1} → statement M
 print-spec =
     tie.close
-    (tie.spec
-    slice-aggregate-price
-    slice-aggregate-price-2
-    slice-aggregate-price-3
-    slice-aggregate-price-4
-    price-requires
-    slice-aggregate-listing
-    slice-aggregate-listing-2
-    listing-requires
-    same-length
-    returns)
+    (tie.spec (λ c. search needs) (λ c. search needs) (λ c. search needs)
+    (λ c. search needs) (λ c κs. search needs) (λ c. search needs) (λ c. search needs)
+    (λ c κs. search needs) (λ c. search needs) returns)

@@ -9,12 +9,6 @@ use Rattle.printing.proofs.print_first.Tie as tie
 slice-aggregate-print : tie.Need-slice-aggregate-print
 slice-aggregate-print c = sym (length-take-le _ _ (c .before .before .before .pre .inside))
 
-print-requires : tie.Need-print-requires
-print-requires c κs = search needs
-
-same-length : tie.Need-same-length
-same-length c = search needs
-
 returns : tie.Need-returns
 returns c =
     let s = c .before .before .before .before .before .before .before in
@@ -22,4 +16,4 @@ returns c =
     (prints-first (s .args .buffer .now) (s .args .size) (s .pre) (p .0), (p .1))
 
 pub print-first-spec : {M : Type 1} → statement M
-print-first-spec = tie.close (tie.spec slice-aggregate-print print-requires same-length returns)
+print-first-spec = tie.close (tie.spec slice-aggregate-print (λ c κs. search needs) (λ c. search needs) returns)

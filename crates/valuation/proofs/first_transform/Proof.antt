@@ -4,20 +4,11 @@ use Rattle.valuation.proofs.Judging.{table-fits, transform-filled}
 use Rattle.valuation.proofs.first_transform.Statement.{statement}
 use Rattle.valuation.proofs.first_transform.Tie as tie
 
-clear-transform-requires : tie.Need-clear-transform-requires
-clear-transform-requires c κs = search needs
-
 fill-first-requires : tie.Need-fill-first-requires
 fill-first-requires c κs =
     let s = c .before .before .before .before .before .before .before .before .before in
     let z = c .before .before .before .before .before .clear-transform .ensures in
     (s .pre .0, table-fits (s .args .fund) _ _ _ (s .pre .1) _ _ (z .0) (z .1))
-
-same-length : tie.Need-same-length
-same-length c = search needs
-
-same-length-2 : tie.Need-same-length-2
-same-length-2 c = search needs
 
 returns : tie.Need-returns
 returns c =
@@ -27,5 +18,4 @@ returns c =
 
 pub first-transform-spec : {M : Type 1} → statement M
 first-transform-spec =
-    tie.close
-    (tie.spec clear-transform-requires fill-first-requires same-length same-length-2 returns)
+    tie.close (tie.spec (λ c κs. search needs) fill-first-requires (λ c. search needs) (λ c. search needs) returns)

@@ -7,9 +7,6 @@ use Rattle.valuation.proofs.Settling.{recursed-for, answered-for}
 use Rattle.valuation.proofs.recursed.Statement.{statement}
 use Rattle.valuation.proofs.recursed.Tie as tie
 
-recursion-requires : tie.Need-recursion-requires
-recursion-requires c κs = search needs
-
 -- f(0) is held as it is
 cell-fits : (s : tie.Start) → SFits w64 (s .args .t .cell)
 cell-fits s = sfits-of {w = w64} (s .good .1 .0 .1 .1 .1 .1 .1 .1 .0 .1)
@@ -22,18 +19,6 @@ settled-requires c κs =
     let k = o .recursion .kept .1 .1 .1 .1 .1 in
     recursed-for (a .fund) (a .t) (o .recursion .result) (a .transform .now) (a .h .now) _ _ _ _ (k .0) (k .1 .0) (s .pre) (rw (toZ-ofZ (cell-fits s)) at (o .recursion .ensures))
 
-same-length : tie.Need-same-length
-same-length c = search needs
-
-same-length-2 : tie.Need-same-length-2
-same-length-2 c = search needs
-
-same-length-3 : tie.Need-same-length-3
-same-length-3 c = search needs
-
-same-length-4 : tie.Need-same-length-4
-same-length-4 c = search needs
-
 returns : tie.Need-returns
 returns c =
     let o = c .before .before .before .before .before .before .before .before .before .before .before in
@@ -44,11 +29,5 @@ returns c =
 pub recursed-spec : {M : Type 1} → statement M
 recursed-spec =
     tie.close
-    (tie.spec
-    recursion-requires
-    settled-requires
-    same-length
-    same-length-2
-    same-length-3
-    same-length-4
-    returns)
+    (tie.spec (λ c κs. search needs) settled-requires (λ c. search needs)
+    (λ c. search needs) (λ c. search needs) (λ c. search needs) returns)

@@ -9,24 +9,6 @@ use Rattle.valuation.proofs.Settling.{answers-wide, stands, below-deduc
 use Rattle.valuation.proofs.settled.Statement.{statement}
 use Rattle.valuation.proofs.settled.Tie as tie
 
-enum-told : tie.Need-enum-told
-enum-told c = search needs
-
-clear-transform-requires : tie.Need-clear-transform-requires
-clear-transform-requires c κs = search needs
-
-refusal-requires : tie.Need-refusal-requires
-refusal-requires c κs = search needs
-
-refused-requires : tie.Need-refused-requires
-refused-requires c κs = search needs
-
-same-length : tie.Need-same-length
-same-length c = search needs
-
-same-length-2 : tie.Need-same-length-2
-same-length-2 c = search needs
-
 returns : tie.Need-returns
 returns c ms k =
     let m = c .before .before .before .before .before .before .before .before in
@@ -56,13 +38,6 @@ returns-2 c ms k =
 pub settled-spec : {M : Type 1} → statement M
 settled-spec =
     tie.close
-    (tie.spec
-    enum-told
-    clear-transform-requires
-    refusal-requires
-    refused-requires
-    same-length
-    same-length-2
-    returns
-    premium-requires
-    returns-2)
+    (tie.spec (λ c. search needs) (λ c κs. search needs) (λ c κs. search needs)
+    (λ c κs. search needs) (λ c. search needs) (λ c. search needs) returns
+    premium-requires returns-2)
