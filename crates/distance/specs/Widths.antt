@@ -27,7 +27,7 @@ abbrev pub most-sum : ℕ
 most-sum = 1145000000000
 
 -- 7 s ≤ 8×10^12 + 7 (b + 2 E), for the sum b of the bounds of 4,096 cells
-small-enough : (s b E : ℕ) → 7 *ⁿ s ≤ⁿ 8 *ⁿ unit +ⁿ 7 *ⁿ (b +ⁿ 2 *ⁿ E) → b ≤ⁿ 4096 *ⁿ most-bound → E ≤ⁿ most-truncation → s ≤ⁿ most-sum
+small-enough : (s b E : ℕ) → 7 *ⁿ s ≤ⁿ 8 *ⁿ unit +ⁿ 7 *ⁿ (b +ⁿ 2 *ⁿ E) → b ≤ⁿ suc most-horizon *ⁿ most-bound → E ≤ⁿ most-truncation → s ≤ⁿ most-sum
 unfolding unit
 small-enough s b E h k l = omega arith
 

@@ -1,6 +1,7 @@
 // From a fund file's bytes, or from standard input, to the bytes of the listing.
 mod input;
 
+use fund::Fund;
 ghost use mathlib.Core.Path.{_≡_};
 ghost use Prim.Native.Nat.{_≤_};
 ghost use lib.ListN.{length, take};
@@ -9,7 +10,7 @@ ghost use Rattle.printing.specs.Printed.{shown};
 ghost use Rattle.printing.specs.Input.{HoldsFirst, PrintsFirst, PrintsInput};
 
 // Cells enough for every horizon.
-const CELLS: usize = 4096;
+const CELLS: usize = Fund::MOST_HORIZON as usize + 1;
 
 // No more bytes of a file are read than these.
 pub const MOST_BYTES: usize = 65536;

@@ -84,7 +84,7 @@ pub record RecursedFor (fund : Fund) (t : Totals) (a : Recursed) (d : List ℤ) 
   pub left-is : RecursionLeft fund t a d h f r
 
 abbrev pub refusalOf : Recursed → Verdict
-refusalOf recursed.Done = Refused refusal.Range 0
+refusalOf recursed.Done = Accepted
 refusalOf recursed.Short = Refused refusal.Range 0
 refusalOf (recursed.Outside k) = Refused refusal.Range 0
 refusalOf (recursed.Wide x) = Refused refusal.Wide x

@@ -73,7 +73,7 @@ fn tested_totals(fund: Fund, t: Totals, d: usize, h: usize, f: usize, r: usize) 
     Verdict::Accepted
 }
 
-// Refusal 10. A fund's own transform has no other answer than a wide cell: any other breaks a limit.
+// Refusal 10, or none. A fund's own transform has no other answers than these two: any other breaks a limit.
 fn refusal(answer: Recursed) -> Verdict
     ensures { λ v. ⌜ v ≡ refusalOf answer ⌝ }
 {
@@ -82,7 +82,7 @@ fn refusal(answer: Recursed) -> Verdict
         Recursed::Large(_) => Verdict::Refused(Refusal::Range, 0),
         Recursed::Outside(_) => Verdict::Refused(Refusal::Range, 0),
         Recursed::Short => Verdict::Refused(Refusal::Range, 0),
-        Recursed::Done => Verdict::Refused(Refusal::Range, 0),
+        Recursed::Done => Verdict::Accepted,
     }
 }
 

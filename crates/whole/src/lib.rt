@@ -5,6 +5,7 @@ pub use cells::clear;
 pub use cells::clear_signed;
 ghost use mathlib.Core.Path.{_≡_};
 ghost use Prim.Native.Nat.{min, _+_, _≤_};
+ghost use lib.Dec.{ltb};
 ghost use lib.IntN.{pos, natAbs, _-ℤ_};
 ghost use Rattle.rounding.specs.Rounding.{near, up as upOf};
 ghost use Rattle.whole.specs.Sign.{most-value, signed};
@@ -57,7 +58,7 @@ pub fn magnitude(x: i64) -> u64
 }
 
 pub fn difference(plus: u64, minus: u64) -> Signed
-    ensures { λ r. ⌜ (signed (r .negative) (r .size) ≡ pos plus -ℤ pos minus) × (r .size ≤ plus + minus) ⌝ }
+    ensures { λ r. ⌜ (signed (r .negative) (r .size) ≡ pos plus -ℤ pos minus) × (r .size ≤ plus + minus) × (r .negative ≡ ltb plus minus) ⌝ }
 {
     if plus < minus {
         return Signed {

@@ -15,6 +15,7 @@ use Rattle.rounding.specs.Rounding.{up}
 use Rattle.rounding.proofs.Laws.{near-below}
 use Rattle.fund.specs.declared.Life.{Life}
 use Rattle.fund.specs.Base.{if_then_else_, total, sum}
+use Rattle.fund.specs.Limits.{most-horizon, most-members}
 use Rattle.fund.specs.Folding.{claim, stay, single}
 use Rattle.fund.specs.Transform.{unit, row, Term, placeOf, placed, rowTerms, singleTerms, weight, replacedTerm, replacedTerms, terms, sumD, D, H, load}
 use Rattle.laws.specs.Accepted.{All}
@@ -37,11 +38,11 @@ none-H : sizeH [] ≡ 0
 unfolding sizeH total
 none-H = refl
 
-module _ (X : ℕ) (h : X ≤ 4095) (m : Life) where
-  at-D : (n l : ℕ) → 0 < n → sizeD (termsAt X m n l) ≤ 4095 * getD (row m n) l 0
+module _ (X : ℕ) (h : X ≤ most-horizon) (m : Life) where
+  at-D : (n l : ℕ) → 0 < n → sizeD (termsAt X m n l) ≤ most-horizon * getD (row m n) l 0
   at-D n l u = go (placed X m n l) refl
     where
-      go : (b : Bool) → placed X m n l ≡ b → sizeD (termsAt X m n l) ≤ 4095 * getD (row m n) l 0
+      go : (b : Bool) → placed X m n l ≡ b → sizeD (termsAt X m n l) ≤ most-horizon * getD (row m n) l 0
       go true e =
           let x = placeOf m n l in
           let v = getD (row m n) l 0 in
@@ -53,13 +54,13 @@ module _ (X : ℕ) (h : X ≤ 4095) (m : Life) where
           )
       go false e = omega (arith, ap sizeD (left-out X m n l e), none-D)
 
-  row-D : (n l : ℕ) → 0 < n → sizeD (rowTerms X m n l) ≤ 4095 * sumRow (take l (row m n))
+  row-D : (n l : ℕ) → 0 < n → sizeD (rowTerms X m n l) ≤ most-horizon * sumRow (take l (row m n))
   unfolding rowTerms
   row-D n zero u = omega (arith, none-D)
   row-D n (suc l) u =
       omega (arith, sizeD-append (rowTerms X m n l) (termsAt X m n l), row-D n l u, at-D n l u, take-sum l (row m n))
 
-  single-D : claim m < 500000 → (r : ℕ) → r ≤ 12 → sizeD (singleTerms X m r) ≤ r * (4095 * (up (unit * claim m) (stay m) + 84))
+  single-D : claim m < 500000 → (r : ℕ) → r ≤ 12 → sizeD (singleTerms X m r) ≤ r * (most-horizon * (up (unit * claim m) (stay m) + 84))
   unfolding singleTerms
   single-D c zero g = omega (arith, none-D)
   single-D c (suc r) g =
@@ -72,10 +73,10 @@ module _ (X : ℕ) (h : X ≤ 4095) (m : Life) where
         row-sum m c r,
       )
 
-  replaced-D : (w k : ℕ) → sizeD (replacedTerm X w k) ≤ 4095 * w
+  replaced-D : (w k : ℕ) → sizeD (replacedTerm X w k) ≤ most-horizon * w
   replaced-D w k = go (ltb 0 k) (leb k X) refl refl
     where
-      go : (b c : Bool) → ltb 0 k ≡ b → leb k X ≡ c → sizeD (replacedTerm X w k) ≤ 4095 * w
+      go : (b c : Bool) → ltb 0 k ≡ b → leb k X ≡ c → sizeD (replacedTerm X w k) ≤ most-horizon * w
       go true true e f =
           let l = leb-true k X f in
           omega (arith, replaced-size X w k (ltb-true 0 k e) l, N.mul-le-mul-left w (N.le-trans l h))
@@ -88,7 +89,7 @@ module _ (X : ℕ) (h : X ≤ 4095) (m : Life) where
     where
       go : (b : Bool) → single m ≡ b → sizeD (if b then singleTerms X m r else replacedTerms X a m) ≤ 49140 * ((if b then 0 else weight a (claim m)) + (if b then up (unit * claim m) (stay m) else 0) + 84)
       go true e =
-          let k = 4095 * (up (unit * claim m) (stay m) + 84) in
+          let k = most-horizon * (up (unit * claim m) (stay m) + 84) in
           omega (arith, single-D (i .limited e) r g, N.mul-le-mul-right k g)
       go false e =
           let q = weight a (m .q) in
@@ -96,14 +97,14 @@ module _ (X : ℕ) (h : X ≤ 4095) (m : Life) where
           omega (arith, sizeD-append (replacedTerm X q (m .d)) (replacedTerm X j (m .e)), replaced-D q (m .d), replaced-D j (m .e))
 
   -- ---- and in H
-  at-H : (n l : ℕ) → sizeH (termsAt X m n l) ≤ 4095
+  at-H : (n l : ℕ) → sizeH (termsAt X m n l) ≤ most-horizon
   at-H n l = go (placed X m n l) refl
     where
-      go : (b : Bool) → placed X m n l ≡ b → sizeH (termsAt X m n l) ≤ 4095
+      go : (b : Bool) → placed X m n l ≡ b → sizeH (termsAt X m n l) ≤ most-horizon
       go true e = omega (arith, placed-sizeH X m n l e, placed-within X m n l e)
       go false e = omega (arith, ap sizeH (left-out X m n l e), none-H)
 
-  row-H : (n l : ℕ) → sizeH (rowTerms X m n l) ≤ 4095 * l
+  row-H : (n l : ℕ) → sizeH (rowTerms X m n l) ≤ most-horizon * l
   unfolding rowTerms
   row-H n zero = omega (arith, none-H)
   row-H n (suc l) = omega (arith, sizeH-append (rowTerms X m n l) (termsAt X m n l), row-H n l, at-H n l)
@@ -151,7 +152,7 @@ lives-H X r a [] = none-H
 lives-H X r a (m ∷ ms) =
     sizeH-append (lifeTerms X r a m) (terms X r a ms) ∙ ap (λ x. sizeH (lifeTerms X r a m) + x) (lives-H X r a ms)
 
-module _ (X r a : ℕ) (ms : List Life) (x : X ≤ 4095) (o : r ≤ 12) (few : length ms ≤ 1000) (i : All InRange ms) where
+module _ (X r a : ℕ) (ms : List Life) (x : X ≤ most-horizon) (o : r ≤ 12) (few : length ms ≤ most-members) (i : All InRange ms) where
   pub width-D : load a ms ≤ 8000000000000 → sizeD (terms X r a ms) ≤ 400000000000000000
   width-D l =
       omega (
