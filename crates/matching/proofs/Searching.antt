@@ -1,15 +1,18 @@
--- The first n rows of a table from a place on: the rate row of an age, and the first member that meets a condition.
-use mathlib.Core.Path.{_≡_, _∙_}
+-- The first n rows of a table from a place on: the rate row of an age, and the first member that meets a condition. And the first of a
+-- list that grows, its place kept as a number.
+use mathlib.Core.Path.{_≡_, refl, sym, _∙_}
 use mathlib.Core.Bool.{Bool, true, false}
-use mathlib.Core.List.{List, [], _∷_}
-use mathlib.Core.Option.{none, some}
-use Prim.Native.Nat.{ℕ, suc, _+_, _≤_, _<_}
+use mathlib.Core.List.{List, [], _∷_, _++_}
+use mathlib.Core.Option.{Option, none, some}
+use Prim.Native.Nat.{ℕ, zero, suc, _+_, _≤_, _<_}
 use native.Mathlib.Numerals.{add-one}
 use native.Mathlib.Omega.{arith}
 use borrow.Author.Tests.{eq-eqb, ne-eqb}
+use lib.Dec.{eqb, eqb·suc-zero}
 use lib.ListN.{length, take, drop, getD, drop-of-length-le}
 use lib.Seq.{drop-cons, length-take-le, getD-take}
 use Rattle.fund.specs.declared.Rate.{Rate}
+use Rattle.fund.specs.Base.{if_then_else_}
 use Rattle.fund.specs.Folding.{rateAt}
 use Rattle.fund.specs.Refusals.{first}
 use Rattle.laws.specs.Rows.{blankRate}
@@ -36,6 +39,41 @@ module _ {A : Type 0} (l : List A) (n : ℕ) (room : n ≤ length l) (blank : A)
     pub first-none : (k : ℕ) → n ≤ k → first met (at + k) (drop k (take n l)) ≡ none
     unfolding first
     first-none k h = rw (no-row-at k h)
+
+-- A place as a number, none at 0.
+abbrev pub placed : ℕ → Option ℕ
+placed zero = none
+placed (suc p) = some (suc p)
+
+pub placed-above : (p : ℕ) → 0 < p → placed p ≡ some p
+placed-above zero h = absurd (omega arith)
+placed-above (suc p) h = refl
+
+-- One place, or where there is none another.
+abbrev or-else : Option ℕ → Option ℕ → Option ℕ
+or-else none o = o
+or-else (some p) o = some p
+
+-- The first that meets a condition, after one more.
+module _ {A : Type 0} (met : A → Bool) (x : A) where
+  first-more : (at : ℕ) (l : List A) → first met at (l ++ (x ∷ [])) ≡ or-else (first met at l) (if met x then some (at + length l) else none)
+  unfolding first
+  first-more at [] = let z : at + 0 ≡ at = omega arith in rw z
+  first-more at (a ∷ l) = go (met a) refl (first-more (suc at) l)
+    where
+      go : (b : Bool) → met a ≡ b → first met (suc at) (l ++ (x ∷ [])) ≡ or-else (first met (suc at) l) (if met x then some (suc at + length l) else none) → first met at (a ∷ (l ++ (x ∷ []))) ≡ or-else (first met at (a ∷ l)) (if met x then some (at + suc (length l)) else none)
+      go true f e = rw f
+      go false f e =
+          let z : at + suc (length l) ≡ suc at + length l = omega arith in
+          rw (f, z) e
+
+  pub first-placed : (at p : ℕ) (l : List A) → 0 < at → first met at l ≡ placed p → first met at (l ++ (x ∷ [])) ≡ placed (if eqb p 0 then (if met x then at + length l else 0) else p)
+  first-placed at zero l h e = first-more at l ∙ rw e (go (met x) refl)
+    where
+      go : (b : Bool) → met x ≡ b → (if met x then some (at + length l) else none) ≡ placed (if met x then at + length l else 0)
+      go true f = rw f (sym (placed-above (at + length l) (omega arith)))
+      go false f = rw f
+  first-placed at (suc p) l h e = first-more at l ∙ rw (e, eqb·suc-zero p)
 
 module _ (l : List Rate) (n : ℕ) (room : n ≤ length l) (age : ℕ) where
   pub rate-here : (j : ℕ) → j < n → getD l j blankRate .age ≡ age → rateAt (drop j (take n l)) age ≡ some (getD l j blankRate)

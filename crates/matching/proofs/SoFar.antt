@@ -1,4 +1,5 @@
--- Where the matching stands: the lives of the first k members are there, and the member k has no rate among the first j rows.
+-- Where the matching stands: the lives of the first k members are there, with the place of the first of refusal 6, and the member k
+-- has no rate among the first j rows.
 use mathlib.Core.Path.{_≡_, refl, sym, _∙_, ap}
 use mathlib.Core.Bool.{true, false}
 use mathlib.Core.List.{List, [], _∷_, _++_, map, map-append}
@@ -6,42 +7,47 @@ use mathlib.Core.Option.{none, some}
 use Prim.Native.Nat.{ℕ, _+_, _≤_, _<_}
 use native.Mathlib.Numerals.{add-one}
 use native.Mathlib.Omega.{arith}
+use lib.Dec.{eqb}
 use lib.ListN.{length, take, drop, set, getD, length-map}
 use lib.Seq.{take-suc, length-take-le}
 use Rattle.fund.specs.declared.Rate.{Rate}
 use Rattle.fund.specs.declared.Member.{Member}
 use Rattle.fund.specs.declared.Life.{Life}
-use Rattle.fund.specs.declared.Refusal.the-variants.{Unmatched}
+use Rattle.fund.specs.declared.Refusal.the-variants.{Unmatched, Half}
 use Rattle.fund.specs.declared.Verdict.the-variants.{Accepted, Refused}
+use Rattle.fund.specs.Base.{if_then_else_}
 use Rattle.fund.specs.Limits.{most-members}
 use Rattle.fund.specs.Folding.{rateAt, folded, life}
-use Rattle.fund.specs.Refusals.{first, unmatched, refuse}
+use Rattle.fund.specs.Refusals.{first, unmatched, half, refuse}
 use Rattle.laws.specs.Rows.{blankRate, blankMember, blankLife, rows-length, rows-put}
 use Rattle.matching.specs.declared.table.Matched.{Matched}
 use Rattle.matching.specs.Matching.{lifeTable, withLives}
-use Rattle.matching.specs.Lives.{livesFrom}
-use Rattle.matching.proofs.Searching.{first-here, first-later, first-none, rate-here, rate-later, rate-none}
+use Rattle.matching.specs.Lives.{byMember}
+use Rattle.matching.proofs.Searching.{first-here, first-later, first-none, placed, placed-above, first-placed, rate-here, rate-later, rate-none}
 
-pub record LivesSoFar (rates : List Rate) (rated : ℕ) (members : List Member) (enrolled line : ℕ) (lives : List Life) (k j : ℕ) : Type 0 where
+pub record LivesSoFar (rates : List Rate) (rated : ℕ) (members : List Member) (enrolled line : ℕ) (lives : List Life) (p k j : ℕ) : Type 0 where
   pub members-within : k ≤ enrolled
   pub rates-within : j ≤ rated
   pub lives-are : lives ≡ lifeTable (map (life (take rated rates)) (take k members))
+  pub half-at : first half line (map (life (take rated rates)) (take k members)) ≡ placed p
   pub all-matched : first (unmatched (take rated rates)) line (take enrolled members) ≡ first (unmatched (take rated rates)) (line + k) (drop k (take enrolled members))
   pub no-rate-yet : rateAt (take rated rates) (getD members k blankMember .age) ≡ rateAt (drop j (take rated rates)) (getD members k blankMember .age)
 
 module _ (rates : List Rate) (rated : ℕ) (members : List Member) (enrolled line : ℕ) where
-  pub start : LivesSoFar rates rated members enrolled line (lifeTable []) 0 0
+  pub start : LivesSoFar rates rated members enrolled line (lifeTable []) 0 0 0
+  unfolding first
   start =
       let z : line ≡ line + 0 = omega arith in
       record {
         members-within = omega arith;
         rates-within = omega arith;
         lives-are = refl;
+        half-at = refl;
         all-matched = ap (λ n. first (unmatched (take rated rates)) n (take enrolled members)) z;
         no-rate-yet = refl;
       }
 
-  module _ (few-rates : rated ≤ length rates) (few-members : enrolled ≤ length members) (long : length members ≡ most-members) (lives : List Life) (k j : ℕ) (s : LivesSoFar rates rated members enrolled line lives k j) where
+  module _ (few-rates : rated ≤ length rates) (few-members : enrolled ≤ length members) (long : length members ≡ most-members) (lives : List Life) (p k j : ℕ) (s : LivesSoFar rates rated members enrolled line lives p k j) where
     so-far : length (map (life (take rated rates)) (take k members)) ≡ k
     so-far = length-map (take k members) (life (take rated rates)) ∙ length-take-le k members (omega (arith, s .members-within))
 
@@ -53,27 +59,28 @@ module _ (rates : List Rate) (rated : ℕ) (members : List Member) (enrolled lin
 
     module _ (member-left : k < enrolled) where
       -- all rate rows were compared with the member k
-      pub no-rate : rated ≤ j → (r : Matched) → r ≡ withLives [] (Refused Unmatched (line + k)) → r ≡ livesFrom (take rated rates) (take enrolled members) line
-      unfolding livesFrom unmatched refuse withLives
+      pub no-rate : rated ≤ j → (r : Matched) → r ≡ withLives [] (Refused Unmatched (line + k)) → r ≡ byMember (take rated rates) (take enrolled members) line
+      unfolding byMember unmatched refuse withLives
       no-rate h r e =
           let n : rateAt (take rated rates) (getD members k blankMember .age) ≡ none = s .no-rate-yet ∙ rate-none rates rated few-rates (getD members k blankMember .age) j h in
           let u : unmatched (take rated rates) (getD members k blankMember) ≡ true = rw (n, unmatched) in
           e ∙ rw (s .all-matched ∙ first-here members enrolled few-members blankMember (unmatched (take rated rates)) line k member-left u)
 
       module _ (rate-left : j < rated) where
-        pub other-rate : (getD rates j blankRate .age ≡ getD members k blankMember .age → ⊥) → LivesSoFar rates rated members enrolled line lives k (j + 1)
+        pub other-rate : (getD rates j blankRate .age ≡ getD members k blankMember .age → ⊥) → LivesSoFar rates rated members enrolled line lives p k (j + 1)
         other-rate d =
             record {
               members-within = s .members-within;
               rates-within = omega arith;
               lives-are = s .lives-are;
+              half-at = s .half-at;
               all-matched = s .all-matched;
               no-rate-yet = s .no-rate-yet ∙ rate-later rates rated few-rates (getD members k blankMember .age) j rate-left d;
             }
 
-        pub its-rate : (x : Life) → getD rates j blankRate .age ≡ getD members k blankMember .age → x ≡ folded (some (getD rates j blankRate)) (getD members k blankMember) → LivesSoFar rates rated members enrolled line (set lives k x) (k + 1) 0
+        pub its-rate : 0 < line → (x : Life) (p′ : ℕ) → getD rates j blankRate .age ≡ getD members k blankMember .age → x ≡ folded (some (getD rates j blankRate)) (getD members k blankMember) → p′ ≡ (if eqb p 0 then (if half x then line + k else 0) else p) → LivesSoFar rates rated members enrolled line (set lives k x) p′ (k + 1) 0
         unfolding life unmatched lifeTable
-        its-rate x e f =
+        its-rate above x p′ e f g =
             let found : rateAt (take rated rates) (getD members k blankMember .age) ≡ some (getD rates j blankRate) = s .no-rate-yet ∙ rate-here rates rated few-rates (getD members k blankMember .age) j rate-left e in
             let u : unmatched (take rated rates) (getD members k blankMember) ≡ false = rw (found, unmatched) in
             let is : x ≡ life (take rated rates) (getD members k blankMember) = f ∙ rw found in
@@ -87,12 +94,29 @@ module _ (rates : List Rate) (rated : ℕ) (members : List Member) (enrolled lin
                   ∙ ap (λ n. set (lifeTable (map (life (take rated rates)) (take k members))) n x) (sym so-far)
                   ∙ rows-put blankLife x most-members (map (life (take rated rates)) (take k members)) (omega (arith, so-far))
                   ∙ ap lifeTable (sym more);
+              half-at =
+                  ap (first half line) more
+                  ∙ first-placed half x line p (map (life (take rated rates)) (take k members)) above (s .half-at)
+                  ∙ ap (λ n. placed (if eqb p 0 then (if half x then line + n else 0) else p)) so-far
+                  ∙ ap placed (sym g);
               all-matched = s .all-matched ∙ first-later members enrolled few-members blankMember (unmatched (take rated rates)) line k member-left u;
               no-rate-yet = refl;
             }
 
-    pub all-lives : enrolled ≤ k → record { verdict = Accepted; lives = lives } ≡ livesFrom (take rated rates) (take enrolled members) line
-    unfolding livesFrom refuse withLives
-    all-lives h =
-        let z : k ≡ enrolled = omega (arith, s .members-within) in
-        rw (s .all-matched ∙ first-none members enrolled few-members blankMember (unmatched (take rated rates)) line k h, s .lives-are, z)
+    module _ (all-members : enrolled ≤ k) where
+      none-five : first (unmatched (take rated rates)) line (take enrolled members) ≡ none
+      none-five = s .all-matched ∙ first-none members enrolled few-members blankMember (unmatched (take rated rates)) line k all-members
+
+      all : k ≡ enrolled
+      all = omega (arith, s .members-within)
+
+      by-six : first half line (map (life (take rated rates)) (take enrolled members)) ≡ placed p
+      by-six = rw all at (s .half-at)
+
+      pub half-found : (p ≡ 0 → ⊥) → (r : Matched) → r ≡ withLives [] (Refused Half p) → r ≡ byMember (take rated rates) (take enrolled members) line
+      unfolding byMember refuse withLives
+      half-found d r e = e ∙ sym (rw (none-five, by-six, placed-above p (omega arith)))
+
+      pub all-lives : p ≡ 0 → record { verdict = Accepted; lives = lives } ≡ byMember (take rated rates) (take enrolled members) line
+      unfolding byMember refuse withLives
+      all-lives z = rw (none-five, by-six, z, s .lives-are, all)

@@ -1,4 +1,4 @@
--- What the searches over the members answer, from the line of the first member.
+-- What the search over the members answers, from the line of the first member.
 use mathlib.Core.List.{List, map}
 use Prim.Native.Nat.{ℕ}
 use Rattle.fund.specs.declared.Rate.{Rate}
@@ -9,10 +9,6 @@ use Rattle.fund.specs.Folding.{life}
 use Rattle.fund.specs.Refusals.{first, unmatched, half, refuse}
 use Rattle.matching.specs.declared.table.Matched.{Matched}
 use Rattle.matching.specs.Matching.{withLives}
-
--- 5, or the lives of the members.
-unfoldable pub livesFrom : List Rate → List Member → ℕ → Matched
-livesFrom rates members at = withLives (map (life rates) members) (refuse Unmatched (first (unmatched rates) at members) Accepted)
 
 -- 5, then 6, each over all members, or the lives.
 unfoldable pub byMember : List Rate → List Member → ℕ → Matched

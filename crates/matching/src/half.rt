@@ -1,15 +1,10 @@
 // 6: "group 1, q + i at least 500,000 after folding".
 use fund::Fund;
 use fund::Life;
-use fund::Refusal;
-use fund::Verdict;
 ghost use mathlib.Core.Path.{_≡_};
-ghost use Prim.Native.Nat.{_+_, _^_, _≤_, _<_};
-ghost use lib.ListN.{take};
-ghost use Rattle.fund.specs.declared.Refusal.the-variants.{Half};
-ghost use Rattle.fund.specs.declared.Verdict.the-variants.{Accepted};
-ghost use Rattle.fund.specs.Limits.{most-members};
-ghost use Rattle.fund.specs.Refusals.{first, half, refuse};
+ghost use lib.Dec.{eqb};
+ghost use Rattle.fund.specs.Base.{if_then_else_};
+ghost use Rattle.fund.specs.Refusals.{half};
 
 // The sum q + i is not formed, as it may not fit.
 fn is_half(m: Life) -> bool
@@ -24,18 +19,15 @@ fn is_half(m: Life) -> bool
     Fund::HALF - m.q <= m.i
 }
 
-// The refusal at the first such life; `line` is the line of the first member.
-pub(crate) fn first_half(lives: [Life; Fund::MEMBER_ROWS], enrolled: usize, line: u64) -> Verdict
-    requires { ⌜ (enrolled ≤ most-members) × (line + enrolled < 2 ^ 64) ⌝ }
-    ensures { λ r. ⌜ r ≡ refuse Half (first half line (take enrolled lives)) Accepted ⌝ }
+// The place of the first such life, 0 where there is none: `known` is that of the lives before m, and m stands at `place`.
+pub(crate) fn first_place(known: u64, m: Life, place: u64) -> u64
+    ensures { λ r. ⌜ r ≡ (if eqb known 0 then (if half m then place else 0) else known) ⌝ }
 {
-    let mut k: usize = 0;
-    while k < enrolled {
-        let m = lives[k];
-        if is_half(m) {
-            return Verdict::Refused(Refusal::Half, line + k as u64);
-        }
-        k += 1;
+    if known != 0 {
+        return known;
     }
-    Verdict::Accepted
+    if is_half(m) {
+        return place;
+    }
+    0
 }

@@ -16,7 +16,7 @@ ghost use lib.ListN.{take};
 ghost use Rattle.fund.specs.Base.{if_then_else_};
 ghost use Rattle.fund.specs.Limits.{most-rates, most-members};
 ghost use Rattle.fund.specs.Folding.{folded as foldedOf};
-ghost use Rattle.matching.specs.Lives.{livesFrom, byMember};
+ghost use Rattle.matching.specs.Lives.{byMember};
 
 // "If d = 0, q counts as 0; if e = 0, i counts as 0."
 fn counted(amount: u64, rate: u64) -> u64
@@ -40,20 +40,21 @@ fn folded(r: Rate, m: Member) -> Life
     }
 }
 
-// 5: "a member's age has no rate row", or the lives. The rate row j is compared with the member k, so each member starts
-// again at the first row; `line` is the line of the first member.
-fn lives_of(
+// 5, then 6, each over all members, or the lives. The rate row j is compared with the member k, so each member starts again
+// at the first row. `line` is the line of the first member, and `half_at` the place of the first life of 6, 0 while there is none.
+pub(crate) fn by_member(
     rates: [Rate; Fund::RATE_ROWS],
     rated: usize,
     members: [Member; Fund::MEMBER_ROWS],
     enrolled: usize,
     line: u64,
 ) -> Matched
-    requires { ⌜ (rated ≤ most-rates) × (enrolled ≤ most-members) × (line + enrolled < 2 ^ 64) ⌝ }
-    ensures { λ r. ⌜ r ≡ livesFrom (take rated rates) (take enrolled members) line ⌝ }
+    requires { ⌜ (rated ≤ most-rates) × (enrolled ≤ most-members) × (0 < line) × (line + enrolled < 2 ^ 64) ⌝ }
+    ensures { λ r. ⌜ r ≡ byMember (take rated rates) (take enrolled members) line ⌝ }
 {
     let none = table::no_life();
     let mut lives = [none; Fund::MEMBER_ROWS];
+    let mut half_at: u64 = 0;
     let mut k: usize = 0;
     let mut j: usize = 0;
     while k < enrolled {
@@ -63,40 +64,20 @@ fn lives_of(
         let m = members[k];
         let r = rates[j];
         if r.age == m.age {
-            lives[k] = folded(r, m);
+            let life = folded(r, m);
+            half_at = half::first_place(half_at, life, line + k as u64);
+            lives[k] = life;
             k += 1;
             j = 0;
             continue;
         }
         j += 1;
     }
+    if half_at != 0 {
+        return table::without_lives(Refusal::Half, half_at);
+    }
     Matched {
         verdict: Verdict::Accepted,
         lives,
-    }
-}
-
-// 5, then 6, each over all members, or the lives.
-pub(crate) fn by_member(
-    rates: [Rate; Fund::RATE_ROWS],
-    rated: usize,
-    members: [Member; Fund::MEMBER_ROWS],
-    enrolled: usize,
-    line: u64,
-) -> Matched
-    requires { ⌜ (rated ≤ most-rates) × (enrolled ≤ most-members) × (line + enrolled < 2 ^ 64) ⌝ }
-    ensures { λ r. ⌜ r ≡ byMember (take rated rates) (take enrolled members) line ⌝ }
-{
-    let found = lives_of(rates, rated, members, enrolled, line);
-    let verdict = found.verdict;
-    match verdict {
-        Verdict::Refused(_, _) => found,
-        Verdict::Accepted => {
-            let lives = found.lives;
-            match half::first_half(lives, enrolled, line) {
-                Verdict::Refused(why, place) => table::without_lives(why, place),
-                Verdict::Accepted => found,
-            }
-        }
     }
 }
