@@ -11,6 +11,11 @@ ghost use Rattle.recursion.specs.Steps.{opposite, SumsFit, Added};
 
 const HALF_UNIT: u64 = rounding::UNIT / 2;
 
+// The base in which a small |D(k)| is taken apart: both parts times any |f(x)| fit a word.
+const BASE: u64 = 8 * MILLION;
+
+const UNIT_OVER_BASE: u64 = rounding::UNIT / BASE;
+
 pub(crate) fn add(small: bool, s: Sums, d: i64, h: u64, f: i64, r: u64) -> Sums
     requires { ⌜ SumsFit s (record { D = d; H = h }) (record { f = f; R = r }) ⌝ }
     requires { ⌜ (small ≡ true → SmallEntry d h) ⌝ }
@@ -22,7 +27,7 @@ pub(crate) fn add(small: bool, s: Sums, d: i64, h: u64, f: i64, r: u64) -> Sums
     add_wide(s, d, h, f, r)
 }
 
-// Every product fits a word, but for those of a large f.
+// Every product fits a word, or is taken apart into two that do.
 fn add_small(s: Sums, d: i64, h: u64, f: i64, r: u64) -> Sums
     requires { ⌜ SumsFit s (record { D = d; H = h }) (record { f = f; R = r }) ⌝ }
     requires { ⌜ SmallEntry d h ⌝ }
@@ -43,15 +48,12 @@ fn product_up(a: u64, b: u64) -> u64
     (a * b + (rounding::UNIT - 1)) / rounding::UNIT
 }
 
-// a * b / 10^12, to the nearest: a in base 10^6, from its high part down.
+// a * b / 10^12, to the nearest: a in base 8 * 10^6, from its high part down.
 fn product_nearest(a: u64, b: u64) -> u64
     requires { ⌜ (a ≤ most-small-size) × (b ≤ most-cell) ⌝ }
     ensures { λ r. ⌜ r ≡ near (a * b) (10 ^ 12) ⌝ }
 {
-    if b <= HALF_UNIT {
-        return (a / MILLION * b + (a % MILLION * b + HALF_UNIT) / MILLION) / MILLION;
-    }
-    rounding::nearest_per_unit(a, b)
+    (a / BASE * b + (a % BASE * b + HALF_UNIT) / BASE) / UNIT_OVER_BASE
 }
 
 // The same for any factors within the limits: none is formed for f where D is 0.
