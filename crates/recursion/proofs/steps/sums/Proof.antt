@@ -1,4 +1,4 @@
--- `summed` meets its contract. The loop's invariant: the sums are those over all k up to the places that were visited, since what
+-- `sums` meets its contract. The loop's invariant: the sums are those over all k up to the places that were visited, since what
 -- lies between is blank; the measure is how many places are left.
 use mathlib.Core.Path.{_≡_, subst}
 use Prim.Native.Nat.{suc, _+_, _≤_, _-_}
