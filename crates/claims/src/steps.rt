@@ -10,6 +10,7 @@ use matching::Matched;
 use reader::FileRead;
 use reader::Part;
 use recursion::Recursed;
+use totals::Totals;
 use valuation::Valued;
 ghost use mathlib.Core.Path.{_≡_};
 ghost use lib.ListN.{length, take};
@@ -20,6 +21,7 @@ ghost use Rattle.reader.specs.Read.{fileRead};
 ghost use Rattle.reader.specs.Part.{Spans};
 ghost use Rattle.matching.specs.Matching.{matchedTables};
 ghost use Rattle.recursion.specs.Recursion.{left, recursion};
+ghost use Rattle.totals.specs.Totals.{TotalsFor};
 ghost use Rattle.valuation.specs.Valued.{left as leftOf, lengths, valuation};
 ghost use Rattle.text.specs.Shown.{shownAnswer, listingOf};
 ghost use Rattle.text.specs.Writing.{Written};
@@ -56,6 +58,13 @@ pub fn claimed_match(
     ensures { λ r. ⌜ r ≡ matchedTables fund rates rated members enrolled ⌝ }
 {
     matching::matched(fund, rates, rated, members, enrolled)
+}
+
+// The load, the truncation figure, the mean and the start of the first n lives, or that something is outside its ranges.
+pub fn claimed_totals(fund: Fund, lives: [Life; Fund::MEMBER_ROWS], n: usize) -> Totals
+    ensures { λ t. ⌜ TotalsFor fund n (take n lives) t ⌝ }
+{
+    totals::first_totals(fund, lives, n)
 }
 
 // Refusals 7 to 10, or the figures and the cells.

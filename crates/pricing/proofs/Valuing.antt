@@ -24,9 +24,9 @@ use Rattle.laws.specs.Accepted.{All, refuse-accepted, at0-none}
 use Rattle.laws.specs.Ranges.{read-ranges}
 use Rattle.widths.specs.Lives.{InRange}
 use Rattle.valuation.specs.declared.Valued.{Valued}
-use Rattle.valuation.specs.Inside.{HeaderIn}
+use Rattle.totals.specs.Inside.{HeaderIn}
 use Rattle.valuation.specs.Valued.{left as valuedLeft, outcome, valuation}
-use Rattle.valuation.proofs.InsideTells.{valuation-inside}
+use Rattle.valuation.proofs.ValuedInside.{valuation-inside}
 use Rattle.fund.specs.declared.Figures.{Figures}
 use Rattle.pricing.specs.declared.Priced.{Priced}
 use Rattle.pricing.specs.Joining.{lives-in, answer-matched, answer-valued, no-line}

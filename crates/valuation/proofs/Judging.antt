@@ -26,13 +26,13 @@ use Rattle.fund.specs.Refusals.{Lengths, short, refuse, at0, valued, first, wid
 use Rattle.fund.specs.Answer.{Answer, empty, part, lineAt, noFigures, refused, fundTerms, fundCells}
 use Rattle.recursion.proofs.Tested.{Long, long-of}
 use Rattle.valuation.specs.declared.Valued.{Valued}
-use Rattle.valuation.specs.declared.totals.Totals.{Totals}
-use Rattle.valuation.specs.Inside.{inside}
+use Rattle.totals.specs.declared.Totals.{Totals}
+use Rattle.totals.specs.Inside.{inside}
 use Rattle.valuation.specs.Filling.{TableFits, TableAdded}
-use Rattle.valuation.specs.Totals.{TableTotals}
+use Rattle.totals.specs.Totals.{TotalsFor}
 use Rattle.valuation.specs.Valued.{left, outcome, Zeros, verdictOf, valuation}
-use Rattle.valuation.specs.Steps.{TotalsFor, testedOf, PassedTests, Tested, Fillable, TransformFilled, ReadyFor, ValuedAnswer}
-use Rattle.valuation.proofs.InsideTells.{inside-tells}
+use Rattle.valuation.specs.Steps.{testedOf, PassedTests, Tested, Fillable, TransformFilled, ReadyFor, ValuedAnswer}
+use Rattle.totals.proofs.InsideTells.{inside-tells}
 
 -- ---- the tests
 module _ (fund : Fund) (t : Totals) (n : Lengths) where
@@ -154,15 +154,6 @@ module _ (fund : Fund) (count : ℕ) (ms : List Life) (fewer : length ms ≤ cou
     pub left-answered : (a : Answer) → ValuedAnswer fund ms n a → a ≡ valuation fund count ms n
     unfolding valuation
     left-answered a s = s ∙ ap (outcome fund ms n) (sym (verdict-inside (p .inside-is)))
-
--- the totals of a table are those of its first lives
-pub totals-first : (fund : Fund) (count : ℕ) (ms : List Life) (t : Totals) → count ≤ most-members → TableTotals fund ms t → TotalsFor fund count ms t
-totals-first fund count ms t l s =
-    record { tells = record { yes = λ e. let m = s .tells .yes e in (l, m .0, m .1); no = λ h. s .tells .no (h .1, h .2) }; sums = s .sums }
-
-pub totals-none : (fund : Fund) (count : ℕ) (ms : List Life) (t : Totals) → most-members < count → t .inside ≡ false → TotalsFor fund count ms t
-totals-none fund count ms t l e =
-    record { tells = record { yes = λ i. absurd (true≢false (sym i ∙ e)); no = λ h. absurd (omega (arith, h .0, l)) }; sums = λ i. absurd (true≢false (sym i ∙ e)) }
 
 pub first-few : {A : Type 0} (n : ℕ) (xs : List A) → length (take n xs) ≤ n
 first-few n xs = omega (arith, length-take n xs)

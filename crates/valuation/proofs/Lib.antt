@@ -1,12 +1,6 @@
-pub mod LifeElement
-pub mod LifeSums
 pub mod TableFilled
-mod Terms
 mod WeighedCells
-mod TableTotals
-mod TableCalls
-mod FirstLives
-pub mod InsideTells
+pub mod ValuedInside
 mod Judging
 mod Recursing
 mod Settling

@@ -30,8 +30,8 @@ use Rattle.recursion.specs.declared.Recursed.the-variants.{Done, Wide}
 use Rattle.recursion.specs.Slices.{most-cell, CellFits, TransformFits}
 use Rattle.recursion.specs.Recursion.{large, stopped, cellsTo, leaves, recursion, recursed, after}
 use Rattle.recursion.proofs.Tested.{tested-kept}
-use Rattle.valuation.specs.Table.{Members}
-use Rattle.valuation.specs.Inside.{HeaderIn}
+use Rattle.totals.specs.Table.{Members}
+use Rattle.totals.specs.Inside.{HeaderIn}
 
 -- ---- the first wide cell
 abbrev pub answerOf : Option ℕ → Recursed

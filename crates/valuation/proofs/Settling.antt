@@ -17,8 +17,8 @@ use Rattle.fund.specs.declared.Refusal.the-variants as refusal
 use Rattle.fund.specs.declared.Verdict.the-variants.{Accepted, Refused}
 use Rattle.fund.specs.Base.{table}
 use Rattle.fund.specs.Limits.{most-bound, most-load}
-use Rattle.fund.specs.Transform.{D, H, load, mean, truncation}
-use Rattle.fund.specs.Recursion.{Cell}
+use Rattle.fund.specs.Transform.{D, H, lambda, load, mean, truncation}
+use Rattle.fund.specs.Recursion.{Cell, start, startBound}
 use Rattle.fund.specs.Premium.{premium, within}
 use Rattle.fund.specs.Refusals.{Lengths, first, wide, refuse, valued}
 use Rattle.fund.specs.Answer.{part, noFigures, fundTerms, fundStart, fundCells, fundTruncation, fundMean, fundFigures, lent, refused, accepted}
@@ -42,8 +42,9 @@ use Rattle.recursion.proofs.Outcomes.{not-done, drop-replicate}
 use Rattle.recursion.proofs.Tested.{Long, long-of}
 use Rattle.valuation.specs.declared.Valued.{Valued}
 use Rattle.valuation.specs.declared.premium.StopLoss.{StopLoss}
-use Rattle.valuation.specs.declared.totals.Totals.{Totals}
-use Rattle.valuation.specs.Table.{Members, most-mean}
+use Rattle.totals.specs.declared.Totals.{Totals}
+use Rattle.totals.specs.Table.{Members, most-mean}
+use Rattle.totals.specs.Totals.{startLambda}
 use Rattle.valuation.specs.Premium.{Cells, StopLossIs, levels}
 use Rattle.valuation.specs.Valued.{left, outcome, lengths}
 use Rattle.valuation.specs.Steps.{ReadyFor, Ready, RecursionLeft, RecursedFor, refusalOf, ValuedAnswer, SettledFor, AnsweredFor}
@@ -114,9 +115,14 @@ module _ (fund : Fund) (ms : List Life) (t : Totals) (d : List ℤ) (h : List �
             };
       }
 
+  -- lambda is a part of the load
+  lambda-is : startLambda fund ms ≡ lambda (fund .frequency) ms
+  unfolding load
+  lambda-is = omega (arith, within-load)
+
   start-is : record { f = t .cell; R = t .bound } ≡ fundStart fund ms
   unfolding fundStart
-  start-is = ap₂ (λ x z. record { f = x; R = z }) (k .sums .cell-is within-load) (k .sums .bound-is within-load)
+  start-is = ap₂ (λ x z. record { f = x; R = z }) (k .sums .cell-is ∙ ap (λ l. start l ms) lambda-is) (k .sums .bound-is ∙ ap (λ l. startBound l ms) lambda-is)
 
   abbrev found : Option ℕ
   found = first wide 0 (fundCells fund ms)
@@ -129,7 +135,7 @@ module _ (fund : Fund) (ms : List Life) (t : Totals) (d : List ℤ) (h : List �
   leaves-is a e =
       e
       ∙ ap (λ y. Rec.recursion X d h y (length f) (length r)) start-is
-      ∙ recursion-is fund ms fits d h _ _ (k .filled .d-is) (k .filled .h-is) (omega (arith, ap (λ (y : Cell). y .R) start-is, k .sums .bound-within within-load)) (length f) (length r) (long .f-long) (long .r-long)
+      ∙ recursion-is fund ms fits d h _ _ (k .filled .d-is) (k .filled .h-is) (omega (arith, ap (λ (y : Cell). y .R) start-is, k .sums .bound-within)) (length f) (length r) (long .f-long) (long .r-long)
 
   -- ---- a wide cell
   pub answers-wide : (a : Recursed) → OneOf (1 ∷ 2 ∷ 3 ∷ 4 ∷ []) (Declared.tagOf R.the-type a) → RecursionLeft fund t a d h f r → (v : Valued) (d′ : List ℤ) (h′ : List ℕ) →

@@ -11,7 +11,7 @@ use Rattle.fund.specs.Transform.{D, H, load, terms}
 use Rattle.widths.specs.Lives.{InRange}
 use Rattle.widths.specs.Adding.{addD, addH, Room, lifeTerms, Cleared}
 use Rattle.valuation.specs.declared.transform.Filling.{Filling}
-use Rattle.valuation.specs.Table.{Members}
+use Rattle.totals.specs.Table.{Members}
 
 -- ---- one life more
 pub record LifeFits (d : List ℤ) (h : List ℕ) (m : Life) (x : Filling) : Type 0 where

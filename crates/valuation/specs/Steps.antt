@@ -11,27 +11,21 @@ use Rattle.fund.specs.declared.Refusal.the-variants as refusal
 use Rattle.fund.specs.declared.Verdict.{Verdict}
 use Rattle.fund.specs.declared.Verdict.the-variants.{Accepted, Refused}
 use Rattle.fund.specs.Base.{table, if_then_else_}
-use Rattle.fund.specs.Limits.{most-members, most-load, most-truncation}
+use Rattle.fund.specs.Limits.{most-load, most-truncation}
 use Rattle.fund.specs.Transform.{D, H, load}
 use Rattle.fund.specs.Refusals.{Lengths, short, refuse, at0, valued}
 use Rattle.fund.specs.Answer.{Answer, fundTerms, fundCells}
-use Rattle.laws.specs.Tells.{Tells}
 use Rattle.recursion.specs.declared.Recursed.{Recursed}
 use Rattle.recursion.specs.declared.Recursed.the-variants as recursed
 use Rattle.recursion.specs.Recursion.{recursion}
 use Rattle.recursion.specs.Recursion as Rec
 use lib.Dec.{ltb}
 use Rattle.valuation.specs.declared.Valued.{Valued}
-use Rattle.valuation.specs.declared.totals.Totals.{Totals}
-use Rattle.valuation.specs.Table.{Members}
-use Rattle.valuation.specs.Inside.{HeaderIn}
-use Rattle.valuation.specs.Totals.{LivesTotals}
+use Rattle.totals.specs.declared.Totals.{Totals}
+use Rattle.totals.specs.Table.{Members}
+use Rattle.totals.specs.Inside.{HeaderIn}
+use Rattle.totals.specs.Totals.{LivesTotals}
 use Rattle.valuation.specs.Valued.{left, outcome, lengths}
-
--- ---- the totals of the first n lives of a table
-pub record TotalsFor (fund : Fund) (n : ℕ) (ms : List Life) (t : Totals) : Type 0 where
-  pub tells : Tells (t .inside) ((n ≤ most-members) × Members ms × HeaderIn fund)
-  pub sums : t .inside ≡ true → LivesTotals fund ms t
 
 -- ---- the ranges, 7, 8 and 9, of the totals
 unfoldable pub testedOf : Fund → Totals → Lengths → Verdict

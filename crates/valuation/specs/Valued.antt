@@ -13,7 +13,7 @@ use Rattle.fund.specs.Base.{if_then_else_}
 use Rattle.fund.specs.Refusals.{Lengths, valued}
 use Rattle.fund.specs.Answer.{empty, Answer, refused, accepted, fundCells}
 use Rattle.valuation.specs.declared.Valued.{Valued}
-use Rattle.valuation.specs.Inside.{inside}
+use Rattle.totals.specs.Inside.{inside}
 
 -- The answer that a call leaves: what it returns, and the slices.
 abbrev pub left : Valued → List ℤ → List ℕ → List ℤ → List ℕ → Answer

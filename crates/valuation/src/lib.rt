@@ -1,11 +1,7 @@
 // The valuation of a fund: from its lives to the transform, the start, the recursion, the premium and their bounds, or the first of
 // the refusals 7 to 10.
-mod figures;
-mod inside;
 mod lives;
 mod premium;
-mod start;
-mod totals;
 mod transform;
 
 use fund::Figures;
@@ -22,8 +18,9 @@ ghost use lib.IntN.{pos};
 ghost use lib.ListN.{length, replicate, take};
 ghost use Rattle.fund.specs.Answer.{noFigures};
 ghost use Rattle.fund.specs.Limits.{most-members};
+ghost use Rattle.totals.specs.Totals.{TotalsFor};
 ghost use Rattle.valuation.specs.Valued.{left, lengths, Zeros, valuation};
-ghost use Rattle.valuation.specs.Steps.{TotalsFor, Tested, Ready, refusalOf, RecursedFor, SettledFor, AnsweredFor, Fillable, TransformFilled};
+ghost use Rattle.valuation.specs.Steps.{Tested, Ready, refusalOf, RecursedFor, SettledFor, AnsweredFor, Fillable, TransformFilled};
 
 // What a valuation answers beside the result slices.
 pub struct Valued {
@@ -140,16 +137,6 @@ fn recursed(
     settled(fund, t, answer, transform, h, &f[..], &r[..])
 }
 
-// The totals of the first n lives.
-fn first_totals(fund: Fund, lives: [Life; Fund::MEMBER_ROWS], n: usize) -> Totals
-    ensures { λ t. ⌜ TotalsFor fund n (take n lives) t ⌝ }
-{
-    if Fund::MOST_MEMBERS < n as u64 {
-        return totals::outside();
-    }
-    lives::lent_totals(fund, lives, n)
-}
-
 // D and H of the first n lives, and zeros beyond the horizon.
 fn first_transform(
     fund: Fund,
@@ -207,6 +194,6 @@ pub fn value(
     ensures { λ v. ⌜ left v (now (transform .exit)) (now (h .exit)) (now (f .exit)) (now (r .exit)) ≡
         valuation fund n (take n lives) (lengths (now (transform .entry)) (now (h .entry)) (now (f .entry)) (now (r .entry))) ⌝ }
 {
-    let t = first_totals(fund, lives, n);
+    let t = totals::first_totals(fund, lives, n);
     judged(fund, t, lives, n, transform, h, f, r)
 }

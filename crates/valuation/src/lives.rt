@@ -1,6 +1,4 @@
 // The first lives of a table, lent to the walks.
-use super::totals;
-use super::totals::Totals;
 use super::transform;
 use super::transform::Filling;
 use fund::Fund;
@@ -9,14 +7,6 @@ ghost use Prim.Native.Nat.{_≤_};
 ghost use lib.ListN.{take};
 ghost use Rattle.fund.specs.Limits.{most-members};
 ghost use Rattle.valuation.specs.Filling.{TableFits, TableAdded};
-ghost use Rattle.valuation.specs.Totals.{TableTotals};
-
-pub(crate) fn lent_totals(fund: Fund, lives: [Life; Fund::MEMBER_ROWS], n: usize) -> Totals
-    requires { ⌜ n ≤ most-members ⌝ }
-    ensures { λ t. ⌜ TableTotals fund (take n lives) t ⌝ }
-{
-    totals::table_totals(fund, &lives[..n])
-}
 
 pub(crate) fn fill_first(
     lives: [Life; Fund::MEMBER_ROWS],

@@ -48,7 +48,7 @@ use Rattle.walks.specs.Reborrow.{reborrows}
 use Rattle.walks.specs.Walks.{Stated, tokens, calls-leaving, cell}
 use Rattle.valuation.specs.declared.transform.Filling.{Filling}
 use Rattle.valuation.specs.Filling.{TableFits, TableAdded}
-use Rattle.valuation.proofs.FirstLives.{sliceL, array, headOf, taken, room}
+use Rattle.totals.proofs.FirstLives.{sliceL, array, headOf, taken, room}
 use Rattle.valuation.proofs.transform.Filling as F
 use Rattle.valuation.proofs.transform.Filling.Laws as F′
 use Rattle.valuation.proofs.transform.fill_transform as fill

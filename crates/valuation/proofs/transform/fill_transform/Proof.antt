@@ -48,7 +48,7 @@ use Rattle.walks.specs.Walks.{Stated, tokens, calls-leaving, cell}
 use Rattle.walks.specs.WalkForm.{wordTy, slice}
 use Rattle.walks.specs.WalkTable.{tests, byte-fits, next-fits, nearer, ended, next-element, nothing-in, next-in}
 use Rattle.walks.specs.Element.{borrowed, copies-element}
-use Rattle.valuation.proofs.LifeElement.{life}
+use Rattle.totals.proofs.LifeElement.{life}
 use Rattle.walks.specs.Reborrow.{ref, reborrow, reborrows}
 use Rattle.walks.specs.Again.{lends, takes-back, last-slice}
 use Rattle.valuation.proofs.TableFilled.{Fills, fills-first, fills-asks, fills-more, fills-all}

@@ -1,0 +1,70 @@
+-- The test of a header and a table tells whether they are in their ranges (inside-tells).
+use mathlib.Core.Path.{_≡_, refl, sym}
+use mathlib.Core.Bool.{Bool, true, false, true≢false, not, _&&_, _||_}
+use mathlib.Core.List.{List, [], _∷_}
+use Prim.Native.Nat.{ℕ, _≤_}
+use lib.Dec.{leb, ltb, eqb}
+use Rattle.fund.specs.declared.Fund.{Fund}
+use Rattle.fund.specs.declared.Life.{Life}
+use Rattle.fund.specs.Folding.{claim, single}
+use Rattle.fund.specs.Limits.{most-members, half-rate}
+use Rattle.laws.specs.Accepted.{All, Limited}
+use Rattle.laws.specs.Tells.{Tells, tells-as, tells-le, tells-lt, tells-eq}
+use Rattle.widths.specs.Lives.{InRange}
+use Rattle.totals.specs.Inside.{HeaderIn, headerInside, foldedRate, lifeInside, allInside, inside}
+
+tells-and : {P Q : Type 0} (a b : Bool) → Tells a P → Tells b Q → Tells (a && b) (P × Q)
+tells-and true b p q = record { yes = λ e. (p .yes refl, q .yes e); no = λ h. q .no (h .1) }
+tells-and false b p q = record { yes = λ e. absurd (true≢false (sym e)); no = λ h. absurd (true≢false (sym (p .no (h .0)))) }
+
+tells-if : {P Q : Type 0} (a b : Bool) → Tells a P → Tells b Q → Tells (not a || b) (P → Q)
+tells-if true b p q = record { yes = λ e h. q .yes e; no = λ f. q .no (f (p .yes refl)) }
+tells-if false b p q = record { yes = λ e h. absurd (true≢false (sym (p .no h))); no = λ f. refl }
+
+le : (m n : ℕ) → Tells (leb m n) (m ≤ n)
+le m n = tells-le m n (λ h. h) (λ h. h)
+
+eq : (m n : ℕ) → Tells (eqb m n) (m ≡ n)
+eq m n = tells-eq m n (λ h. h) (λ h. h)
+
+header-tells : (fund : Fund) → Tells (headerInside fund) (HeaderIn fund)
+unfolding headerInside
+header-tells fund =
+    tells-as
+    (tells-and _ _ (le _ _) (tells-and _ _ (le _ _) (tells-and _ _ (le _ _) (le _ _))))
+    (λ h. record { horizon = h .0; order = h .1 .0; frequency = h .1 .1 .0; deductible = h .1 .1 .1 })
+    (λ h. (h .horizon, (h .order, (h .frequency, h .deductible))))
+
+folded-tells : (rate amount : ℕ) → Tells (foldedRate rate amount) (amount ≡ 0 → rate ≡ 0)
+unfolding foldedRate
+folded-tells rate amount = tells-if (eqb amount 0) (eqb rate 0) (eq amount 0) (eq rate 0)
+
+limited-tells : (m : Life) → Tells (not (single m) || ltb (claim m) half-rate) (Limited m)
+limited-tells m = tells-if (single m) (ltb (claim m) half-rate) (record { yes = λ e. e; no = λ e. e }) (tells-lt _ _ (λ h. h) (λ h. h))
+
+life-tells : (m : Life) → Tells (lifeInside m) (InRange m)
+unfolding lifeInside
+life-tells m =
+    tells-as
+    (tells-and _ _ (le _ _) (tells-and _ _ (le _ _) (tells-and _ _ (le _ _) (tells-and _ _ (limited-tells m)
+    (tells-and _ _ (le _ _) (tells-and _ _ (le _ _) (tells-and _ _ (folded-tells (m .q) (m .d)) (folded-tells (m .i) (m .e)))))))))
+    (λ h. record {
+      group-least = h .0;
+      group-most = h .1 .0;
+      rates = h .1 .1 .0;
+      limited = h .1 .1 .1 .0;
+      death = h .1 .1 .1 .1 .0;
+      disability = h .1 .1 .1 .1 .1 .0;
+      no-death = h .1 .1 .1 .1 .1 .1 .0;
+      no-disability = h .1 .1 .1 .1 .1 .1 .1;
+    })
+    (λ h. (h .group-least, (h .group-most, (h .rates, (h .limited, (h .death, (h .disability, (h .no-death, h .no-disability))))))))
+
+all-tells : (ms : List Life) → Tells (allInside ms) (All InRange ms)
+unfolding allInside
+all-tells [] = record { yes = λ e. tt; no = λ h. refl }
+all-tells (m ∷ ms) = tells-and (lifeInside m) (allInside ms) (life-tells m) (all-tells ms)
+
+pub inside-tells : (fund : Fund) (count : ℕ) (ms : List Life) → Tells (inside fund count ms) ((count ≤ most-members) × (HeaderIn fund × All InRange ms))
+unfolding inside
+inside-tells fund count ms = tells-and (leb count most-members) _ (le count most-members) (tells-and (headerInside fund) (allInside ms) (header-tells fund) (all-tells ms))

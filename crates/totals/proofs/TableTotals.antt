@@ -1,0 +1,73 @@
+-- What the walks over a table add up to is what the fund's definitions say.
+use mathlib.Core.Path.{_≡_, sym, _∙_, ap, ap₂}
+use mathlib.Core.Bool.{Bool, true, false, true≢false}
+use mathlib.Core.List.{List}
+use Prim.Native.Nat.{ℕ, min, _+_, _<_, _≤_}
+use native.Mathlib.Omega.{arith}
+use lib.ListN.{length}
+use Rattle.fund.specs.declared.Fund.{Fund}
+use Rattle.fund.specs.declared.Life.{Life}
+use Rattle.fund.specs.Limits.{most-load, most-truncation, most-members}
+use Rattle.fund.specs.Transform.{lambda, load, truncation, mean}
+use Rattle.fund.specs.Recursion.{multiplied, alternating, start, startBound}
+use Rattle.totals.specs.declared.start.Product.{Product}
+use Rattle.totals.specs.Table.{Members, most-mean}
+use Rattle.totals.specs.Start.{Multiplied}
+use Rattle.laws.specs.Accepted.{All}
+use Rattle.widths.specs.Lives.{InRange}
+use Rattle.laws.specs.Tells.{Tells}
+use Rattle.totals.specs.Inside.{HeaderIn}
+use Rattle.totals.proofs.Terms.{c-sum}
+use Rattle.totals.specs.declared.Totals.{Totals}
+use Rattle.totals.specs.declared.StartSum.{StartSum}
+use Rattle.totals.specs.Totals.{noTotals, startLambda, StartSums, StartedWith, LivesTotals, TableTotals, TotalsFor}
+
+module _ (fund : Fund) (ms : List Life) (lam all figure m : ℕ) (l : StartSum) (p : Product) (r : Totals) (lam-is : lam ≡ lambda (fund .frequency) ms) (all-is : all ≡ load (fund .frequency) ms)
+    (figure-is : figure ≡ min (truncation (fund .order) ms) (most-truncation + 1)) (m-is : m ≡ min (mean (fund .frequency) ms) most-mean) (sums-of : StartSums lam l) (product : Multiplied ms (l .size) p) (made : StartedWith all figure m l p r) where
+  cell-is : r .cell ≡ start (startLambda fund ms) ms
+  unfolding start alternating
+  cell-is =
+      made .cell-is
+      ∙ sym (product .product (l .negative))
+      ∙ ap (λ f. multiplied f ms) (sums-of .is .sum-is)
+      ∙ ap (λ k. start (min k most-load) ms) lam-is
+
+  bound-is : r .bound ≡ startBound (startLambda fund ms) ms
+  unfolding startBound
+  bound-is = made .bound-is ∙ ap₂ _+_ (sums-of .is .bound-is) (sym (product .count)) ∙ ap (λ k. startBound (min k most-load) ms) lam-is
+
+  bound-within : r .bound ≤ 691 + length ms
+  bound-within = omega (arith, made .bound-is, sums-of .is .bound-is, c-sum (min lam most-load) (omega arith), product .count-within)
+
+  pub sums-up : LivesTotals fund ms r
+  sums-up = record { inside-is = made .inside-is; load-is = made .load-is ∙ all-is; truncation-is = made .truncation-is ∙ figure-is; mean-is = made .mean-is ∙ m-is; cell-is = cell-is; bound-is = bound-is; bound-within = bound-within }
+
+pub made-asks : (ms : List Life) → Members ms → (lam : ℕ) (l : StartSum) → StartSums lam l → (p : Product) → Multiplied ms (l .size) p → (p .size ≤ 200000000000000000) × (l .bound ≤ 64000) × (p .singles ≤ 1000)
+made-asks ms n lam l sums-of p product = (omega (arith, product .size-within, sums-of .size-within), sums-of .bound-within, omega (arith, product .count-within, n .few))
+
+-- ---- inside or not
+module _ (fund : Fund) (ms : List Life) (b r : Bool) (header : Tells b ((length ms ≤ 1000) × HeaderIn fund)) (lives : Tells r ((b ≡ true) × All InRange ms)) where
+  pub inside : r ≡ true → Members ms × HeaderIn fund
+  inside e = let l = lives .yes e in let h = header .yes (l .0) in (record { few = h .0; in-range = l .1 }, h .1)
+
+  pub outside : r ≡ false → Members ms × HeaderIn fund → ⊥
+  outside e m = true≢false (sym (lives .no (header .no (m .0 .few, m .1), m .0 .in-range)) ∙ e)
+
+not-inside : (t : Totals) → t ≡ noTotals → t .inside ≡ false
+not-inside t e = ap (λ (x : Totals). x .inside) e
+
+pub totalled-inside : (fund : Fund) (ms : List Life) (t : Totals) → Members ms × HeaderIn fund → LivesTotals fund ms t → TableTotals fund ms t
+totalled-inside fund ms t m s = record { tells = record { yes = λ e. m; no = λ _. s .inside-is }; sums = λ e. s; outside = λ g. absurd (true≢false (sym (s .inside-is) ∙ g)) }
+
+pub totalled-outside : (fund : Fund) (ms : List Life) (t : Totals) → (Members ms × HeaderIn fund → ⊥) → t ≡ noTotals → TableTotals fund ms t
+totalled-outside fund ms t out e =
+    record { tells = record { yes = λ g. absurd (true≢false (sym g ∙ not-inside t e)); no = λ m. absurd (out m) }; sums = λ g. absurd (true≢false (sym g ∙ not-inside t e)); outside = λ _. e }
+
+-- ---- the totals of a table are those of its first lives
+pub totals-first : (fund : Fund) (count : ℕ) (ms : List Life) (t : Totals) → count ≤ most-members → TableTotals fund ms t → TotalsFor fund count ms t
+totals-first fund count ms t l s =
+    record { tells = record { yes = λ e. let m = s .tells .yes e in (l, m .0, m .1); no = λ h. s .tells .no (h .1, h .2) }; sums = s .sums; outside = s .outside }
+
+pub totals-none : (fund : Fund) (count : ℕ) (ms : List Life) (t : Totals) → most-members < count → t ≡ noTotals → TotalsFor fund count ms t
+totals-none fund count ms t l e =
+    record { tells = record { yes = λ i. absurd (true≢false (sym i ∙ not-inside t e)); no = λ h. absurd (omega (arith, h .0, l)) }; sums = λ i. absurd (true≢false (sym i ∙ not-inside t e)); outside = λ _. e }

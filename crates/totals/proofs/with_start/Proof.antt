@@ -1,0 +1,32 @@
+-- f(0) is the product with the sum's sign, which fits an i64.
+use mathlib.Core.Path.{_≡_, refl, ap, _∙_}
+use native.Mathlib.Omega.{arith}
+use borrow.Author.Needs.{needs, sfits-of}
+use mir.Syntax.{w64}
+use mir.Facts.{toZ-ofZ}
+use Prim.Native.Nat.{min}
+use Rattle.whole.specs.Sign.{most-value, signed}
+use Rattle.totals.proofs.with_start.Statement.{statement}
+use Rattle.totals.proofs.with_start.Tie as tie
+
+as-i64-requires : tie.Need-as-i64-requires
+as-i64-requires c κs = search needs
+
+add-t8 : tie.Need-add-t8
+add-t8 c = search needs
+
+returns : tie.Need-returns
+returns c =
+    let s = c .before .before .before in
+    let e : min (s .args .product .size) most-value ≡ s .args .product .size = omega (arith, s .pre .0) in
+    record {
+      inside-is = refl;
+      load-is = refl;
+      truncation-is = refl;
+      mean-is = refl;
+      cell-is = toZ-ofZ (sfits-of {w = w64} (c .before .before .as-i64 .ok)) ∙ c .before .before .as-i64 .ensures ∙ ap (signed (s .args .first .negative)) e;
+      bound-is = refl;
+    }
+
+pub with-start-spec : {M : Type 1} → statement M
+with-start-spec = tie.close (tie.spec as-i64-requires add-t8 returns)

@@ -1,0 +1,4 @@
+pub mod Table
+pub mod Start
+pub mod Inside
+pub mod Totals

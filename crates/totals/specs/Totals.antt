@@ -1,0 +1,66 @@
+-- What a table of lives adds up to.
+use mathlib.Core.Path.{_≡_}
+use mathlib.Core.Bool.{true, false}
+use mathlib.Core.List.{List}
+use Prim.Native.Nat.{ℕ, min, _+_, _*_, _≤_}
+use lib.IntN.{pos}
+use lib.ListN.{length}
+use Rattle.whole.specs.Sign.{signed}
+use Rattle.fund.specs.declared.Fund.{Fund}
+use Rattle.fund.specs.declared.Life.{Life}
+use Rattle.fund.specs.Base.{sum, sumℤ, alternate}
+use Rattle.fund.specs.Limits.{most-load, most-truncation, most-members}
+use Rattle.fund.specs.Transform.{lambda, load, truncation, mean}
+use Rattle.fund.specs.Recursion.{t, c, start, startBound}
+use Rattle.laws.specs.Tells.{Tells}
+use Rattle.totals.specs.declared.start.Product.{Product}
+use Rattle.totals.specs.declared.Totals.{Totals}
+use Rattle.totals.specs.declared.StartSum.{StartSum}
+use Rattle.totals.specs.Table.{Members, most-mean}
+use Rattle.totals.specs.Inside.{HeaderIn}
+use Rattle.totals.specs.Start.{most-t}
+
+-- The totals of what is outside its ranges.
+abbrev pub noTotals : Totals
+noTotals = record { inside = false; load = 0; truncation = 0; mean = 0; cell = pos 0; bound = 0 }
+
+-- The lambda of the start, up to the largest load: a fund with more is refused.
+abbrev pub startLambda : Fund → List Life → ℕ
+startLambda fund ms = min (lambda (fund .frequency) ms) most-load
+
+pub record StartSumIs (lam : ℕ) (l : StartSum) : Type 0 where
+  pub sum-is : signed (l .negative) (l .size) ≡ sumℤ 64 (λ k. alternate k (pos (t lam k)))
+  pub bound-is : l .bound ≡ sum 64 (c lam)
+
+pub record StartSums (lam : ℕ) (l : StartSum) : Type 0 where
+  pub size-within : l .size ≤ 200 * most-t
+  pub bound-within : l .bound ≤ 64000
+  pub is : StartSumIs (min lam most-load) l
+
+pub record StartedWith (all figure m : ℕ) (l : StartSum) (p : Product) (r : Totals) : Type 0 where
+  pub inside-is : r .inside ≡ true
+  pub load-is : r .load ≡ all
+  pub truncation-is : r .truncation ≡ figure
+  pub mean-is : r .mean ≡ m
+  pub cell-is : r .cell ≡ signed (l .negative) (p .size)
+  pub bound-is : r .bound ≡ l .bound + p .singles
+
+pub record LivesTotals (fund : Fund) (ms : List Life) (r : Totals) : Type 0 where
+  pub inside-is : r .inside ≡ true
+  pub load-is : r .load ≡ load (fund .frequency) ms
+  pub truncation-is : r .truncation ≡ min (truncation (fund .order) ms) (most-truncation + 1)
+  pub mean-is : r .mean ≡ min (mean (fund .frequency) ms) most-mean
+  pub cell-is : r .cell ≡ start (startLambda fund ms) ms
+  pub bound-is : r .bound ≡ startBound (startLambda fund ms) ms
+  pub bound-within : r .bound ≤ 691 + length ms
+
+pub record TableTotals (fund : Fund) (ms : List Life) (r : Totals) : Type 0 where
+  pub tells : Tells (r .inside) (Members ms × HeaderIn fund)
+  pub sums : r .inside ≡ true → LivesTotals fund ms r
+  pub outside : r .inside ≡ false → r ≡ noTotals
+
+-- The totals of the first n lives of a table.
+pub record TotalsFor (fund : Fund) (n : ℕ) (ms : List Life) (t : Totals) : Type 0 where
+  pub tells : Tells (t .inside) ((n ≤ most-members) × Members ms × HeaderIn fund)
+  pub sums : t .inside ≡ true → LivesTotals fund ms t
+  pub outside : t .inside ≡ false → t ≡ noTotals

@@ -1,0 +1,122 @@
+// What the first lives of a table add up to: the load, the truncation figure, the mean, and the start.
+mod figures;
+mod inside;
+mod start;
+
+use fund::Fund;
+use fund::Life;
+use start::Product;
+use whole::Signed;
+ghost use mathlib.Core.Path.{_≡_};
+ghost use Prim.Native.Nat.{_*_, _≤_};
+ghost use lib.ListN.{take};
+ghost use Rattle.fund.specs.Limits.{most-members};
+ghost use Rattle.totals.specs.Table.{Members};
+ghost use Rattle.totals.specs.Inside.{HeaderIn};
+ghost use Rattle.totals.specs.Start.{most-t};
+ghost use Rattle.totals.specs.Totals.{noTotals, StartSums, StartedWith, LivesTotals, TableTotals, TotalsFor};
+
+// What a table adds up to, or that it or the header is outside its ranges. `cell` and `bound` are f(0) and R(0).
+pub struct Totals {
+    pub inside: bool,
+    pub load: u64,
+    pub truncation: u64,
+    pub mean: u64,
+    pub cell: i64,
+    pub bound: u64,
+}
+
+// The sum that f(0) starts from, and the sum of its bounds.
+struct StartSum {
+    negative: bool,
+    size: u64,
+    bound: u64,
+}
+
+fn outside() -> Totals
+    ensures { λ r. ⌜ r ≡ noTotals ⌝ }
+{
+    Totals {
+        inside: false,
+        load: 0,
+        truncation: 0,
+        mean: 0,
+        cell: 0,
+        bound: 0,
+    }
+}
+
+// The sums of t and c, of a lambda up to the largest load: a fund with more is refused.
+fn first_sum(lambda: u64) -> StartSum
+    ensures { λ r. ⌜ StartSums lambda r ⌝ }
+{
+    let sums = start::terms(whole::least(lambda, Fund::MOST_LOAD));
+    let sum = whole::difference(sums.plus, sums.minus);
+    StartSum {
+        negative: sum.negative,
+        size: sum.size,
+        bound: sums.bound,
+    }
+}
+
+// The totals with f(0) and R(0).
+fn with_start(load: u64, truncation: u64, mean: u64, first: StartSum, product: Product) -> Totals
+    requires { ⌜ (product .size ≤ 200 * most-t) × (first .bound ≤ 64000) × (product .singles ≤ most-members) ⌝ }
+    ensures { λ r. ⌜ StartedWith load truncation mean first product r ⌝ }
+{
+    let cell = whole::as_i64(Signed {
+        negative: first.negative,
+        size: product.size,
+    });
+    Totals {
+        inside: true,
+        load,
+        truncation,
+        mean,
+        cell,
+        bound: first.bound + product.singles,
+    }
+}
+
+// One walk for each sum, and one for the product, which starts from the sum of t.
+fn lives_totals(fund: Fund, members: &[Life]) -> Totals
+    requires { ⌜ Members (now members) × HeaderIn fund ⌝ }
+    ensures { λ t. ⌜ LivesTotals fund (now (members .entry)) t ⌝ }
+{
+    let lambda = figures::lambda(members, fund.frequency);
+    let load = figures::load(members, fund.frequency);
+    let truncation = figures::truncation(members, fund.order);
+    let mean = figures::mean(members, fund.frequency);
+    let first = first_sum(lambda);
+    let product = start::multiplied(members, first.size);
+    with_start(load, truncation, mean, first, product)
+}
+
+// The totals of a table, or that it or the header is outside its ranges.
+fn table_totals(fund: Fund, members: &[Life]) -> Totals
+    ensures { λ t. ⌜ TableTotals fund (now (members .entry)) t ⌝ }
+{
+    let inside = inside::all_inside(members, inside::headed(fund, members.len()));
+    if inside {
+        return lives_totals(fund, members);
+    }
+    outside()
+}
+
+// The first lives, lent to the walks.
+fn lent_totals(fund: Fund, lives: [Life; Fund::MEMBER_ROWS], n: usize) -> Totals
+    requires { ⌜ n ≤ most-members ⌝ }
+    ensures { λ t. ⌜ TableTotals fund (take n lives) t ⌝ }
+{
+    table_totals(fund, &lives[..n])
+}
+
+// The totals of the first n lives of a table, or that they, their count or the header are outside their ranges.
+pub fn first_totals(fund: Fund, lives: [Life; Fund::MEMBER_ROWS], n: usize) -> Totals
+    ensures { λ t. ⌜ TotalsFor fund n (take n lives) t ⌝ }
+{
+    if Fund::MOST_MEMBERS < n as u64 {
+        return outside();
+    }
+    lent_totals(fund, lives, n)
+}
