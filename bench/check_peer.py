@@ -1,6 +1,7 @@
 """Compares the peer with the independent calculation: python3 bench/check_peer.py LIBRARY N SEED
 
-LIBRARY is peer.c built with `cc -shared -fPIC`. Every answer is compared whole: number, place, line, figures and all cells.
+LIBRARY is peer.c built with `cc -shared -fPIC`. Every answer is compared whole: number, place, line, figures, quantile and all
+cells.
 """
 
 import ctypes
@@ -12,28 +13,30 @@ sys.path.insert(0, str(Path(__file__).resolve().parent.parent / "tests"))
 import cases
 import generate
 import pricing
+import quantile_funds
 
-FIGURES = "number place start length truncation mean premium within horizon".split()
+FIGURES = "number place start length truncation mean premium within horizon reached quantile".split()
 
 
 class Priced(ctypes.Structure):
     _fields_ = [(name, ctypes.c_int64 if name == "premium" else ctypes.c_uint64) for name in FIGURES]
 
 
-def peer_answer(peer, data, lengths):
+def peer_answer(peer, data, lengths, level):
     """The cells start as garbage, so that each must be written."""
-    kinds = (ctypes.c_int64, ctypes.c_uint64) * 2
+    kinds = (ctypes.c_int64, ctypes.c_uint64) * 2 + (ctypes.c_int64,)
     slices = [(kind * length)(*[7] * length) for kind, length in zip(kinds, lengths)]
     out = Priced()
     lent = [word for s, n in zip(slices, lengths) for word in (s, ctypes.c_size_t(n))]
-    peer.peer_price(data, ctypes.c_size_t(len(data)), *lent, ctypes.byref(out))
+    peer.peer_price(data, ctypes.c_size_t(len(data)), ctypes.c_uint64(level), *lent, ctypes.byref(out))
     return [getattr(out, name) for name in FIGURES] + [tuple(s) for s in slices]
 
 
-def expected_answer(data, lengths):
-    a = pricing.price(data, lengths)
+def expected_answer(data, lengths, level):
+    a = pricing.price(data, lengths, level)
+    quantile = (0, 0) if a.quantile is None else (1, a.quantile)
     return [a.number, a.place, a.start, a.length, a.truncation, a.mean, a.premium, a.bound, a.horizon,
-            a.D, a.H, a.f, a.R]
+            *quantile, a.D, a.H, a.f, a.R, a.F]
 
 
 def heavy_funds(rng, count):
@@ -54,23 +57,26 @@ def calls(count, seed):
     rng = random.Random(seed)
     for case in cases.chosen(count, seed):
         longest = rng.choice((4096, 12, 12))
-        yield case.name, case.data, tuple(rng.choice((longest, rng.randint(0, longest))) for _ in range(4))
+        yield case, tuple(rng.choice((longest, rng.randint(0, longest))) for _ in range(5))
     known = generate.limit_funds() + generate.damaged_files() + generate.large_funds(seed, 20)
+    known += quantile_funds.cases(quantile_funds.ROWS + quantile_funds.MORE_ROWS)
     for case in known + list(heavy_funds(rng, 60)):
-        yield case.name, case.data, case.lengths
+        yield case, case.lengths
 
 
 def main(library, count, seed):
-    peer = ctypes.CDLL(library)
-    numbers, differing = [0] * 11, 0
-    for name, data, lengths in calls(count, seed):
-        expected = expected_answer(data, lengths)
+    peer, rng = ctypes.CDLL(library), random.Random(seed)
+    numbers, reached, differing = [0] * 11, 0, 0
+    for case, lengths in calls(count, seed):
+        level = generate.level_of(case, rng, pricing.price(case.data))
+        expected = expected_answer(case.data, lengths, level)
         numbers[expected[0]] += 1
-        if peer_answer(peer, data, lengths) != expected:
+        reached += expected[FIGURES.index("reached")]
+        if peer_answer(peer, case.data, lengths, level) != expected:
             differing += 1
-            print(f"differs: {name}")
-    print(f"{sum(numbers)} calls, {differing} differ; by number from 0 to 10: {numbers}")
-    return 1 if differing or 0 in numbers else 0
+            print(f"differs: {case.name}")
+    print(f"{sum(numbers)} calls, {differing} differ; by number from 0 to 10: {numbers}; levels reached: {reached}")
+    return 1 if differing or not reached or 0 in numbers else 0
 
 
 if __name__ == "__main__":

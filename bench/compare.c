@@ -10,13 +10,14 @@
 enum { CELLS = 4096, ROOM = 65536, ROUNDS = 60 };
 
 static const double ROUND_SECONDS = 0.02;
+static const uint64_t LEVEL = 990000000000; // 0.99
 
-typedef int price(const unsigned char *, size_t, int64_t *, size_t, uint64_t *, size_t, int64_t *, size_t, uint64_t *,
-                  size_t, struct priced *);
+typedef int price(const unsigned char *, size_t, uint64_t, int64_t *, size_t, uint64_t *, size_t, int64_t *, size_t, uint64_t *,
+                  size_t, int64_t *, size_t, struct priced *);
 
 struct answer {
     struct priced figures;
-    int64_t D[CELLS], f[CELLS];
+    int64_t D[CELLS], f[CELLS], F[CELLS];
     uint64_t H[CELLS], R[CELLS];
 };
 
@@ -24,7 +25,7 @@ static unsigned char file[ROOM];
 static size_t length;
 
 static void call(price *side, struct answer *a) {
-    side(file, length, a->D, CELLS, a->H, CELLS, a->f, CELLS, a->R, CELLS, &a->figures);
+    side(file, length, LEVEL, a->D, CELLS, a->H, CELLS, a->f, CELLS, a->R, CELLS, a->F, CELLS, &a->figures);
 }
 
 static double now(void) {

@@ -364,16 +364,31 @@ static void premium(const struct fund *fund, const int64_t *f, const uint64_t *R
     }
 }
 
+// The running sums of f, and the first place where they are at least the level.
+static void running_sums(uint64_t horizon, uint64_t level, const int64_t *f, int64_t *F, struct priced *out) {
+    int64_t sum = 0;
+    int open = level <= UNIT;
+    for (uint64_t x = 0; x <= horizon; x++) {
+        sum += f[x];
+        F[x] = sum;
+        if (open && sum >= (int64_t)level) {
+            open = 0;
+            out->reached = 1;
+            out->quantile = x;
+        }
+    }
+}
+
 // Refusals 7 to 10, or the figures and cells.
-static int value(const struct fund *fund, int64_t *D, size_t nD, uint64_t *H, size_t nH, int64_t *f, size_t nf,
-                 uint64_t *R, size_t nR, struct priced *out) {
+static int value(const struct fund *fund, uint64_t level, int64_t *D, size_t nD, uint64_t *H, size_t nH, int64_t *f, size_t nf,
+                 uint64_t *R, size_t nR, int64_t *F, size_t nF, struct priced *out) {
     uint64_t lambda = lambda_of(fund), horizon = fund->horizon;
     if (load_of(fund, lambda) > 8 * UNIT)
         return LOAD;
     wide truncation = truncation_of(fund);
     if (truncation > 100000000)
         return ORDER;
-    if (nD <= horizon || nH <= horizon || nf <= horizon || nR <= horizon)
+    if (nD <= horizon || nH <= horizon || nf <= horizon || nR <= horizon || nF <= horizon)
         return SHORT;
     transform(fund, D, H);
     start(fund, lambda, &f[0], &R[0]);
@@ -384,24 +399,27 @@ static int value(const struct fund *fund, int64_t *D, size_t nD, uint64_t *H, si
     out->mean = mean_of(fund);
     out->horizon = horizon;
     premium(fund, f, R, out);
+    running_sums(horizon, level, f, F, out);
     return 0;
 }
 
-static void clear(int64_t *D, size_t nD, uint64_t *H, size_t nH, int64_t *f, size_t nf, uint64_t *R, size_t nR) {
+static void clear(int64_t *D, size_t nD, uint64_t *H, size_t nH, int64_t *f, size_t nf, uint64_t *R, size_t nR, int64_t *F,
+                  size_t nF) {
     memset(D, 0, nD * sizeof *D);
     memset(H, 0, nH * sizeof *H);
     memset(f, 0, nf * sizeof *f);
     memset(R, 0, nR * sizeof *R);
+    memset(F, 0, nF * sizeof *F);
 }
 
-int peer_price(const unsigned char *file, size_t length, int64_t *D, size_t nD, uint64_t *H, size_t nH, int64_t *f,
-               size_t nf, uint64_t *R, size_t nR, struct priced *out) {
+int peer_price(const unsigned char *file, size_t length, uint64_t level, int64_t *D, size_t nD, uint64_t *H, size_t nH,
+               int64_t *f, size_t nf, uint64_t *R, size_t nR, int64_t *F, size_t nF, struct priced *out) {
     struct fund fund;
     struct reader r = {.file = file, .length = length};
     size_t at = 0;
     int why;
     *out = (struct priced){0};
-    clear(D, nD, H, nH, f, nf, R, nR);
+    clear(D, nD, H, nH, f, nf, R, nR, F, nF);
     if ((why = read_fund(&r, &fund))) {
         out->place = r.place;
     } else if (fund.rates != fund.members) {
@@ -413,9 +431,9 @@ int peer_price(const unsigned char *file, size_t length, int64_t *D, size_t nD, 
         take(&r);
         out->place = 7 + fund.rate_rows + at;
     } else {
-        why = value(&fund, D, nD, H, nH, f, nf, R, nR, out);
+        why = value(&fund, level, D, nD, H, nH, f, nf, R, nR, F, nF, out);
         if (why)
-            clear(D, nD, H, nH, f, nf, R, nR);
+            clear(D, nD, H, nH, f, nf, R, nR, F, nF);
     }
     if (why && why != WIDE && out->place) {
         out->start = r.end > r.start ? r.start : 0;

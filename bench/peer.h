@@ -1,4 +1,4 @@
-// The answer of a pricing call: document 01's number and place, the line handed back, and the figures in units.
+// The answer of a pricing call: document 01's number and place, the line handed back, the figures in units, and the quantile.
 #include <stddef.h>
 #include <stdint.h>
 
@@ -9,12 +9,14 @@ struct priced {
     int64_t premium;
     uint64_t within;
     uint64_t horizon; // of an accepted fund, for the listing
+    uint64_t reached; // 1 where the level is at most 10^12 and some F(x) up to the horizon is at least the level, else 0
+    uint64_t quantile; // the first such x, or 0
 };
 
-// Prices a fund file into the four result slices; returns the number.
-int peer_price(const unsigned char *file, size_t length, int64_t *D, size_t nD, uint64_t *H, size_t nH,
-               int64_t *f, size_t nf, uint64_t *R, size_t nR, struct priced *out);
+// Prices a fund file into the five result slices; returns the number.
+int peer_price(const unsigned char *file, size_t length, uint64_t level, int64_t *D, size_t nD, uint64_t *H, size_t nH,
+               int64_t *f, size_t nf, uint64_t *R, size_t nR, int64_t *F, size_t nF, struct priced *out);
 
 // The same with plain 128-bit divisions.
-int plain_price(const unsigned char *file, size_t length, int64_t *D, size_t nD, uint64_t *H, size_t nH,
-               int64_t *f, size_t nf, uint64_t *R, size_t nR, struct priced *out);
+int plain_price(const unsigned char *file, size_t length, uint64_t level, int64_t *D, size_t nD, uint64_t *H, size_t nH,
+                int64_t *f, size_t nf, uint64_t *R, size_t nR, int64_t *F, size_t nF, struct priced *out);

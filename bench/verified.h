@@ -13,14 +13,17 @@ static inline struct priced priced_of(const struct miguepo_result *got) {
         .premium = got->premium,
         .within = got->within,
         .horizon = got->horizon,
+        .reached = got->reached,
+        .quantile = got->quantile,
     };
     return out;
 }
 
-static inline int verified_price(const unsigned char *file, size_t length, int64_t *D, size_t nD, uint64_t *H, size_t nH,
-                                 int64_t *f, size_t nf, uint64_t *R, size_t nR, struct priced *out) {
+static inline int verified_price(const unsigned char *file, size_t length, uint64_t level, int64_t *D, size_t nD, uint64_t *H,
+                                 size_t nH, int64_t *f, size_t nf, uint64_t *R, size_t nR, int64_t *F, size_t nF,
+                                 struct priced *out) {
     struct miguepo_result got;
-    miguepo_price(file, length, D, nD, H, nH, f, nf, R, nR, &got);
+    miguepo_price(file, length, level, D, nD, H, nH, f, nf, R, nR, F, nF, &got);
     *out = priced_of(&got);
     return (int)out->number;
 }

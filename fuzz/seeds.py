@@ -1,6 +1,6 @@
 """Writes the first inputs of the fuzzer: python3 fuzz/seeds.py DIR
 
-The examples and the short ones of the stored cases, each behind four bytes for the slices' lengths.
+The examples and the short ones of the stored cases, each behind five bytes for the slices' lengths and eight for the level.
 """
 
 import sys
@@ -9,13 +9,14 @@ from pathlib import Path
 ROOT = Path(__file__).resolve().parent.parent
 sys.path.insert(0, str(ROOT / "tests"))
 import cases
+import generate
 
 
 def main(directory):
-    files = [path.read_bytes() for path in sorted((ROOT / "examples").glob("*.fund"))]
-    files += [data for data in cases.files_of((ROOT / "crates" / "cases" / "stdin").read_bytes()) if len(data) <= 2000]
-    for number, data in enumerate(files):
-        (directory / f"seed-{number:03}").write_bytes(bytes([240] * 4) + data)
+    pairs = [(path.read_bytes(), generate.USUAL_LEVEL) for path in sorted((ROOT / "examples").glob("*.fund"))]
+    pairs += [pair for pair in cases.pairs_of((ROOT / "crates" / "cases" / "stdin").read_bytes()) if len(pair[0]) <= 2000]
+    for number, (data, level) in enumerate(pairs):
+        (directory / f"seed-{number:03}").write_bytes(bytes([240] * 5) + level.to_bytes(8, "little") + data)
 
 
 if __name__ == "__main__":

@@ -13,12 +13,15 @@ standard output, every line with its line feed.  Nothing else is stored.
 The names begin with a running number and say how the file was made.
 
 A stream is all cases in two files of one folder, for a program that reads them
-one after the other.  stdin has for each case its length as six decimal digits
-and a line feed, then its bytes.  stdout has each listing, then `line=` and the
-part of the file that is handed back, and an empty line.
+one after the other.  stdin has for each case its length as six decimal digits,
+a space, its level as thirteen decimal digits and a line feed, then its bytes.
+stdout has each listing, then `line=` and the part of the file that is handed
+back, `quantile=` and the place as four decimal digits or `none`, and an empty
+line.  The last cases of a stream are those of quantile_funds.py.
 
 The programs `listing` and `overlong` of CRATES are one program, run on a full fund
-and on a file that is longer than what is read.
+and on a file that is longer than what is read; `level` is asked at the level in its
+file args.
 """
 
 import random
@@ -29,9 +32,12 @@ from pathlib import Path
 import document_funds
 import generate
 import pricing
+import quantile_funds
 
 
 LONGEST = 65536      # what the program that reads a stream has room for
+MOST_LEVEL = 9999999999999      # thirteen digits
+HEAD = 21            # bytes before each file of a stream
 
 
 def listing_of(data):
@@ -42,8 +48,10 @@ def known_cases(rng):
     """Document 01's funds, then limits, other refusals and form faults in turn."""
     document = [generate.Case(f"document-{name}", text.data())
                 for name, text in document_funds.FUNDS.items()]
-    damaged = generate.damaged_files()
-    kinds = [generate.limit_funds(),
+    # The cases of the slice for F came later; left out before the shuffle, a seed gives the files that it gave.
+    limits, damaged = ([case for case in made if "-sums-" not in case.name]
+                       for made in (generate.limit_funds(), generate.damaged_files()))
+    kinds = [limits,
              [case for case in damaged if "-form-" not in case.name],
              [case for case in damaged if "-form-" in case.name]]
     for kind in kinds:
@@ -95,58 +103,87 @@ def check(directory):
     return 0 if count and not bad else 1
 
 
-def answer_of(data):
-    answer = pricing.price(data)
+def answer_of(data, level):
+    answer = pricing.price(data, level=level)
     part = data[answer.start:answer.start + answer.length]
-    return pricing.listing(answer).encode("ascii") + b"line=" + part + b"\n\n"
+    quantile = b"none" if answer.quantile is None else b"%04d" % answer.quantile
+    return (pricing.listing(answer).encode("ascii") + b"line=" + part
+            + b"\nquantile=" + quantile + b"\n\n")
 
 
-def stream_of(files):
-    return (b"".join(b"%06d\n" % len(data) + data for data in files),
-            b"".join(answer_of(data) for data in files))
+def stream_of(pairs):
+    """stdin and stdout for files with their levels."""
+    return (b"".join(b"%06d %013d\n" % (len(data), level) + data for data, level in pairs),
+            b"".join(answer_of(data, level) for data, level in pairs))
 
 
-def files_of(stream):
-    files = []
+def pairs_of(stream):
+    """The files of a stream with their levels."""
+    pairs = []
     while stream:
-        size = int(stream[:6])
-        files.append(stream[7:7 + size])
-        stream = stream[7 + size:]
-    return files
+        size, level = int(stream[:6]), int(stream[7:HEAD - 1])
+        pairs.append((stream[HEAD:HEAD + size], level))
+        stream = stream[HEAD + size:]
+    return pairs
+
+
+def stream_pairs(count, seed):
+    rng = random.Random(seed)
+    return [(case.data, generate.level_of(case, rng, pricing.price(case.data), MOST_LEVEL))
+            for case in chosen(count, seed) + quantile_funds.cases()
+            if len(case.data) <= LONGEST]
 
 
 def write_stream(directory, count, seed):
     directory.mkdir(parents=True, exist_ok=True)
-    files = [case.data for case in chosen(count, seed) if len(case.data) <= LONGEST]
-    given, wanted = stream_of(files)
+    pairs = stream_pairs(count, seed)
+    given, wanted = stream_of(pairs)
     (directory / "stdin").write_bytes(given)
     (directory / "stdout").write_bytes(wanted)
-    return len(files)
+    return len(pairs)
 
 
 def check_stream(directory):
-    files = files_of((directory / "stdin").read_bytes())
-    same = stream_of(files)[1] == (directory / "stdout").read_bytes()
-    print(f"{len(files)} cases, " + ("none differs" if same else "some differ"))
-    return 0 if files and same else 1
+    stored = tuple((directory / name).read_bytes() for name in ("stdin", "stdout"))
+    pairs = pairs_of(stored[0])
+    same = stream_of(pairs) == stored
+    print(f"{len(pairs)} cases, " + ("none differs" if same else "some differ"))
+    return 0 if pairs and same else 1
+
+
+def level_line(data, level):
+    """What the program `level` prints."""
+    answer = pricing.price(data, level=level)
+    if answer.number:
+        return listing_of(data)
+    return b"quantile=none\n" if answer.quantile is None else b"quantile=%d\n" % answer.quantile
 
 
 def programs():
-    return {"listing": generate.full_fund().data(), "overlong": generate.overlong_file().data()}
+    """The programs with their input and, for one that is asked at a level, the level."""
+    worked = Path(__file__).resolve().parent.parent / "examples" / "sixty-members.fund"
+    return {"listing": (generate.full_fund().data(), None),
+            "overlong": (generate.overlong_file().data(), None),
+            "level": (worked.read_bytes(), 990000000000)}
 
 
 def write_programs(crates):
-    for name, data in programs().items():
+    for name, (data, level) in programs().items():
         (crates / name / "stdin").write_bytes(data)
-        (crates / name / "stdout").write_bytes(listing_of(data))
+        (crates / name / "stdout").write_bytes(listing_of(data) if level is None else level_line(data, level))
+        if level is not None:
+            (crates / name / "args").write_text(f"{level}\n")
     return len(programs())
 
 
 def check_programs(crates):
     bad = 0
     for name in programs():
-        data = (crates / name / "stdin").read_bytes()
-        if listing_of(data) != (crates / name / "stdout").read_bytes():
+        folder = crates / name
+        data = (folder / "stdin").read_bytes()
+        arguments = folder / "args"
+        wanted = level_line(data, int(arguments.read_text())) if arguments.exists() else listing_of(data)
+        if wanted != (folder / "stdout").read_bytes():
             bad += 1
             print(f"differs: {name}")
     print(f"{len(programs())} programs, {bad} differ")

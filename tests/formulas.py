@@ -1,4 +1,4 @@
-"""The figures of document 01 asked for one by one, with fractions.
+"""The figures asked for one by one, with fractions: document 01's, F, the quantile.
 
 A second way of writing the method: each figure is a function of its indices,
 written as the document's formula and remembered, with no running cells.
@@ -115,6 +115,13 @@ class Formulas:
             for k in range(1, x + 1))
         return up(Fraction(total, x)) + 1
 
+    def F(self, x):
+        return sum(self.f(k) for k in range(x + 1))
+
+    def quantile(self, level):
+        reached = [x for x in range(self.X + 1) if self.F(x) >= level]
+        return min(reached) if reached and level <= UNIT else None
+
     def premium(self):
         return (self.mean() - self.M * UNIT
                 + sum((self.M - x) * self.f(x) for x in range(self.M)))
@@ -129,7 +136,7 @@ def formulas_of(data):
     return Formulas(data)
 
 
-def check_figures(data, answer):
+def check_figures(data, answer, level=0):
     """The figures of an accepted answer that are not the formulas' figures."""
     formulas = formulas_of(data)
     cells = range(formulas.X + 1)
@@ -138,8 +145,9 @@ def check_figures(data, answer):
         ("mean", answer.mean, formulas.mean()),
         ("premium", answer.premium, formulas.premium()),
         ("bound", answer.bound, formulas.bound()),
+        ("quantile", answer.quantile, formulas.quantile(level)),
     ]
-    for name in ("D", "H", "f", "R"):
+    for name in ("D", "H", "f", "R", "F"):
         mine = [getattr(formulas, name)(x) for x in cells]
         rest = [0] * (len(getattr(answer, name)) - len(mine))
         pairs.append((name, list(getattr(answer, name)), mine + rest))

@@ -9,7 +9,7 @@ from dataclasses import dataclass, replace
 
 import pricing
 
-ENOUGH = (pricing.HORIZON_HIGH + 1,) * 4
+ENOUGH = (pricing.HORIZON_HIGH + 1,) * 5
 HEADER_LINES = 6
 
 
@@ -19,6 +19,7 @@ class Case:
     data: bytes
     expected: tuple = None      # (number, place, part) where known; (0, 0, b"") is accepted
     lengths: tuple = ENOUGH
+    level: int = None           # where the case is made for one
 
 
 @dataclass(frozen=True)
@@ -53,6 +54,26 @@ ACCEPTED = (0, 0, b"")
 
 def refused(number, place=0, part=b""):
     return number, place, part
+
+
+# Levels
+
+USUAL_LEVEL = 990000000000      # 0.99
+MOST_LEVEL = 2 ** 64 - 1        # that a call takes
+
+
+def level_of(case, rng, answer, most=MOST_LEVEL):
+    """The case's own level.
+
+    Where it has none: 0, small, some F(x) or one unit above it, the usual one, 10^12
+    or one unit above it, the most, or any below 10^12.
+    """
+    if case.level is not None:
+        return case.level
+    total = max(0, rng.choice(answer.F[:answer.horizon + 1] or (0,)))
+    high = pricing.LEVEL_HIGH
+    return rng.choice((0, rng.randint(1, 1000), total, total + 1, USUAL_LEVEL,
+                       high, high + 1, most, rng.randrange(high)))
 
 
 # Small funds
@@ -344,13 +365,18 @@ def figure_limits():
 def length_limits():
     """Exactly X + 1 cells, one fewer in each slice, none, and some more."""
     data = ONE_MEMBER.data()
-    cases = [Case("limit-lengths-exact", data, ACCEPTED, (4,) * 4),
-             Case("limit-lengths-mixed", data, ACCEPTED, (4, 9, 5, 4096)),
-             Case("limit-lengths-none", data, refused(9), (0,) * 4)]
+    cases = [Case("limit-lengths-exact", data, ACCEPTED, (4,) * 5),
+             Case("limit-lengths-mixed", data, ACCEPTED, (4, 9, 5, 4096, 6)),
+             Case("limit-lengths-none", data, refused(9), (0,) * 5)]
     for index in range(4):
-        lengths = tuple(3 if k == index else 4 + k for k in range(4))
+        lengths = tuple(3 if k == index else 4 + k for k in range(5))
         cases.append(Case(f"limit-lengths-short-{index}", data, refused(9), lengths))
-    return cases
+    return cases + [
+        Case("limit-lengths-sums-short", data, refused(9), (9, 8, 7, 6, 3)),
+        Case("limit-lengths-sums-exact", data, ACCEPTED, (9, 8, 7, 6, 4)),
+        Case("limit-lengths-sums-none", data, refused(9), (4, 4, 4, 4, 0)),
+        Case("limit-lengths-sums-more", data, ACCEPTED, (4, 4, 4, 4, 4096)),
+    ]
 
 
 def longest_text():
@@ -617,10 +643,12 @@ def short_damage():
     order = replace(GOOD, order=1).data()
     form = GOOD.data()[:-1]
     return [
-        Case("damaged-short-before-wide", wide, refused(9), (7, 7, 6, 7)),
-        Case("damaged-wide-not-short", wide, refused(10, 6), (7,) * 4),
-        Case("damaged-order-before-short", order, refused(8), (0,) * 4),
-        Case("damaged-form-before-short", form, refused(1, 13, b"end=3"), (0, 1, 2, 3)),
+        Case("damaged-short-before-wide", wide, refused(9), (7, 7, 6, 7, 7)),
+        Case("damaged-wide-not-short", wide, refused(10, 6), (7,) * 5),
+        Case("damaged-order-before-short", order, refused(8), (0,) * 5),
+        Case("damaged-form-before-short", form, refused(1, 13, b"end=3"), (0, 1, 2, 3, 4)),
+        Case("damaged-sums-short-before-wide", wide, refused(9), (7, 7, 7, 7, 6)),
+        Case("damaged-sums-order-before-short", order, refused(8), (6, 6, 6, 6, 5)),
     ]
 
 

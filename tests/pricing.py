@@ -1,12 +1,14 @@
 """The answer of a pricing call, in whole numbers, in the order of document 01.
 
-price(data, lengths) gives every figure of a call for any bytes and any
-lengths of the four result slices.  listing(answer) gives the printed text.
+price(data, lengths, level) gives every figure of a call for any bytes, any
+lengths of the five result slices and any level.  listing(answer) gives the
+printed text.
 Run as a program, it reads a fund file on standard input and prints the listing.
 """
 
 import sys
 from dataclasses import dataclass
+from itertools import accumulate
 
 UNIT = 10 ** 12          # one, in units of 10^-12
 MILLION = 10 ** 6        # one, in millionths
@@ -26,8 +28,9 @@ HALF = 500000
 LOAD_HIGH = 8 * 10 ** 12
 TRUNCATION_HIGH = 10 ** 8
 BOUND_HIGH = 250000
+LEVEL_HIGH = 10 ** 12
 START_TERMS = 63
-LISTING_LENGTHS = (HORIZON_HIGH + 1,) * 4
+LISTING_LENGTHS = (HORIZON_HIGH + 1,) * 5
 
 FORM, RANGE, EDITION, DEDUCTIBLE, UNMATCHED = 1, 2, 3, 4, 5
 TOO_HALF, LOAD, ORDER, SHORT, WIDE = 6, 7, 8, 9, 10
@@ -419,6 +422,26 @@ def premium_bound(deductible, R, truncation_figure):
             + 2 * deductible * truncation_figure)
 
 
+# The deductible at a level
+
+def running_sums(f):
+    """F(x) is f(0) + .. + f(x)."""
+    return list(accumulate(f))
+
+
+def quantile(F, level):
+    """The smallest x with F(x) at least the level, or None.
+
+    F need not rise, so every x is asked in turn.
+    """
+    if level > LEVEL_HIGH:
+        return None
+    for x, total in enumerate(F):
+        if total >= level:
+            return x
+    return None
+
+
 # The call
 
 @dataclass(frozen=True)
@@ -431,11 +454,13 @@ class Answer:
     mean: int
     premium: int
     bound: int           # the premium's bound
-    D: tuple             # the four result slices after the call
+    D: tuple             # the five result slices after the call
     H: tuple
     f: tuple
     R: tuple
+    F: tuple             # the running sums of f
     horizon: int         # X of an accepted fund, for the listing
+    quantile: int        # the smallest x with F(x) at least the level, or None
 
 
 def check_fund(fund):
@@ -445,7 +470,12 @@ def check_fund(fund):
         raise Refusal(DEDUCTIBLE, 0)
 
 
-def accepted(data, lengths):
+def check_short(lengths, horizon):
+    if min(lengths) < horizon + 1:
+        raise Refusal(SHORT, 0)
+
+
+def accepted(data, lengths, level):
     """The answer for a fund that meets no refusal's condition."""
     fund = read_fund(data)
     check_fund(fund)
@@ -457,29 +487,29 @@ def accepted(data, lengths):
     E = truncation(members, fund.order)
     if E > TRUNCATION_HIGH:
         raise Refusal(ORDER, 0)
-    if min(lengths) < fund.horizon + 1:
-        raise Refusal(SHORT, 0)
+    check_short(lengths, fund.horizon)
     D, H, f, R = distribution(fund, members, lam)
     check_wide(R)
     mean_figure = mean(members, fund.frequency)
+    F = running_sums(f)
     slices = [tuple(cells) + (0,) * (length - len(cells))
-              for cells, length in zip((D, H, f, R), lengths)]
+              for cells, length in zip((D, H, f, R, F), lengths)]
     return Answer(0, 0, 0, 0, E, mean_figure,
                   premium(mean_figure, fund.deductible, f),
                   premium_bound(fund.deductible, R, E),
-                  *slices, fund.horizon)
+                  *slices, fund.horizon, quantile(F, level))
 
 
 def refused(refusal, lengths):
-    """Number and place, zero for every figure and in every lent cell."""
+    """Number and place, zero for every figure and in every lent cell, no quantile."""
     slices = [(0,) * length for length in lengths]
     return Answer(refusal.number, refusal.place, refusal.start, refusal.length,
-                  0, 0, 0, 0, *slices, 0)
+                  0, 0, 0, 0, *slices, 0, None)
 
 
-def price(data, lengths=LISTING_LENGTHS):
+def price(data, lengths=LISTING_LENGTHS, level=0):
     try:
-        return accepted(data, lengths)
+        return accepted(data, lengths, level)
     except Refusal as refusal:
         return refused(refusal, lengths)
 

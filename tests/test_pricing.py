@@ -22,8 +22,9 @@ import exact_rows
 import formulas
 import generate
 import pricing
+import quantile_funds
 
-SHORT_SLICES = (26, 25, 27, 25)     # the small funds have X up to 24
+SHORT_SLICES = (26, 25, 27, 25, 28)     # the small funds have X up to 24
 
 
 def part_of(data, answer):
@@ -100,7 +101,8 @@ def first_fault(data):
 def refused_answer_holds(data, answer):
     """Zero figures, zero cells, and the part that the place says."""
     zero = (answer.truncation, answer.mean, answer.premium, answer.bound) == (0,) * 4
-    cells = not any(map(any, (answer.D, answer.H, answer.f, answer.R)))
+    zero = zero and answer.quantile is None
+    cells = not any(map(any, (answer.D, answer.H, answer.f, answer.R, answer.F)))
     if answer.number in (1, 2, 5, 6):
         part = (answer.place >= 1 and part_of(data, answer)
                 == data.split(b"\n")[answer.place - 1])
@@ -115,19 +117,40 @@ def refused_answer_holds(data, answer):
 def accepted_answer_holds(answer):
     """Limits kept, the first D and H zero, zero beyond X, one line for each figure."""
     used = answer.horizon + 1
-    slices = (answer.D, answer.H, answer.f, answer.R)
+    slices = (answer.D, answer.H, answer.f, answer.R, answer.F)
     return (answer.place == answer.start == answer.length == 0
             and answer.D[0] == answer.H[0] == 0
             and not any(any(cells[used:]) for cells in slices)
             and max(answer.R) <= 250000 and answer.truncation <= 10 ** 8
             and all(h >= 0 for h in answer.H)
+            and all(F == sum(answer.f[:x + 1]) for x, F in enumerate(answer.F[:used]))
             and pricing.listing(answer).count("\n") == used + 4)
+
+
+def quantile_holds(answer, level):
+    """The least of all x up to X with F(x) at least the level; none after a refusal or above 10^12."""
+    if answer.number or level > 10 ** 12:
+        return answer.quantile is None
+    reached = [x for x, F in enumerate(answer.F[:answer.horizon + 1]) if F >= level]
+    return answer.quantile == (min(reached) if reached else None)
+
+
+def level_of(case, answer):
+    return generate.level_of(case, random.Random(case.name), answer)
+
+
+def level_holds(case, answer):
+    """A level changes the quantile and nothing else."""
+    level = level_of(case, answer)
+    asked = pricing.price(case.data, case.lengths, level)
+    return (replace(asked, quantile=answer.quantile) == answer
+            and quantile_holds(asked, level))
 
 
 def answer_holds(case):
     answer = pricing.price(case.data, case.lengths)
-    lengths = tuple(map(len, (answer.D, answer.H, answer.f, answer.R)))
-    if lengths != case.lengths:
+    lengths = tuple(map(len, (answer.D, answer.H, answer.f, answer.R, answer.F)))
+    if lengths != case.lengths or not level_holds(case, answer):
         return False
     if answer.number:
         return refused_answer_holds(case.data, answer)
@@ -174,7 +197,9 @@ def formula_checks(made):
     for case in made:
         answer = pricing.price(case.data, case.lengths)
         if is_small(answer):
-            broken = formulas.check_figures(case.data, answer)
+            level = level_of(case, answer)
+            answer = pricing.price(case.data, case.lengths, level)
+            broken = formulas.check_figures(case.data, answer, level)
             checks.append((f"{case.name}: formulas {broken}", not broken))
     return checks
 
@@ -230,7 +255,7 @@ def prefix_holds(data, whole):
     shorter = with_header(with_header(data, 3, b"horizon=%d" % X), 6, b"deductible=0")
     part = pricing.price(shorter)
     return all(getattr(part, name)[:X + 1] == getattr(whole, name)[:X + 1]
-               and not any(getattr(part, name)[X + 1:]) for name in "DHfR")
+               and not any(getattr(part, name)[X + 1:]) for name in "DHfRF")
 
 
 def deductible_holds(data, whole):
@@ -316,6 +341,35 @@ def cells_left(refusal, lengths):
                    f=tuple(1 for _ in range(lengths[2])))
 
 
+def quantile_left(refusal, lengths):
+    return replace(right_refused(refusal, lengths), quantile=0)
+
+
+def first_four_only(lengths, horizon):
+    right_check_short(lengths[:4], horizon)
+
+
+def sums_of_sizes(f):
+    return right_running_sums(map(abs, f))
+
+
+def sums_without_own(f):
+    return [0] + right_running_sums(f)[:-1]
+
+
+def last_reached(F, level):
+    before = right_quantile(F[::-1], level)
+    return None if before is None else len(F) - 1 - before
+
+
+def only_above(F, level):
+    return right_quantile(F, level + 1) if level < 10 ** 12 else None
+
+
+def level_0_at_0(F, level):
+    return right_quantile(F, level) if level else 0
+
+
 def half_before_folding(member, q, i):
     if member.group == 1 and q + i >= pricing.HALF:
         raise member.line.refusal(pricing.TOO_HALF)
@@ -328,6 +382,9 @@ right_rate_in_range = pricing.rate_in_range
 right_fold = pricing.fold
 right_numbers_of = pricing.numbers_of
 right_refused = pricing.refused
+right_check_short = pricing.check_short
+right_running_sums = pricing.running_sums
+right_quantile = pricing.quantile
 
 MUTATIONS = (
     ("negative halves up", "nearest", negative_halves_up),
@@ -348,6 +405,16 @@ MUTATIONS = (
     ("truncation limit one higher", "TRUNCATION_HIGH", pricing.TRUNCATION_HIGH + 1),
     ("bound limit one lower", "BOUND_HIGH", pricing.BOUND_HIGH - 1),
     ("bound limit one higher", "BOUND_HIGH", pricing.BOUND_HIGH + 1),
+    ("quantile by bisection", "quantile", quantile_funds.bisected),
+    ("the last x that reaches the level", "quantile", last_reached),
+    ("a level that is met exactly passed over", "quantile", only_above),
+    ("level 0 not asked", "quantile", level_0_at_0),
+    ("level limit one lower", "LEVEL_HIGH", pricing.LEVEL_HIGH - 1),
+    ("level limit one higher", "LEVEL_HIGH", pricing.LEVEL_HIGH + 1),
+    ("running sums of sizes", "running_sums", sums_of_sizes),
+    ("running sums without f(x)", "running_sums", sums_without_own),
+    ("the slice for F not counted under short", "check_short", first_four_only),
+    ("a quantile after a refusal", "refused", quantile_left),
 )
 
 
@@ -363,6 +430,7 @@ def noticed(small, limits, damaged):
         "formulas": failures(formula_checks(small)),
         "expected": failures(expected_checks(limits + damaged)),
         "answers": failures(answer_checks(limits)),
+        "quantiles": failures(quantile_funds.checks()),
     }
 
 
@@ -408,6 +476,20 @@ def case_tool_checks():
     return checks
 
 
+def stream_checks():
+    pairs = cases.stream_pairs(60, 3)
+    given, wanted = cases.stream_of(pairs)
+    return [("stream: the files and levels are read back", cases.pairs_of(given) == pairs),
+            ("stream: the same seed gives the same", cases.stream_pairs(60, 3) == pairs),
+            ("stream: levels of up to thirteen digits", max(level for _, level in pairs) < 10 ** 13),
+            ("stream: a quantile for each", wanted.count(b"\nquantile=") == len(pairs)),
+            ("stream: the first answer",
+             cases.answer_of(document_funds.FIRST_FILE, 900000000001)
+             == document_funds.FIRST_LISTING.encode("ascii") + b"line=\nquantile=0001\n\n"),
+            ("stream: a refusal", cases.answer_of(document_funds.HALF.data(), 0)
+             == b"refused=6,8\nline=member=40,1,1,0\nquantile=none\n\n")]
+
+
 def row_checks():
     """The printed rows: read back, they are the fractions of accepted funds."""
     checks = []
@@ -444,7 +526,7 @@ def program_checks():
 def random_bytes_cases(seed, number):
     rng = random.Random(seed)
     return [generate.Case(f"bytes-{index}", bytes(rng.randrange(256) for _ in range(index)),
-                          None, (index % 3,) * 4) for index in range(number)]
+                          None, (index % 3,) * 5) for index in range(number)]
 
 
 def sections():
@@ -462,8 +544,9 @@ def sections():
     yield "damaged files", expected_checks(damaged)
     yield "answers", answer_checks(small + limits + damaged + changed + any_bytes)
     yield "second reader", reading_checks(limits + damaged + changed + any_bytes)
+    yield "quantiles", quantile_funds.checks() + answer_checks(quantile_funds.cases())
     yield "larger funds", large_checks(generate.large_funds(9, 6))
-    yield "stored cases", case_tool_checks()
+    yield "stored cases", case_tool_checks() + stream_checks()
     yield "exact rows", row_checks()
     yield "program", program_checks()
     yield "mutations", mutation_checks()

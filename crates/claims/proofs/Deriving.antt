@@ -1,11 +1,12 @@
--- From an outcome that is the definitions' answer, with the distance of an accepted fund, to the three demands (demands). Only what
--- acceptance and a refusal say of the definitions' answer is used.
+-- From an outcome that is the definitions' answer, with the distance of an accepted fund, to the three demands and to what the answer at
+-- the level says (demands). Only what acceptance and a refusal say of the definitions' answer is used.
 use mathlib.Core.Path.{_≡_, refl, sym, _∙_, ap, subst}
 use mathlib.Core.List.{List}
 use Prim.Native.Nat.{ℕ, _+_, _*_, _^_, _<_, _≤_}
+use native.Mathlib.Numerals.{add-one}
 use native.Mathlib.Omega.{arith}
 use lib.IntN.{ℤ, pos, natAbs, _*ℤ_, _-ℤ_}
-use lib.ListN.{getD}
+use lib.ListN.{length, getD}
 use Rattle.fund.specs.declared.Refusal.{Refusal}
 use Rattle.fund.specs.declared.Verdict.{Verdict}
 use Rattle.fund.specs.declared.Verdict.the-variants.{Accepted, Refused}
@@ -13,13 +14,17 @@ use Rattle.fund.specs.Transform.{unit}
 use Rattle.fund.specs.Reading.{FundFile, Reading, read, stopped, reading}
 use Rattle.fund.specs.Folding.{lives}
 use Rattle.fund.specs.Refusals.{Lengths, numberIn, verdict}
+use Rattle.fund.specs.Quantile.{quantile, quantileOf, QuantileSays}
 use Rattle.fund.specs.Answer.{Answer, refused, fundCells, accepted, answerOf, answerTo, answer}
 use Rattle.fund.specs.Listing.{horizonIn}
 use Rattle.fund.specs.Distance.{fileDenominator, exactAt, exactPremiumAt, apart, WithinBounds}
-use Rattle.laws.specs.Answer.{accepted-read}
+use Rattle.laws.specs.Accepted.{accepts}
+use Rattle.laws.specs.Answer.{accepted-read, answer-accepted}
+use Rattle.laws.specs.Sums.{F-cell, length-F}
+use Rattle.laws.specs.Quantile.{quantile-says, quantile-above}
 use Rattle.laws.specs.Numbers.{zero-accepted}
 use Rattle.pricing.specs.Priced.{horizonWith}
-use Rattle.claims.specs.Demands.{Received, Refuses, Zero, Method, Close, Demands}
+use Rattle.claims.specs.Demands.{Received, Refuses, Zero, Method, Close, Quantiles, Demands}
 
 -- ---- a refusal
 -- An answer with a number above 0 is a refusal's.
@@ -42,13 +47,14 @@ refused-as file n l = go (reading file) refl l
 
 -- ---- the demands
 -- What is left is the answer, and the distance holds of it.
-pub record Answered (file : List ℕ) (n : Lengths) (o : Received) : Type 0 where
+pub record Answered (file : List ℕ) (level : ℕ) (n : Lengths) (o : Received) : Type 0 where
   pub refuses : Refuses file n o
   pub horizon : o .horizon ≡ horizonWith (answer file n .verdict) (horizonIn (reading file))
   pub method : Method file n o
+  pub quantile : o .quantile ≡ quantileOf level (o .horizon) (o .F) (answer file n .verdict)
   pub distance : (fund : FundFile) → reading file ≡ read fund → answer file n .verdict ≡ Accepted → WithinBounds fund (answer file n)
 
-module _ (file : List ℕ) (n : Lengths) (o : Received) (k : Answered file n o) where
+module _ (file : List ℕ) (level : ℕ) (n : Lengths) (o : Received) (k : Answered file level n o) where
   zero-of : RefusedAs file n → Zero n o
   unfolding refused
   zero-of s =
@@ -57,10 +63,12 @@ module _ (file : List ℕ) (n : Lengths) (o : Received) (k : Answered file n o) 
       record {
         horizon = k .horizon ∙ ap (λ (a : Answer). horizonWith (a .verdict) (horizonIn (reading file))) e;
         figures = m .figures ∙ ap (λ (a : Answer). a .figures) e;
+        quantile = k .quantile ∙ ap (λ (a : Answer). quantileOf level (o .horizon) (o .F) (a .verdict)) e;
         D = m .D ∙ ap (λ (a : Answer). a .D) e;
         H = m .H ∙ ap (λ (a : Answer). a .H) e;
         f = m .f ∙ ap (λ (a : Answer). a .f) e;
         R = m .R ∙ ap (λ (a : Answer). a .R) e;
+        F = m .F ∙ ap (λ (a : Answer). a .F) e;
       }
 
   close-of : answer file n .verdict ≡ Accepted → Close file o
@@ -78,11 +86,31 @@ module _ (file : List ℕ) (n : Lengths) (o : Received) (k : Answered file n o) 
         premium = rw (m .figures) (w .premium);
       }
 
-  pub demands : Demands file n o
+  quantiles-of : answer file n .verdict ≡ Accepted → Quantiles level o
+  unfolding horizonIn
+  quantiles-of v =
+      let a = accepted-read file n v in
+      let m = k .method in
+      let c = answer-accepted file n (a .fund) (a .is-read) v in
+      let h = a .fund .header in
+      let ms = lives (a .fund) in
+      let X : o .horizon ≡ h .horizon = k .horizon ∙ ap (λ x. horizonWith x (horizonIn (reading file))) v ∙ ap horizonIn (a .is-read) in
+      let F : o .F ≡ accepted h ms n .F = m .F ∙ ap (λ (x : Answer). x .F) (c .answer-is) in
+      let f : o .f ≡ accepted h ms n .f = m .f ∙ ap (λ (x : Answer). x .f) (c .answer-is) in
+      let q : o .quantile ≡ quantile level (o .horizon) (o .F) = k .quantile ∙ ap (quantileOf level (o .horizon) (o .F)) v in
+      let long = accepts (a .fund) n (fundCells h ms) (c .verdict-is) .long .sums-long in
+      record {
+        sums = λ x l. rw (add-one x, F, f) (F-cell h ms n x (omega (arith, l, X)));
+        says = λ l. subst (QuantileSays level (o .horizon) (o .F)) (sym q) (quantile-says level (o .horizon) (o .F) l (omega (arith, ap length F, length-F h ms n long, long, X)));
+        above = λ l. q ∙ quantile-above level (o .horizon) (o .F) l;
+      }
+
+  pub demands : Demands file level n o
   demands =
       record {
         refuses = k .refuses;
         zero = λ l. zero-of (refused-as file n (subst (λ x. 0 < x) (k .refuses .number) l));
         method = k .method;
         close = λ z. close-of (zero-accepted (answer file n .verdict) (sym (k .refuses .number) ∙ z));
+        quantiles = λ z. quantiles-of (zero-accepted (answer file n .verdict) (sym (k .refuses .number) ∙ z));
       }

@@ -1,10 +1,12 @@
 -- What the public calls leave, as an outcome.
 use mathlib.Core.Bool.{_&&_}
 use mathlib.Core.List.{List, []}
-use Prim.Native.Nat.{ℕ, _-_}
+use Prim.Native.Nat.{ℕ, zero, suc, _-_}
 use lib.Dec.{leb}
 use lib.IntN.{ℤ}
 use lib.ListN.{length, getD, take, drop}
+use Rattle.fund.specs.declared.Quantile.{Quantile}
+use Rattle.fund.specs.declared.Quantile.the-variants.{At, None}
 use Rattle.fund.specs.Base.{if_then_else_}
 use Rattle.fund.specs.Refusals.{numberIn, placeIn}
 use Rattle.pricing.specs.declared.Priced.{Priced}
@@ -15,31 +17,40 @@ use Rattle.claims.specs.Demands.{Received}
 abbrev pub handed : List ℕ → Priced → List ℕ
 handed file p = if leb (p .start) (p .end) && leb (p .end) (length file) then take (p .end - p .start) (drop (p .start) file) else []
 
-abbrev pub priced : List ℕ → Priced → List ℤ → List ℕ → List ℤ → List ℕ → Received
-priced file p d h f r =
+abbrev pub priced : List ℕ → Priced → List ℤ → List ℕ → List ℤ → List ℕ → List ℤ → Received
+priced file p d h f r s =
     record {
       number = numberIn (p .verdict);
       place = placeIn (p .verdict);
       line = handed file p;
       horizon = p .horizon;
       figures = p .figures;
+      quantile = p .quantile;
       D = d;
       H = h;
       f = f;
       R = r;
+      F = s;
     }
 
+-- The answer at a level, from the two fields that tell it.
+abbrev pub quantileRead : ℕ → ℕ → Quantile
+quantileRead zero x = None
+quantileRead (suc reached) x = At x
+
 -- The fields of a host's struct in C, in their order, each read as its type there.
-abbrev pub hosted : List ℕ → List ℕ → List ℤ → List ℕ → List ℤ → List ℕ → Received
-hosted file result d h f r =
+abbrev pub hosted : List ℕ → List ℕ → List ℤ → List ℕ → List ℤ → List ℕ → List ℤ → Received
+hosted file result d h f r s =
     record {
       number = getD result 0 0;
       place = getD result 1 0;
       line = take (getD result 3 0) (drop (getD result 2 0) file);
       horizon = getD result 4 0;
       figures = record { truncation = getD result 5 0; mean = getD result 6 0; premium = readSigned (getD result 7 0); within = getD result 8 0 };
+      quantile = quantileRead (getD result 9 0) (getD result 10 0);
       D = d;
       H = h;
       f = f;
       R = r;
+      F = s;
     }

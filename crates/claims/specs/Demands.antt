@@ -1,26 +1,34 @@
--- The three demands on a call that prices a fund, in plain words: for any bytes and any four slices that are lent to it.
+-- The three demands on a call that prices a fund, in plain words: for any bytes, any level and any five slices that are lent to it.
+-- And what its answer at the level says.
 use mathlib.Core.Path.{_≡_}
 use mathlib.Core.List.{List}
 use Prim.Native.Nat.{ℕ, _+_, _*_, _^_, _<_, _≤_}
 use lib.IntN.{ℤ, pos, natAbs, _*ℤ_, _-ℤ_}
 use lib.ListN.{getD, take, drop, replicate}
 use Rattle.fund.specs.declared.Figures.{Figures}
+use Rattle.fund.specs.declared.Quantile.{Quantile}
+use Rattle.fund.specs.declared.Quantile.the-variants.{None}
+use Rattle.fund.specs.Base.{sumℤ}
 use Rattle.fund.specs.Reading.{FundFile, read, reading}
 use Rattle.fund.specs.Refusals.{Lengths, numberIn, placeIn}
+use Rattle.fund.specs.Quantile.{QuantileSays}
 use Rattle.fund.specs.Answer.{Part, answer}
 use Rattle.fund.specs.Distance.{fileDenominator, exactAt, exactPremiumAt}
 
--- What a host has after a call: number and place, the line that it is handed, the horizon, the figures, and its four slices.
+-- What a host has after a call: number and place, the line that it is handed, the horizon, the figures, the answer at the level, and its
+-- five slices.
 pub record Received : Type 0 where
   pub number : ℕ
   pub place : ℕ
   pub line : List ℕ
   pub horizon : ℕ
   pub figures : Figures
+  pub quantile : Quantile
   pub D : List ℤ
   pub H : List ℕ
   pub f : List ℤ
   pub R : List ℕ
+  pub F : List ℤ
 
 -- The bytes of a part of the file.
 abbrev pub partBytes : List ℕ → Part → List ℕ
@@ -32,14 +40,16 @@ pub record Refuses (file : List ℕ) (n : Lengths) (o : Received) : Type 0 where
   pub place : o .place ≡ placeIn (answer file n .verdict)
   pub line : o .line ≡ partBytes file (answer file n .part)
 
--- "A refusal gives number and place, zero for every figure, and zero in every lent result cell."
+-- "A refusal gives number and place, zero for every figure, and zero in every lent result cell." It answers none at every level.
 pub record Zero (n : Lengths) (o : Received) : Type 0 where
   pub horizon : o .horizon ≡ 0
   pub figures : o .figures ≡ record { truncation = 0; mean = 0; premium = pos 0; within = 0 }
+  pub quantile : o .quantile ≡ None
   pub D : o .D ≡ replicate (n .D) (pos 0)
   pub H : o .H ≡ replicate (n .H) 0
   pub f : o .f ≡ replicate (n .f) (pos 0)
   pub R : o .R ≡ replicate (n .R) 0
+  pub F : o .F ≡ replicate (n .F) (pos 0)
 
 -- Demand 2. Every figure and every lent cell is what document 01's steps define.
 pub record Method (file : List ℕ) (n : Lengths) (o : Received) : Type 0 where
@@ -48,6 +58,7 @@ pub record Method (file : List ℕ) (n : Lengths) (o : Received) : Type 0 where
   pub H : o .H ≡ answer file n .H
   pub f : o .f ≡ answer file n .f
   pub R : o .R ≡ answer file n .R
+  pub F : o .F ≡ answer file n .F
 
 -- Demand 3, of a fund that is accepted: the file holds a fund; each f(x) that the host has is within R(x) + 2×E of 10^12 times the
 -- exact value at x, and the premium within its bound of the exact premium; all times document 01's denominator.
@@ -59,8 +70,17 @@ pub record Close (file : List ℕ) (o : Received) : Type 0 where
       natAbs (pos (fileDenominator fund) *ℤ getD (o .f) x (pos 0) -ℤ pos (10 ^ 12) *ℤ exactAt fund x) ≤ fileDenominator fund * (getD (o .R) x 0 + 2 * o .figures .truncation)
   pub premium : natAbs (pos (fileDenominator fund) *ℤ o .figures .premium -ℤ exactPremiumAt fund (o .figures .mean)) ≤ fileDenominator fund * o .figures .within
 
-pub record Demands (file : List ℕ) (n : Lengths) (o : Received) : Type 0 where
+-- The deductible at a level, of a fund that is accepted. F(x) is f(0) + .. + f(x) of the f that the host has. Up to a level of 10^12 the
+-- answer is the first place up to the horizon where F is at least the level, and F is below the level at every place before it; or none,
+-- and F is below the level at every place up to the horizon. Above 10^12 it is none.
+pub record Quantiles (level : ℕ) (o : Received) : Type 0 where
+  pub sums : (x : ℕ) → x ≤ o .horizon → getD (o .F) x (pos 0) ≡ sumℤ (x + 1) (λ y. getD (o .f) y (pos 0))
+  pub says : level ≤ 10 ^ 12 → QuantileSays level (o .horizon) (o .F) (o .quantile)
+  pub above : 10 ^ 12 < level → o .quantile ≡ None
+
+pub record Demands (file : List ℕ) (level : ℕ) (n : Lengths) (o : Received) : Type 0 where
   pub refuses : Refuses file n o
   pub zero : 0 < o .number → Zero n o
   pub method : Method file n o
   pub close : o .number ≡ 0 → Close file o
+  pub quantiles : o .number ≡ 0 → Quantiles level o

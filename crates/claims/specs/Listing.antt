@@ -1,4 +1,4 @@
--- What a text holds after a file's listing was printed into it.
+-- What a text holds after a file's listing, or the line of its answer at a level, was printed into it.
 use mathlib.Core.Path.{_≡_}
 use mathlib.Core.Bool.{Bool, true, false}
 use mathlib.Core.List.{List}
@@ -6,24 +6,33 @@ use Prim.Native.Nat.{ℕ, _<_, _≤_}
 use lib.ListN.{length, take, drop}
 use Rattle.fund.specs.Listing.{listing}
 use Rattle.text.specs.Shown.{room}
+use Rattle.printing.specs.Printed.{levelLine}
 
--- A text with room for every listing begins with the file's listing, and what stood behind stays.
-pub record ListingFirst (file before after : List ℕ) (size : ℕ) : Type 0 where
-  pub start : take size after ≡ listing file
-  pub size-is : size ≡ length (listing file)
+-- The text begins with what is shown, and what stood behind stays.
+pub record Begins (shown before after : List ℕ) (size : ℕ) : Type 0 where
+  pub start : take size after ≡ shown
+  pub size-is : size ≡ length shown
   pub beyond : drop size after ≡ drop size before
 
--- A shorter text stays as it is.
 pub record Unchanged (before after : List ℕ) (size : ℕ) : Type 0 where
   pub none : size ≡ 0
   pub same : after ≡ before
 
-pub record Prints (file before after : List ℕ) (size : ℕ) : Type 0 where
-  pub listed : room ≤ length before → ListingFirst file before after size
-  pub kept : length before < room → Unchanged before after size
+-- A text that has room begins with what is shown; a shorter one stays as it is.
+pub record Shows (least : ℕ) (shown before after : List ℕ) (size : ℕ) : Type 0 where
+  pub listed : least ≤ length before → Begins shown before after size
+  pub kept : length before < least → Unchanged before after size
+
+-- The file's listing, in a text with room for every listing.
+abbrev pub Prints : List ℕ → List ℕ → List ℕ → ℕ → Type 0
+Prints file = Shows room (listing file)
+
+-- The line of the file's answer at a level, in a text of at least 64 bytes.
+abbrev pub PrintsLevel : ℕ → List ℕ → List ℕ → List ℕ → ℕ → Type 0
+PrintsLevel level file = Shows 64 (levelLine file level)
 
 -- Standard input, of which `read` bytes stand in a buffer: whatever the file is, if these are its first bytes, as many as the buffer has
--- room for, then its listing is printed. Where it fails, the text stays as it is.
-pub record PrintsRead (buffer before after : List ℕ) (failed : Bool) (read size : ℕ) : Type 0 where
-  pub printed : failed ≡ false → (file : List ℕ) → take (length buffer) file ≡ take read buffer → Prints file before after size
+-- room for, then the same is printed of it. Where it fails, the text stays as it is.
+pub record PrintsRead (prints : List ℕ → List ℕ → List ℕ → ℕ → Type 0) (buffer before after : List ℕ) (failed : Bool) (read size : ℕ) : Type 0 where
+  pub printed : failed ≡ false → (file : List ℕ) → take (length buffer) file ≡ take read buffer → prints file before after size
   pub stays : failed ≡ true → Unchanged before after size

@@ -7,21 +7,24 @@ use printing::PrintedInput;
 ghost use mathlib.Core.Path.{_≡_};
 ghost use Rattle.valuation.specs.Valued.{lengths};
 ghost use Rattle.claims.specs.Demands.{Demands};
-ghost use Rattle.claims.specs.Listing.{Prints, PrintsRead};
+ghost use Rattle.claims.specs.Listing.{Prints, PrintsLevel, PrintsRead};
 ghost use Rattle.claims.specs.Calls.{handed, priced, hosted};
 
-// Demands 1, 2 and 3 of the pricing call.
+// Demands 1, 2 and 3 of the pricing call, and what its answer at the level says.
 pub fn claimed_price(
     file: &[u8],
+    level: u64,
     transform: &mut [i64],
     h: &mut [u64],
     f: &mut [i64],
     r: &mut [u64],
+    sums: &mut [i64],
 ) -> Priced
-    ensures { λ p. ⌜ Demands (now (file .entry)) (lengths (now (transform .entry)) (now (h .entry)) (now (f .entry)) (now (r .entry)))
-        (priced (now (file .entry)) p (now (transform .exit)) (now (h .exit)) (now (f .exit)) (now (r .exit))) ⌝ }
+    ensures { λ p. ⌜ Demands (now (file .entry)) level
+        (lengths (now (transform .entry)) (now (h .entry)) (now (f .entry)) (now (r .entry)) (now (sums .entry)))
+        (priced (now (file .entry)) p (now (transform .exit)) (now (h .exit)) (now (f .exit)) (now (r .exit)) (now (sums .exit))) ⌝ }
 {
-    pricing::price(file, transform, h, f, r)
+    pricing::price(file, level, transform, h, f, r, sums)
 }
 
 // The line that the host is handed is that of the outcome.
@@ -34,16 +37,19 @@ pub fn claimed_line<'a>(file: &'a [u8], priced: Priced) -> &'a [u8]
 // The same of the call for C.
 pub fn claimed_host(
     file: &[u8],
+    level: u64,
     transform: &mut [i64],
     h: &mut [u64],
     f: &mut [i64],
     r: &mut [u64],
+    sums: &mut [i64],
     result: &mut [u64; miguepo::FIELDS],
 )
-    ensures { λ _. ⌜ Demands (now (file .entry)) (lengths (now (transform .entry)) (now (h .entry)) (now (f .entry)) (now (r .entry)))
-        (hosted (now (file .entry)) (now (result .exit)) (now (transform .exit)) (now (h .exit)) (now (f .exit)) (now (r .exit))) ⌝ }
+    ensures { λ _. ⌜ Demands (now (file .entry)) level
+        (lengths (now (transform .entry)) (now (h .entry)) (now (f .entry)) (now (r .entry)) (now (sums .entry)))
+        (hosted (now (file .entry)) (now (result .exit)) (now (transform .exit)) (now (h .exit)) (now (f .exit)) (now (r .exit)) (now (sums .exit))) ⌝ }
 {
-    miguepo::miguepo_price(file, transform, h, f, r, result);
+    miguepo::miguepo_price(file, level, transform, h, f, r, sums, result);
 }
 
 // The listing.
@@ -55,7 +61,21 @@ pub fn claimed_print(file: &[u8], text: &mut [u8]) -> usize
 
 // The listing of standard input.
 pub fn claimed_input(buffer: &mut [u8], text: &mut [u8]) -> PrintedInput
-    ensures { λ p. ⌜ PrintsRead (now (buffer .exit)) (now (text .entry)) (now (text .exit)) (p .failed) (p .read) (p .size) ⌝ }
+    ensures { λ p. ⌜ PrintsRead Prints (now (buffer .exit)) (now (text .entry)) (now (text .exit)) (p .failed) (p .read) (p .size) ⌝ }
 {
     printing::print_input(buffer, text)
+}
+
+// The line of the answer at a level.
+pub fn claimed_level(file: &[u8], level: u64, text: &mut [u8]) -> usize
+    ensures { λ size. ⌜ PrintsLevel level (now (file .entry)) (now (text .entry)) (now (text .exit)) size ⌝ }
+{
+    printing::print_level(file, level, text)
+}
+
+// The same of standard input.
+pub fn claimed_level_input(buffer: &mut [u8], level: u64, text: &mut [u8]) -> PrintedInput
+    ensures { λ p. ⌜ PrintsRead (PrintsLevel level) (now (buffer .exit)) (now (text .entry)) (now (text .exit)) (p .failed) (p .read) (p .size) ⌝ }
+{
+    printing::print_level_input(buffer, level, text)
 }

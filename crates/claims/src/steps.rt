@@ -4,6 +4,7 @@ use fund::Fund;
 use fund::Life;
 use fund::Limits;
 use fund::Member;
+use fund::Quantile;
 use fund::Rate;
 use fund::Verdict;
 use matching::Matched;
@@ -13,10 +14,12 @@ use recursion::Recursed;
 use totals::Totals;
 use valuation::Valued;
 ghost use mathlib.Core.Path.{_≡_};
+ghost use mathlib.Core.List.{[]};
 ghost use lib.ListN.{length, take};
 ghost use Rattle.fund.specs.Limits.{limits};
 ghost use Rattle.fund.specs.Reading.{reading};
-ghost use Rattle.fund.specs.Answer.{part};
+ghost use Rattle.fund.specs.Quantile.{quantile};
+ghost use Rattle.fund.specs.Answer.{part, refused};
 ghost use Rattle.reader.specs.Read.{fileRead};
 ghost use Rattle.reader.specs.Part.{Spans};
 ghost use Rattle.matching.specs.Matching.{matchedTables};
@@ -24,6 +27,7 @@ ghost use Rattle.recursion.specs.Recursion.{left, recursion};
 ghost use Rattle.totals.specs.Totals.{TotalsFor};
 ghost use Rattle.valuation.specs.Valued.{left as leftOf, lengths, valuation};
 ghost use Rattle.text.specs.Shown.{shownAnswer, listingOf};
+ghost use Rattle.text.specs.Level.{levelLineOf};
 ghost use Rattle.text.specs.Writing.{Written};
 
 // The named constants are the definitions' limits.
@@ -76,11 +80,34 @@ pub fn claimed_value(
     h: &mut [u64],
     f: &mut [i64],
     r: &mut [u64],
+    sums: &mut [i64],
 ) -> Valued
-    ensures { λ v. ⌜ leftOf v (now (transform .exit)) (now (h .exit)) (now (f .exit)) (now (r .exit)) ≡
-        valuation fund n (take n lives) (lengths (now (transform .entry)) (now (h .entry)) (now (f .entry)) (now (r .entry))) ⌝ }
+    ensures { λ v. ⌜ leftOf v (now (transform .exit)) (now (h .exit)) (now (f .exit)) (now (r .exit)) (now (sums .exit)) ≡
+        valuation fund n (take n lives) (lengths (now (transform .entry)) (now (h .entry)) (now (f .entry)) (now (r .entry)) (now (sums .entry))) ⌝ }
 {
-    valuation::value(fund, lives, n, transform, h, f, r)
+    valuation::value(fund, lives, n, transform, h, f, r, sums)
+}
+
+// A refusal with zeros in all slices.
+pub fn claimed_refusal(
+    verdict: Verdict,
+    transform: &mut [i64],
+    h: &mut [u64],
+    f: &mut [i64],
+    r: &mut [u64],
+    sums: &mut [i64],
+) -> Valued
+    ensures { λ v. ⌜ leftOf v (now (transform .exit)) (now (h .exit)) (now (f .exit)) (now (r .exit)) (now (sums .exit)) ≡
+        refused [] (lengths (now (transform .entry)) (now (h .entry)) (now (f .entry)) (now (r .entry)) (now (sums .entry))) verdict ⌝ }
+{
+    valuation::refuse(verdict, transform, h, f, r, sums)
+}
+
+// The first place up to the horizon where the sums reach the level, or none.
+pub fn claimed_quantile(level: u64, horizon: usize, sums: &[i64]) -> Quantile
+    ensures { λ q. ⌜ q ≡ quantile level horizon (now (sums .entry)) ⌝ }
+{
+    quantile::quantile(level, horizon, sums)
 }
 
 // The recursion on any transform and start.
@@ -97,6 +124,13 @@ pub fn claimed_recursion(
         recursion horizon (now (d .entry)) (now (h .entry)) (record { f = first; R = bound }) (length (now (f .entry))) (length (now (r .entry))) ⌝ }
 {
     recursion::recursion(horizon, d, h, first, bound, f, r)
+}
+
+// The line of an answer at a level.
+pub fn claimed_level_line(verdict: Verdict, quantile: Quantile, text: &mut [u8]) -> usize
+    ensures { λ size. ⌜ Written (levelLineOf verdict quantile (length (now (text .entry)))) (now (text .entry)) (now (text .exit)) size ⌝ }
+{
+    text::level_line(verdict, quantile, text)
 }
 
 // The text of an answer.

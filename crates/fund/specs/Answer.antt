@@ -1,4 +1,4 @@
--- The answer of a pricing call, for given bytes and given lengths of the four result slices.
+-- The answer of a pricing call, for given bytes and given lengths of the five result slices.
 use mathlib.Core.Bool.{Bool, true, false}
 use mathlib.Core.List.{List, _++_, map, reverse}
 use Prim.Native.Nat.{ℕ, suc, _-_}
@@ -19,6 +19,7 @@ use Rattle.fund.specs.Transform.{Term, terms, D, H, lambda, truncation, 
 use Rattle.fund.specs.Recursion.{Cell, start, startBound, entries, cells}
 use Rattle.fund.specs.Premium.{premium, within}
 use Rattle.fund.specs.Refusals.{Lengths, verdict}
+use Rattle.fund.specs.Quantile.{runningSum}
 
 -- The figures of document 01's steps, whether the fund is accepted or not, from the header's figures and the lives: the terms,
 -- the first cell, and the cells of 0 to X.
@@ -90,6 +91,7 @@ pub record Answer : Type 0 where
   pub H : List ℕ
   pub f : List ℤ
   pub R : List ℕ
+  pub F : List ℤ
 
 -- "zero for every figure, and zero in every lent result cell"
 unfoldable pub refused : List ℕ → Lengths → Verdict → Answer
@@ -102,6 +104,7 @@ refused file n v =
       H = replicate (n .H) 0;
       f = replicate (n .f) (pos 0);
       R = replicate (n .R) 0;
+      F = replicate (n .F) (pos 0);
     }
 
 -- "cells beyond X are zero": n cells that begin with the given ones.
@@ -113,14 +116,16 @@ accepted fund ms n =
     let X = fund .horizon in
     let ts = fundTerms fund ms in
     let cells = fundCells fund ms in
+    let fs = map (λ (y : Cell). y .f) cells in
     record {
       verdict = Accepted;
       part = empty;
       figures = fundFigures fund ms;
       D = lent (pos 0) (n .D) (table (suc X) (D ts));
       H = lent 0 (n .H) (table (suc X) (H ts));
-      f = lent (pos 0) (n .f) (map (λ (y : Cell). y .f) cells);
+      f = lent (pos 0) (n .f) fs;
       R = lent 0 (n .R) (map (λ (y : Cell). y .R) cells);
+      F = lent (pos 0) (n .F) (table (suc X) (runningSum fs));
     }
 
 unfoldable pub answerOf : List ℕ → Lengths → FundFile → Verdict → Answer

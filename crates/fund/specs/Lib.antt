@@ -8,9 +8,11 @@ pub mod Transform
 pub mod Recursion
 pub mod Premium
 pub mod Refusals
+pub mod Quantile
 pub mod Answer
 pub mod Listing
 pub mod Exact
 pub mod Distance
 pub mod Starred
+pub mod Levels
 pub mod ExactRows

@@ -62,6 +62,10 @@ most-truncation = 100000000
 abbrev pub most-bound : ℕ
 most-bound = 250000
 
+-- Document 02, §1: "a level from 0 to 10^12 units".
+abbrev pub most-level : ℕ
+most-level = 1000000000000
+
 abbrev pub limits : Limits
 limits =
     record {
@@ -83,4 +87,5 @@ limits =
       «most_load» = most-load;
       «most_truncation» = most-truncation;
       «most_bound» = most-bound;
+      «most_level» = most-level;
     }

@@ -64,7 +64,7 @@ horizonIn (stopped why place) = 0
 
 -- The program lends result slices that are long enough for every horizon.
 abbrev pub enough : Lengths
-enough = record { D = suc most-horizon; H = suc most-horizon; f = suc most-horizon; R = suc most-horizon }
+enough = record { D = suc most-horizon; H = suc most-horizon; f = suc most-horizon; R = suc most-horizon; F = suc most-horizon }
 
 unfoldable pub listing : List ℕ → List ℕ
 listing file =

@@ -60,16 +60,22 @@ half m = single m && leb half-rate (claim m)
 unfoldable pub wide : Cell → Bool
 wide y = ltb most-bound (y .R)
 
--- The lengths of the four result slices.
+-- The lengths of the five result slices.
 pub record Lengths : Type 0 where
   pub D : ℕ
   pub H : ℕ
   pub f : ℕ
   pub R : ℕ
+  pub F : ℕ
 
--- 9: "one of the four result slices has fewer than X + 1 cells"
+-- 9: "one of the four result slices has fewer than X + 1 cells"; document 02, §1, of the running sums: "their slice counts under
+-- short (9)".
+unfoldable pub anyShort : List ℕ → ℕ → Bool
+anyShort [] X = false
+anyShort (n ∷ rest) X = leb n X || anyShort rest X
+
 unfoldable pub short : Lengths → ℕ → Bool
-short n X = leb (n .D) X || leb (n .H) X || leb (n .f) X || leb (n .R) X
+short n X = anyShort (n .D ∷ n .H ∷ n .f ∷ n .R ∷ n .F ∷ []) X
 
 -- A refusal where the condition holds at a place, else what follows.
 unfoldable pub refuse : Refusal → Option ℕ → Verdict → Verdict

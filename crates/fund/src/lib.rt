@@ -61,6 +61,12 @@ pub enum Verdict {
     Refused(Refusal, u64),
 }
 
+// The deductible at a level: the first place where the running sum of the cells is at least the level, or none up to the horizon.
+pub enum Quantile {
+    At(u64),
+    None,
+}
+
 // A fund's figures beside its cells: the truncation figure E, the mean, the premium, and the premium's bound.
 pub struct Figures {
     pub truncation: u64,
@@ -69,7 +75,7 @@ pub struct Figures {
     pub within: u64,
 }
 
-// Every limit of document 01, by name.
+// Every limit of document 01 and of the requests after it, by name.
 pub struct Limits {
     pub least_edition: u64,
     pub most_edition: u64,
@@ -89,6 +95,7 @@ pub struct Limits {
     pub most_load: u64,
     pub most_truncation: u64,
     pub most_bound: u64,
+    pub most_level: u64,
 }
 
 impl Fund {
@@ -128,6 +135,8 @@ impl Fund {
 
     pub const MOST_BOUND: u64 = 250000;
 
+    pub const MOST_LEVEL: u64 = 1000000000000;
+
     // The lengths of a table of rate rows and of a table of member rows.
     pub const RATE_ROWS: usize = Fund::MOST_RATES as usize;
 
@@ -165,6 +174,7 @@ impl Fund {
             most_load: Fund::MOST_LOAD,
             most_truncation: Fund::MOST_TRUNCATION,
             most_bound: Fund::MOST_BOUND,
+            most_level: Fund::MOST_LEVEL,
         }
     }
 }

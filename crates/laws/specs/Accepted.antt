@@ -1,11 +1,11 @@
 -- What acceptance says: none of the refusals' conditions holds (accepts).
-use mathlib.Core.Path.{_≡_, refl, ap}
-use mathlib.Core.Bool.{Bool, true, false, _||_}
-use mathlib.Core.List.{List, [], _∷_}
+use mathlib.Core.Path.{_≡_, refl, _∙_, ap}
+use mathlib.Core.Bool.{Bool, true, false, _||_, or-false as or-none}
+use mathlib.Core.List.{List, [], _∷_, _++_}
 use mathlib.Core.Option.{Option, none, some}
 use Prim.Native.Nat.{ℕ, suc, _≤_, _<_}
 use native.Mathlib.Omega.{arith}
-use borrow.Author.Tests.{ltb-false, leb-false, eqb-true, not-false}
+use borrow.Author.Tests.{ltb-false, leb-false, lt-leb, eqb-true, not-false}
 use lib.Dec.{eqb, leb}
 use Rattle.fund.specs.declared.Life.{Life}
 use Rattle.fund.specs.declared.Refusal.{Refusal}
@@ -17,7 +17,7 @@ use Rattle.fund.specs.Reading.{FundFile}
 use Rattle.fund.specs.Folding.{lives, claim, single}
 use Rattle.fund.specs.Transform.{load, truncation}
 use Rattle.fund.specs.Recursion.{Cell}
-use Rattle.fund.specs.Refusals.{first, unmatched, half, wide, Lengths, short, refuse, at0, valued, matched, verdict}
+use Rattle.fund.specs.Refusals.{first, unmatched, half, wide, Lengths, anyShort, short, refuse, at0, valued, matched, verdict}
 
 -- a fact of every element of a list
 abbrev pub All : {A : Type 0} → (A → Type 0) → List A → Type 0
@@ -31,6 +31,40 @@ all-map f (a ∷ rest) h = (f a (h .0), all-map f rest (h .1))
 pub or-false : (a b : Bool) → a || b ≡ false → (a ≡ false) × (b ≡ false)
 or-false true b e = let z : _≡_ {A = ℕ} 0 1 = ap (λ b. if b then 0 else 1) e in absurd (omega arith)
 or-false false b e = (refl, e)
+
+-- ---- the lengths of slices
+pub long-all : (ns : List ℕ) (X : ℕ) → anyShort ns X ≡ false → All (λ n. X < n) ns
+unfolding anyShort
+long-all [] X e = tt
+long-all (n ∷ rest) X e = let a = or-false (leb n X) (anyShort rest X) e in (leb-false _ _ (a .0), long-all rest X (a .1))
+
+pub all-long : (ns : List ℕ) (X : ℕ) → All (λ n. X < n) ns → anyShort ns X ≡ false
+unfolding anyShort
+all-long [] X h = refl
+all-long (n ∷ rest) X h = rw (lt-leb n X (h .0), all-long rest X (h .1))
+
+-- one slice more
+or-after : (a b c : Bool) → (a || (b || c)) ≡ ((a || b) || c)
+or-after true b c = refl
+or-after false b c = refl
+
+pub any-more : (ns : List ℕ) (n X : ℕ) → anyShort (ns ++ (n ∷ [])) X ≡ (anyShort ns X || leb n X)
+unfolding anyShort
+any-more [] n X = or-none (leb n X)
+any-more (m ∷ rest) n X = ap (λ b. leb m X || b) (any-more rest n X) ∙ or-after (leb m X) (anyShort rest X) (leb n X)
+
+pub record Long (n : Lengths) (X : ℕ) : Type 0 where
+  pub d-long : X < n .D
+  pub h-long : X < n .H
+  pub f-long : X < n .f
+  pub r-long : X < n .R
+  pub sums-long : X < n .F
+
+pub long-of : (n : Lengths) (X : ℕ) → short n X ≡ false → Long n X
+unfolding short
+long-of n X e =
+    let a = long-all (n .D ∷ n .H ∷ n .f ∷ n .R ∷ n .F ∷ []) X e in
+    record { d-long = a .0; h-long = a .1 .0; f-long = a .1 .1 .0; r-long = a .1 .1 .1 .0; sums-long = a .1 .1 .1 .1 .0 }
 
 -- ---- the chain of refusals
 pub refuse-accepted : (why : Refusal) (o : Option ℕ) (after : Verdict) → refuse why o after ≡ Accepted → (o ≡ none) × (after ≡ Accepted)
@@ -68,16 +102,12 @@ pub record Accepts (file : FundFile) (n : Lengths) (cells : List Cell) : Type 0 
   pub limited-lives : All Limited (lives file)
   pub load-within : load (file .header .frequency) (lives file) ≤ most-load
   pub truncation-within : truncation (file .header .order) (lives file) ≤ most-truncation
-  pub D-long : file .header .horizon < n .D
-  pub H-long : file .header .horizon < n .H
-  pub f-long : file .header .horizon < n .f
-  pub R-long : file .header .horizon < n .R
+  pub long : Long n (file .header .horizon)
   pub narrow : All (λ (y : Cell). y .R ≤ most-bound) cells
 
 pub accepts : (file : FundFile) (n : Lengths) (cells : List Cell) → verdict file n cells ≡ Accepted → Accepts file n cells
-unfolding verdict matched valued short wide
+unfolding verdict matched valued wide
 accepts file n cells e =
-    let X = file .header .horizon in
     let e3 = refuse-accepted _ _ _ e in
     let e4 = refuse-accepted _ _ _ (e3 .1) in
     let e5 = refuse-accepted _ _ _ (e4 .1) in
@@ -86,10 +116,6 @@ accepts file n cells e =
     let e8 = refuse-accepted _ _ _ (e7 .1) in
     let e9 = refuse-accepted _ _ _ (e8 .1) in
     let e10 = refuse-accepted _ _ _ (e9 .1) in
-    let s = at0-none _ (e9 .0) in
-    let sR = or-false _ (leb (n .R) X) s in
-    let sf = or-false _ (leb (n .f) X) (sR .0) in
-    let sH = or-false (leb (n .D) X) (leb (n .H) X) (sf .0) in
     record {
       editions = eqb-true _ _ (not-false (eqb (file .header .rates) (file .header .members)) (at0-none _ (e3 .0)));
       deductible = ltb-false _ _ (at0-none _ (e4 .0));
@@ -97,9 +123,6 @@ accepts file n cells e =
       limited-lives = all-map not-half (lives file) (first-none _ _ _ (e6 .0));
       load-within = ltb-false _ _ (at0-none _ (e7 .0));
       truncation-within = ltb-false _ _ (at0-none _ (e8 .0));
-      D-long = leb-false _ _ (sH .0);
-      H-long = leb-false _ _ (sH .1);
-      f-long = leb-false _ _ (sf .1);
-      R-long = leb-false _ _ (sR .1);
+      long = long-of n (file .header .horizon) (at0-none _ (e9 .0));
       narrow = all-map (λ (y : Cell). ltb-false most-bound (y .R)) cells (first-none _ _ _ (e10 .0));
     }

@@ -1,7 +1,8 @@
 -- The answer of a call that accepts: the file was read (accepted-read), no refusal's condition holds, and the answer is the fund's
--- figures (answer-accepted). The cells it leaves are those of the sequence (f-cell, R-cell).
+-- figures (answer-accepted). The cells it leaves are those of the sequence (f-cell, R-cell). An empty file has no line (no-line).
 use mathlib.Core.Path.{_≡_, refl, sym, _∙_, ap}
-use mathlib.Core.List.{List, map}
+use mathlib.Core.Bool.{Bool, true, false}
+use mathlib.Core.List.{List, [], map}
 use Prim.Native.Nat.{ℕ, suc, _-_, _<_, _≤_}
 use native.Mathlib.Omega.{arith}
 use lib.IntN.{pos}
@@ -10,12 +11,13 @@ use Rattle.fund.specs.declared.Fund.{Fund}
 use Rattle.fund.specs.declared.Life.{Life}
 use Rattle.fund.specs.declared.Verdict.{Verdict}
 use Rattle.fund.specs.declared.Verdict.the-variants.{Accepted, Refused}
-use Rattle.fund.specs.Base.{table}
+use Rattle.fund.specs.Base.{if_then_else_, table}
+use Rattle.fund.specs.Lines.{lines, linesFrom}
 use Rattle.fund.specs.Reading.{FundFile, Reading, read, stopped, reading}
 use Rattle.fund.specs.Folding.{lives}
 use Rattle.fund.specs.Recursion.{Cell}
 use Rattle.fund.specs.Refusals.{Lengths, verdict}
-use Rattle.fund.specs.Answer.{fundTerms, fundStart, fundCells, refused, lent, accepted, answerOf, answerTo, answer}
+use Rattle.fund.specs.Answer.{empty, namesLine, lineAt, part, fundTerms, fundStart, fundCells, refused, lent, accepted, answerOf, answerTo, answer}
 use Rattle.laws.specs.Tables.{length-table, getD-table, map-table}
 use Rattle.laws.specs.Cells.{termCell, cells-are}
 
@@ -51,6 +53,16 @@ lent-at : {A : Type 0} (blank : A) (n k x : ℕ) (g : ℕ → A) → x < k → g
 unfolding lent
 lent-at blank n k x g l =
     List·getD-append (table k g) (replicate (n - length (table k g)) blank) blank x (let w = length-table k g in omega arith) ∙ getD-table k g x blank l
+
+-- an empty file has no line to hand back
+pub no-line : (v : Verdict) → part [] v ≡ empty
+unfolding part lineAt lines linesFrom
+no-line Accepted = refl
+no-line (Refused why place) = go (namesLine why)
+  where
+    go : (b : Bool) → (if b then lineAt [] place else empty) ≡ empty
+    go true = refl
+    go false = refl
 
 -- ---- the cells
 module _ (fund : Fund) (ms : List Life) where

@@ -4,6 +4,8 @@ pub mod Cells
 pub mod Ranges
 pub mod Answer
 pub mod Valued
+pub mod Quantile
+pub mod Sums
 pub mod Slices
 pub mod Tells
 pub mod Numbers

@@ -6,7 +6,7 @@ use mathlib.Core.List.{List}
 use mathlib.Core.Option.{none, some}
 use Prim.Native.Nat.{ℕ, zero, suc, _+_, _<_, _≤_}
 use native.Mathlib.Omega.{arith}
-use borrow.Author.Tests.{lt-ltb, le-ltb, lt-leb}
+use borrow.Author.Tests.{lt-ltb, le-ltb}
 use Rattle.fund.specs.declared.Fund.{Fund}
 use Rattle.fund.specs.declared.Life.{Life}
 use Rattle.fund.specs.declared.Refusal.the-variants.{Load, Order, Short, Wide}
@@ -69,7 +69,3 @@ narrow-cell y h = le-ltb _ _ h
 pub wide-cell : (y : Cell) → most-bound < y .R → wide y ≡ true
 unfolding wide
 wide-cell y h = lt-ltb _ _ h
-
-pub long-enough : (n : Lengths) (X : ℕ) → X < n .D → X < n .H → X < n .f → X < n .R → short n X ≡ false
-unfolding short
-long-enough n X a b c d = rw (lt-leb _ _ a, lt-leb _ _ b, lt-leb _ _ c, lt-leb _ _ d)

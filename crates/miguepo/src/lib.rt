@@ -1,13 +1,15 @@
 // The pricing call for C, as include/miguepo.h declares it.
+use fund::Quantile;
 use fund::Verdict;
 ghost use mathlib.Core.Path.{_≡_};
 ghost use Rattle.fund.specs.Refusals.{numberIn, placeIn};
+ghost use Rattle.fund.specs.Quantile.{reachedIn, quantileIn};
 ghost use Rattle.valuation.specs.Valued.{lengths};
 ghost use Rattle.miguepo.specs.Bits.{bitsOf};
 ghost use Rattle.miguepo.specs.Host.{Hosts};
 
 // How many fields the struct has that C declares.
-pub const FIELDS: usize = 9;
+pub const FIELDS: usize = 11;
 
 fn verdict_number(verdict: Verdict) -> u64
     ensures { λ r. ⌜ r ≡ numberIn verdict ⌝ }
@@ -27,6 +29,24 @@ fn verdict_place(verdict: Verdict) -> u64
     }
 }
 
+fn level_reached(quantile: Quantile) -> u64
+    ensures { λ r. ⌜ r ≡ reachedIn quantile ⌝ }
+{
+    match quantile {
+        Quantile::At(_) => 1,
+        Quantile::None => 0,
+    }
+}
+
+fn quantile_place(quantile: Quantile) -> u64
+    ensures { λ r. ⌜ r ≡ quantileIn quantile ⌝ }
+{
+    match quantile {
+        Quantile::At(x) => x,
+        Quantile::None => 0,
+    }
+}
+
 // A signed number's two's complement.
 fn bits(z: i64) -> u64
     ensures { λ r. ⌜ r ≡ bitsOf z ⌝ }
@@ -38,27 +58,33 @@ fn bits(z: i64) -> u64
     z as u64
 }
 
-// Prices the fund of a file into the four result slices, and fills the struct: on this side its fields, eight bytes each, are an
-// array.
+// Prices the fund of a file into the five result slices, answers at a level, and fills the struct: on this side its fields, eight bytes
+// each, are an array.
 #[no_mangle]
 pub extern "C" fn miguepo_price(
     file: &[u8],
+    level: u64,
     transform: &mut [i64],
     h: &mut [u64],
     f: &mut [i64],
     r: &mut [u64],
+    sums: &mut [i64],
     result: &mut [u64; FIELDS],
 )
-    ensures { λ _. ⌜ Hosts (now (file .entry)) (lengths (now (transform .entry)) (now (h .entry)) (now (f .entry)) (now (r .entry)))
-        (now (result .exit)) (now (transform .exit)) (now (h .exit)) (now (f .exit)) (now (r .exit)) ⌝ }
+    ensures { λ _. ⌜ Hosts (now (file .entry)) level
+        (lengths (now (transform .entry)) (now (h .entry)) (now (f .entry)) (now (r .entry)) (now (sums .entry)))
+        (now (result .exit)) (now (transform .exit)) (now (h .exit)) (now (f .exit)) (now (r .exit)) (now (sums .exit)) ⌝ }
 {
-    let priced = pricing::price(file, transform, h, f, r);
+    let priced = pricing::price(file, level, transform, h, f, r, sums);
     let verdict = priced.verdict;
     let figures = priced.figures;
     let number = verdict_number(verdict);
     let place = verdict_place(verdict);
     let line_size = priced.end - priced.start;
     let premium = bits(figures.premium);
+    let quantile = priced.quantile;
+    let reached = level_reached(quantile);
+    let x = quantile_place(quantile);
     *result = [
         number,
         place,
@@ -69,5 +95,7 @@ pub extern "C" fn miguepo_price(
         figures.mean,
         premium,
         figures.within,
+        reached,
+        x,
     ];
 }

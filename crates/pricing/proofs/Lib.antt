@@ -1,3 +1,3 @@
-pub mod Stopping
 pub mod Valuing
 pub mod Reading
+pub mod Telling

@@ -1,7 +1,7 @@
--- The fund that is read and matched: where reading stops, so does the call (stop-answers); the tables are matched as the file that
+-- The fund that is read and matched: where reading stops, so does the call (stop-answers); the horizon (horizon-read); the tables are matched as the file that
 -- was read (read-matched); and what 3 to 6 answer of it, with its lives (matched-verdict, matched-lives).
-use mathlib.Core.Path.{_≡_, refl, sym, _∙_, ap, ap₂, subst}
-use mathlib.Core.List.{List}
+use mathlib.Core.Path.{_≡_, refl, sym, _∙_, ap, ap₂}
+use mathlib.Core.List.{List, []}
 use Prim.Native.Nat.{ℕ, _≤_}
 use native.Mathlib.Omega.{arith}
 use borrow.Author.Tests.{le-leb}
@@ -16,15 +16,16 @@ use Rattle.fund.specs.Reading.{FundFile, Reading, read, stopped, reading}
 use Rattle.fund.specs.Folding.{life, lives}
 use Rattle.fund.specs.Refusals.{Lengths, matched}
 use Rattle.fund.specs.Answer.{Answer, refused, answer}
+use Rattle.fund.specs.Listing.{horizonIn}
 use Rattle.laws.specs.Ranges.{read-ranges}
 use Rattle.laws.specs.Rows.{blankRate, blankMember, blankLife, rows-back}
 use Rattle.reader.specs.declared.FileRead.{FileRead}
 use Rattle.reader.specs.Read.{rateTable, memberTable, fileRead}
 use Rattle.matching.specs.declared.table.Matched.{Matched}
 use Rattle.matching.specs.Matching.{lifeTable, withLives, matching, matchedTables}
-use Rattle.pricing.specs.declared.Priced.{Priced}
 use Rattle.pricing.specs.Joining.{answer-stopped}
-use Rattle.pricing.specs.Priced.{Answers, MatchedFund}
+use Rattle.pricing.specs.Priced.{lined, MatchedFund}
+use Rattle.pricing.proofs.Valuing.{lined-refused}
 
 -- ---- what was read
 module _ (file : List ℕ) (r : FileRead) (e : r ≡ fileRead (reading file)) where
@@ -40,9 +41,21 @@ module _ (file : List ℕ) (r : FileRead) (e : r ≡ fileRead (reading file)) wh
       let u : Refused why′ place′ ≡ Refused why place = sym (ap (λ (x : FileRead). x .verdict) w) ∙ v in
       z ∙ cc
 
-  pub stop-answers : (why : Refusal) (place : ℕ) → r .verdict ≡ Refused why place → (n : Lengths) (p : Priced) (a : Answer) → Answers file p a (refused file n (Refused why place)) → Answers file p a (answer file n)
-  stop-answers why place v n p a w =
-      subst (λ (x : Answer). Answers file p a x) (sym (answer-stopped file n why place (stops why place v (reading file) refl))) w
+  pub stop-answers : (why : Refusal) (place : ℕ) → r .verdict ≡ Refused why place → (n : Lengths) (a : Answer) → a ≡ refused [] n (Refused why place) → lined file a ≡ answer file n
+  stop-answers why place v n a k =
+      ap (lined file) k ∙ lined-refused file n why place ∙ sym (answer-stopped file n why place (stops why place v (reading file) refl))
+
+  -- a file that is accepted by reading was read
+  pub horizon-read : r .verdict ≡ Accepted → r .fund .horizon ≡ horizonIn (reading file)
+  unfolding fileRead horizonIn
+  horizon-read u = go (reading file) refl
+    where
+      go : (x : Reading) → reading file ≡ x → r .fund .horizon ≡ horizonIn (reading file)
+      go (read fund) z = ap (λ (x : FileRead). x .fund .horizon) (e ∙ ap fileRead z) ∙ ap horizonIn (sym z)
+      go (stopped why place) z =
+          let w : Refused why place ≡ Accepted = sym (ap (λ (x : FileRead). x .verdict) (e ∙ ap fileRead z)) ∙ u in
+          let n : _≡_ {A = ℕ} 0 1 = cc in
+          absurd (omega arith)
 
   tables-back : (fund : FundFile) → reading file ≡ read fund → matchedTables (fund .header) (rateTable (fund .rates)) (length (fund .rates)) (memberTable (fund .members)) (length (fund .members)) ≡ matching fund
   unfolding matchedTables rateTable memberTable

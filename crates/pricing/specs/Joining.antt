@@ -19,7 +19,7 @@ use Rattle.fund.specs.Limits.{most-rate}
 use Rattle.fund.specs.Reading.{FundFile, read, stopped, reading}
 use Rattle.fund.specs.Folding.{rateAt, folded, life, lives}
 use Rattle.fund.specs.Refusals.{Lengths, refuse, valued, matched, verdict}
-use Rattle.fund.specs.Answer.{namesLine, part, refused, fundCells, answerOf, answerTo, answer}
+use Rattle.fund.specs.Answer.{refused, fundCells, answerOf, answerTo, answer}
 use Rattle.laws.specs.Accepted.{All, Limited, not-half, all-map, refuse-accepted, first-none}
 use Rattle.laws.specs.Ranges.{RateOk, MemberOk, FundOk}
 use Rattle.widths.specs.Lives.{InRange}
@@ -112,8 +112,3 @@ module _ (file : List ℕ) (n : Lengths) (fund : FundFile) (e : reading file ≡
   pub answer-valued : matched fund Accepted ≡ Accepted → answer file n ≡ answerOf file n fund (valued (fund .header) (lives fund) n (fundCells (fund .header) (lives fund)))
   unfolding answer answerTo verdict
   answer-valued m = ap (answerTo file n) e ∙ ap (answerOf file n fund) (matched-first fund rest ∙ ap (λ u. thenVerdict u rest) m)
-
--- a refusal without a line is the same for every file
-pub no-line : (file : List ℕ) (n : Lengths) (why : Refusal) (place : ℕ) → namesLine why ≡ false → refused [] n (Refused why place) ≡ refused file n (Refused why place)
-unfolding refused part
-no-line file n why place e = rw e

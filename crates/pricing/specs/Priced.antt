@@ -12,16 +12,18 @@ use Rattle.fund.specs.declared.Verdict.the-variants.{Accepted, Refused}
 use Rattle.fund.specs.Base.{if_then_else_}
 use Rattle.fund.specs.Reading.{FundFile, read, reading}
 use Rattle.fund.specs.Refusals.{Lengths}
-use Rattle.fund.specs.Answer.{Answer, answer}
+use Rattle.fund.specs.Quantile.{quantileOf}
+use Rattle.fund.specs.Answer.{part, Answer, answer}
 use Rattle.fund.specs.Listing.{horizonIn}
 use Rattle.fund.specs.Distance.{WithinBounds}
 use Rattle.matching.specs.declared.table.Matched.{Matched}
 use Rattle.matching.specs.Matching.{matching}
+use Rattle.valuation.specs.declared.Valued.{Valued}
 use Rattle.pricing.specs.declared.Priced.{Priced}
 
 -- The answer that a call leaves: what it returns, and the slices.
-abbrev pub left : Priced → List ℤ → List ℕ → List ℤ → List ℕ → Answer
-left p d h f r =
+abbrev pub left : Priced → List ℤ → List ℕ → List ℤ → List ℕ → List ℤ → Answer
+left p d h f r s =
     record {
       verdict = p .verdict;
       part = record { start = p .start; size = p .end - p .start };
@@ -30,6 +32,7 @@ left p d h f r =
       H = h;
       f = f;
       R = r;
+      F = s;
     }
 
 -- The horizon is told of a fund that is accepted.
@@ -37,18 +40,20 @@ abbrev pub horizonWith : Verdict → ℕ → ℕ
 horizonWith Accepted X = X
 horizonWith (Refused why place) X = 0
 
--- What is left is the answer, its part lies in the file, and the horizon is the file's.
-pub record Answers (file : List ℕ) (p : Priced) (a is : Answer) : Type 0 where
+-- What is left is the answer, its part lies in the file, the horizon is the file's, and the answer at the level is that of the sums that
+-- are left.
+pub record Answers (file : List ℕ) (level : ℕ) (p : Priced) (a is : Answer) : Type 0 where
   pub answer : a ≡ is
   pub horizon : p .horizon ≡ horizonWith (p .verdict) (horizonIn (reading file))
+  pub quantile : p .quantile ≡ quantileOf level (p .horizon) (a .F) (p .verdict)
   pub ordered : p .start ≤ p .end
   pub inside : p .end ≤ length file
 
--- The contract of the call. For each sequence of bytes and any lengths of the slices, the answer is the definition's: number,
--- place, part, figures and every lent cell. And demand 3: whenever it accepts, each f(x) and the premium are within their
+-- The contract of the call. For each sequence of bytes, any level and any lengths of the slices, the answer is the definition's: number,
+-- place, part, figures, every lent cell, and the answer at the level. And demand 3: whenever it accepts, each f(x) and the premium are within their
 -- bounds of the exact values.
-pub record Prices (file : List ℕ) (n : Lengths) (p : Priced) (a : Answer) : Type 0 where
-  pub answers : Answers file p a (answer file n)
+pub record Prices (file : List ℕ) (level : ℕ) (n : Lengths) (p : Priced) (a : Answer) : Type 0 where
+  pub answers : Answers file level p a (answer file n)
   pub distance : (fund : FundFile) → reading file ≡ read fund → a .verdict ≡ Accepted → WithinBounds fund a
 
 -- Reading gave a fund file, whose header and members these are, and whose refusals 3 to 6 and lives were found.
@@ -58,6 +63,24 @@ pub record MatchedFund (file : List ℕ) (fund : Fund) (m : Matched) (enrolled :
   pub header : fund ≡ of .header
   pub matched : m ≡ matching of
   pub members : enrolled ≡ length (of .members)
+
+-- An answer with the line of its verdict.
+abbrev pub lined : List ℕ → Answer → Answer
+lined file a = record { verdict = a .verdict; part = part file (a .verdict); figures = a .figures; D = a .D; H = a .H; f = a .f; R = a .R; F = a .F }
+
+-- With its line, the answer is that of every file of which this is known.
+abbrev pub ValuedFor : Fund → Matched → ℕ → Lengths → Answer → Type 0
+ValuedFor fund m enrolled n a = (file : List ℕ) → MatchedFund file fund m enrolled → lined file a ≡ answer file n
+
+-- What is told of a valuation and of the sums that it left.
+pub record Tells (file : List ℕ) (level X : ℕ) (v : Valued) (sums : List ℤ) (p : Priced) : Type 0 where
+  pub verdict : p .verdict ≡ v .verdict
+  pub figures : p .figures ≡ v .figures
+  pub line : record { start = p .start; size = p .end - p .start } ≡ part file (v .verdict)
+  pub ordered : p .start ≤ p .end
+  pub inside : p .end ≤ length file
+  pub horizon : p .horizon ≡ horizonWith (v .verdict) X
+  pub quantile : p .quantile ≡ quantileOf level (p .horizon) sums (v .verdict)
 
 -- The bytes from start to end, and none where these lie outside the file.
 unfoldable pub lineOf : List ℕ → Priced → List ℕ

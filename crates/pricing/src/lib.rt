@@ -1,25 +1,25 @@
 // One call prices a fund: from the bytes of its file to its figures and cells, or to the refusal and its line.
 use fund::Figures;
 use fund::Fund;
-use fund::Refusal;
+use fund::Quantile;
 use fund::Verdict;
 use matching::Matched;
-use whole::clear;
-use whole::clear_signed;
+use valuation::Valued;
+use valuation::refuse;
 ghost use mathlib.Core.Path.{_≡_};
-ghost use Rattle.fund.specs.declared.Verdict;
-ghost use Rattle.fund.specs.Answer.{refused, answer};
-ghost use Rattle.valuation.specs.Valued.{lengths};
-ghost use Rattle.pricing.specs.Priced.{left, horizonWith, Answers, MatchedFund, Prices, lineOf};
+ghost use Rattle.fund.specs.Quantile.{quantileOf};
+ghost use Rattle.valuation.specs.Valued.{left as leftOf, lengths};
+ghost use Rattle.pricing.specs.Priced.{left, horizonWith, Tells, ValuedFor, Prices, lineOf};
 
 // What a call answers beside the result slices: the verdict, where the part of the host's bytes that goes with it starts and
-// ends, the horizon of a fund that is accepted, and the figures.
+// ends, the horizon of a fund that is accepted, the figures, and the answer at the level.
 pub struct Priced {
     pub verdict: Verdict,
     pub start: usize,
     pub end: usize,
     pub horizon: u64,
     pub figures: Figures,
+    pub quantile: Quantile,
 }
 
 // The horizon is told of a fund that is accepted.
@@ -32,37 +32,37 @@ fn horizon_of(verdict: Verdict, horizon: u64) -> u64
     }
 }
 
-// "A refusal gives number and place, zero for every figure, and zero in every lent result cell."
-fn stopped(
-    file: &[u8],
-    why: Refusal,
-    place: u64,
-    transform: &mut [i64],
-    h: &mut [u64],
-    f: &mut [i64],
-    r: &mut [u64],
-) -> Priced
-    ensures { λ p. ⌜ Answers (now (file .entry)) p
-        (left p (now (transform .exit)) (now (h .exit)) (now (f .exit)) (now (r .exit)))
-        (refused (now (file .entry)) (lengths (now (transform .entry)) (now (h .entry)) (now (f .entry)) (now (r .entry))) (Verdict.Refused why place)) ⌝ }
+// The answer at the level, of a fund that is accepted.
+fn quantile_of(verdict: Verdict, level: u64, horizon: u64, sums: &[i64]) -> Quantile
+    ensures { λ r. ⌜ r ≡ quantileOf level horizon (now (sums .entry)) verdict ⌝ }
 {
-    clear_signed(transform);
-    clear(h);
-    clear_signed(f);
-    clear(r);
-    let line = reader::part_of(file, Verdict::Refused(why, place));
+    match verdict {
+        Verdict::Accepted => quantile::quantile(level, horizon as usize, sums),
+        Verdict::Refused(_, _) => Quantile::None,
+    }
+}
+
+// What is told of a valuation beside its figures: the line of the verdict, the horizon and the answer at the level.
+fn told(file: &[u8], level: u64, horizon: u64, value: Valued, sums: &[i64]) -> Priced
+    ensures { λ p. ⌜ Tells (now (file .entry)) level horizon value (now (sums .entry)) p ⌝ }
+{
+    let verdict = value.verdict;
+    let figures = value.figures;
+    let line = reader::part_of(file, verdict);
+    let horizon = horizon_of(verdict, horizon);
+    let quantile = quantile_of(verdict, level, horizon, sums);
     Priced {
-        verdict: Verdict::Refused(why, place),
+        verdict,
         start: line.start,
         end: line.end,
-        horizon: 0,
-        figures: fund::no_figures(),
+        horizon,
+        figures,
+        quantile,
     }
 }
 
 // Where 3 to 6 stop, their refusal, and else the valuation of the lives.
 fn valued(
-    file: &[u8],
     fund: Fund,
     matched: Matched,
     enrolled: usize,
@@ -70,53 +70,55 @@ fn valued(
     h: &mut [u64],
     f: &mut [i64],
     r: &mut [u64],
-) -> Priced
-    requires { ⌜ MatchedFund (now file) fund matched enrolled ⌝ }
-    ensures { λ p. ⌜ Answers (now (file .entry)) p
-        (left p (now (transform .exit)) (now (h .exit)) (now (f .exit)) (now (r .exit)))
-        (answer (now (file .entry)) (lengths (now (transform .entry)) (now (h .entry)) (now (f .entry)) (now (r .entry)))) ⌝ }
+    sums: &mut [i64],
+) -> Valued
+    ensures { λ v. ⌜ ValuedFor fund matched enrolled
+        (lengths (now (transform .entry)) (now (h .entry)) (now (f .entry)) (now (r .entry)) (now (sums .entry)))
+        (leftOf v (now (transform .exit)) (now (h .exit)) (now (f .exit)) (now (r .exit)) (now (sums .exit))) ⌝ }
 {
     let verdict = matched.verdict;
     match verdict {
-        Verdict::Refused(why, place) => stopped(file, why, place, transform, h, f, r),
+        Verdict::Refused(why, place) => {
+            let stop = Verdict::Refused(why, place);
+            refuse(stop, transform, h, f, r, sums)
+        }
         Verdict::Accepted => {
-            let table = matched.lives;
-            let value = valuation::value(fund, table, enrolled, transform, h, f, r);
-            let outcome = value.verdict;
-            let figures = value.figures;
-            Priced {
-                verdict: outcome,
-                start: 0,
-                end: 0,
-                horizon: horizon_of(outcome, fund.horizon),
-                figures,
-            }
+            let lives = matched.lives;
+            valuation::value(fund, lives, enrolled, transform, h, f, r, sums)
         }
     }
 }
 
-// Prices the fund of a file into four result slices, for D, H, f and R.
+// Prices the fund of a file into five result slices, for D, H, f, R and F, and answers at a level.
 pub fn price(
     file: &[u8],
+    level: u64,
     transform: &mut [i64],
     h: &mut [u64],
     f: &mut [i64],
     r: &mut [u64],
+    sums: &mut [i64],
 ) -> Priced
-    ensures { λ p. ⌜ Prices (now (file .entry)) (lengths (now (transform .entry)) (now (h .entry)) (now (f .entry)) (now (r .entry))) p
-        (left p (now (transform .exit)) (now (h .exit)) (now (f .exit)) (now (r .exit))) ⌝ }
+    ensures { λ p. ⌜ Prices (now (file .entry)) level
+        (lengths (now (transform .entry)) (now (h .entry)) (now (f .entry)) (now (r .entry)) (now (sums .entry))) p
+        (left p (now (transform .exit)) (now (h .exit)) (now (f .exit)) (now (r .exit)) (now (sums .exit))) ⌝ }
 {
     let found = reader::read(file);
     let verdict = found.verdict;
     match verdict {
-        Verdict::Refused(why, place) => stopped(file, why, place, transform, h, f, r),
+        Verdict::Refused(why, place) => {
+            let stop = Verdict::Refused(why, place);
+            let value = refuse(stop, transform, h, f, r, sums);
+            told(file, level, 0, value, &sums[..])
+        }
         Verdict::Accepted => {
             let fund = found.fund;
             let rates = found.rates;
             let members = found.members;
             let enrolled = found.enrolled;
             let matched = matching::matched(fund, rates, found.rated, members, enrolled);
-            valued(file, fund, matched, enrolled, transform, h, f, r)
+            let value = valued(fund, matched, enrolled, transform, h, f, r, sums);
+            told(file, level, fund.horizon, value, &sums[..])
         }
     }
 }

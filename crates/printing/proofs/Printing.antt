@@ -13,6 +13,7 @@ use Rattle.fund.specs.declared.Verdict.the-variants.{Accepted, Refused}
 use Rattle.fund.specs.Base.{if_then_else_}
 use Rattle.fund.specs.Limits.{most-horizon, most-truncation}
 use Rattle.fund.specs.Reading.{Reading, read, stopped, reading}
+use Rattle.fund.specs.Refusals.{Lengths}
 use Rattle.fund.specs.Answer.{Answer, answer}
 use Rattle.fund.specs.Listing.{listed, printed, horizonIn, enough, listing}
 use Rattle.laws.specs.Ranges.{read-ranges}
@@ -21,9 +22,9 @@ use Rattle.text.specs.Shown.{room, shownAnswer, printable, listingOf}
 use Rattle.valuation.specs.Valued.{lengths}
 use Rattle.pricing.specs.declared.Priced.{Priced}
 use Rattle.pricing.specs.Priced.{left, horizonWith, Answers}
-use Rattle.prefix.specs.Prefix.{listing-first}
+use Rattle.prefix.specs.Prefix.{most-bytes, listing-first}
 use Rattle.printing.specs.Printed.{shown}
-use Rattle.printing.specs.Input.{HoldsFirst, PrintsFirst}
+use Rattle.printing.specs.Input.{HoldsFirst, ShowsFirst, PrintsFirst}
 use Rattle.printing.proofs.Bounded.{AnswerIn, bounded-first, answer-in}
 
 -- what is written lies in the text
@@ -45,8 +46,14 @@ cells-length = length-replicate {A = ℕ} (suc most-horizon) 0
 pub signed-length : length signedCells ≡ suc most-horizon
 signed-length = length-replicate {A = ℤ} (suc most-horizon) (pos 0)
 
-pub enough-lent : lengths signedCells cells signedCells cells ≡ enough
+abbrev pub lentLengths : Lengths
+lentLengths = lengths signedCells cells signedCells cells signedCells
+
+enough-lent : lentLengths ≡ enough
 enough-lent = rw (signed-length, cells-length)
+
+pub answers-enough : (file : List ℕ) (level : ℕ) (p : Priced) (a : Answer) → Answers file level p a (answer file lentLengths) → Answers file level p a (answer file enough)
+answers-enough file level p a k = subst (λ (n : Lengths). Answers file level p a (answer file n)) enough-lent k
 
 horizon-most : (file : List ℕ) (v : Verdict) → horizonWith v (horizonIn (reading file)) ≤ most-horizon
 unfolding horizonIn
@@ -58,17 +65,20 @@ horizon-most file Accepted = go (reading file) refl
     go (stopped why place) e = omega arith
 
 -- a listing shows the same of a refusal for every horizon
-printed-left : (p : Priced) (d : List ℤ) (h : List ℕ) (f : List ℤ) (r : List ℕ) (X : ℕ) (v : Verdict) →
-    printed (shownAnswer (p .verdict) (p .figures) f r) (horizonWith v X) v ≡ printed (left p d h f r) X v
+printed-left : (p : Priced) (d : List ℤ) (h : List ℕ) (f : List ℤ) (r : List ℕ) (s : List ℤ) (X : ℕ) (v : Verdict) →
+    printed (shownAnswer (p .verdict) (p .figures) f r) (horizonWith v X) v ≡ printed (left p d h f r s) X v
 unfolding printed listed
-printed-left p d h f r X Accepted = refl
-printed-left p d h f r X (Refused why place) = refl
+printed-left p d h f r s X Accepted = refl
+printed-left p d h f r s X (Refused why place) = refl
 
-module _ (file : List ℕ) (p : Priced) (d : List ℤ) (h : List ℕ) (f : List ℤ) (r : List ℕ) (k : Answers file p (left p d h f r) (answer file enough)) where
+module _ (file : List ℕ) (level : ℕ) (p : Priced) (d : List ℤ) (h : List ℕ) (f : List ℤ) (r : List ℕ) (s : List ℤ) (given : Answers file level p (left p d h f r s) (answer file lentLengths)) where
+  k : Answers file level p (left p d h f r s) (answer file enough)
+  k = answers-enough file level p (left p d h f r s) given
+
   abbrev shownOne : Answer
   shownOne = shownAnswer (p .verdict) (p .figures) f r
 
-  within : AnswerIn (left p d h f r)
+  within : AnswerIn (left p d h f r s)
   within = rw (k .answer) (answer-in file enough)
 
   X-most : p .horizon ≤ most-horizon
@@ -97,12 +107,14 @@ module _ (file : List ℕ) (p : Priced) (d : List ℤ) (h : List ℕ) (f : List 
         rw range-is
         (ap (λ (l : List ℕ). if leb room size then l else [])
         (ap (λ (X : ℕ). printed shownOne X (p .verdict)) (k .horizon)
-        ∙ printed-left p d h f r (horizonIn (reading file)) (p .verdict)
+        ∙ printed-left p d h f r s (horizonIn (reading file)) (p .verdict)
         ∙ ap (λ (a : Answer). printed a (horizonIn (reading file)) (a .verdict)) (k .answer)))
 
--- The listing of a file is that of its first bytes.
+-- What is shown of a file that is the same for its first bytes.
+pub shows-first : {of : List ℕ → ℕ → List ℕ} → ((n : ℕ) (file : List ℕ) (m : ℕ) → most-bytes ≤ n → of (take n file) m ≡ of file m) →
+    (buffer : List ℕ) (size : ℕ) {before after : List ℕ} {n : ℕ} → HoldsFirst buffer size → Written (of (take size buffer) (length before)) before after n → ShowsFirst of buffer size before after n
+shows-first {of} same buffer size {before} {after} {n} h w file e =
+    subst (λ (l : List ℕ). Written l before after n) (ap (λ (f : List ℕ). of f (length before)) (sym e) ∙ same (length buffer) file (length before) (h .enough)) w
+
 pub prints-first : (buffer : List ℕ) (size : ℕ) {before after : List ℕ} {n : ℕ} → HoldsFirst buffer size → Written (shown (take size buffer) (length before)) before after n → PrintsFirst buffer size before after n
-prints-first buffer size {before} {after} {n} h w file e =
-    subst (λ (l : List ℕ). Written (if leb room (length before) then l else []) before after n)
-    (ap listing (sym e) ∙ listing-first (length buffer) file (h .enough))
-    w
+prints-first = shows-first (λ n file m h. ap (λ (l : List ℕ). if leb room m then l else []) (listing-first n file h))

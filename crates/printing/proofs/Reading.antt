@@ -8,7 +8,7 @@ use lib.IntN.{ℤ, pos, negsuc}
 use lib.ListN.{length, take}
 use lib.Seq.{take-take}
 use Rattle.io.specs.Counts.{clamped}
-use Rattle.printing.specs.Input.{Extends, AtMostZero, ReadBehind, HoldsFirst, PrintsFirst, PrintsInput}
+use Rattle.printing.specs.Input.{Extends, AtMostZero, ReadBehind, HoldsFirst, ShowsFirst, ShowsInput}
 
 pub extends-none : (buffer : List ℕ) (start : ℕ) → Extends buffer start buffer
 extends-none buffer start = record { long = refl; kept = refl }
@@ -33,9 +33,9 @@ none-counted (negsuc k) most count e z h = tt
 clash : {A : Type 0} → true ≡ false → A
 clash e = let z : _≡_ {A = ℕ} 0 1 = cc in absurd (omega arith)
 
-pub input-failed : (buffer text : List ℕ) (read : ℕ) → PrintsInput buffer text text (record { read = read; size = 0; failed = true })
+pub input-failed : {of : List ℕ → ℕ → List ℕ} (buffer text : List ℕ) (read : ℕ) → ShowsInput of buffer text text (record { read = read; size = 0; failed = true })
 input-failed buffer text read = record { holds = λ e. clash e; prints = λ e. clash e; kept = λ e. (refl, refl) }
 
-pub input-printed : {buffer before after : List ℕ} {read n : ℕ} → HoldsFirst buffer read → PrintsFirst buffer read before after n →
-    PrintsInput buffer before after (record { read = read; size = n; failed = false })
+pub input-printed : {of : List ℕ → ℕ → List ℕ} {buffer before after : List ℕ} {read n : ℕ} → HoldsFirst buffer read → ShowsFirst of buffer read before after n →
+    ShowsInput of buffer before after (record { read = read; size = n; failed = false })
 input-printed h k = record { holds = λ e. h; prints = λ e. k; kept = λ e. clash (sym e) }

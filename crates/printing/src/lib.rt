@@ -1,4 +1,4 @@
-// From a fund file's bytes, or from standard input, to the bytes of the listing.
+// From a fund file's bytes, or from standard input, to the bytes of the listing, or of the line of its answer at a level.
 mod input;
 
 use fund::Fund;
@@ -6,8 +6,8 @@ ghost use mathlib.Core.Path.{_≡_};
 ghost use Prim.Native.Nat.{_≤_};
 ghost use lib.ListN.{length, take};
 ghost use Rattle.text.specs.Writing.{Written};
-ghost use Rattle.printing.specs.Printed.{shown};
-ghost use Rattle.printing.specs.Input.{HoldsFirst, PrintsFirst, PrintsInput};
+ghost use Rattle.printing.specs.Printed.{shown, shownLevel};
+ghost use Rattle.printing.specs.Input.{HoldsFirst, PrintsFirst, PrintsInput, PrintsLevelFirst, PrintsLevelInput};
 
 // Cells enough for every horizon.
 const CELLS: usize = Fund::MOST_HORIZON as usize + 1;
@@ -15,7 +15,7 @@ const CELLS: usize = Fund::MOST_HORIZON as usize + 1;
 // No more bytes of a file are read than these.
 pub const MOST_BYTES: usize = 65536;
 
-// How many bytes of standard input were read and the size of the listing; or that nothing was printed.
+// How many bytes of standard input were read and the size of what was printed; or that nothing was.
 pub struct PrintedInput {
     pub read: usize,
     pub size: usize,
@@ -23,7 +23,7 @@ pub struct PrintedInput {
 }
 
 // Prices the fund of a file and writes its listing from the start of the text; returns the listing's size. A text that has no
-// room for every listing is left as it is.
+// room for every listing is left as it is. No listing shows an answer at a level.
 pub fn print(file: &[u8], text: &mut [u8]) -> usize
     ensures { λ size. ⌜ Written (shown (now (file .entry)) (length (now (text .entry)))) (now (text .entry)) (now (text .exit)) size ⌝ }
     ensures { λ size. ⌜ (size ≤ length (now (text .exit))) × (size ≡ length (take size (now (text .exit)))) ⌝ }
@@ -32,11 +32,37 @@ pub fn print(file: &[u8], text: &mut [u8]) -> usize
     let mut h = [0u64; CELLS];
     let mut f = [0i64; CELLS];
     let mut r = [0u64; CELLS];
-    let priced = pricing::price(file, &mut transform, &mut h, &mut f, &mut r);
+    let mut sums = [0i64; CELLS];
+    let priced = pricing::price(file, 0, &mut transform, &mut h, &mut f, &mut r, &mut sums);
     let verdict = priced.verdict;
     let horizon = priced.horizon as usize;
     let figures = priced.figures;
     text::listing(verdict, figures, horizon, &f, &r, text)
+}
+
+// Prices the fund of a file and writes the line of its answer at a level from the start of the text; returns the line's size. A text
+// that has no room for every such line is left as it is.
+pub fn print_level(file: &[u8], level: u64, text: &mut [u8]) -> usize
+    ensures { λ size. ⌜ Written (shownLevel (now (file .entry)) level (length (now (text .entry)))) (now (text .entry)) (now (text .exit)) size ⌝ }
+    ensures { λ size. ⌜ (size ≤ length (now (text .exit))) × (size ≡ length (take size (now (text .exit)))) ⌝ }
+{
+    let mut transform = [0i64; CELLS];
+    let mut h = [0u64; CELLS];
+    let mut f = [0i64; CELLS];
+    let mut r = [0u64; CELLS];
+    let mut sums = [0i64; CELLS];
+    let priced = pricing::price(
+        file,
+        level,
+        &mut transform,
+        &mut h,
+        &mut f,
+        &mut r,
+        &mut sums,
+    );
+    let verdict = priced.verdict;
+    let quantile = priced.quantile;
+    text::level_line(verdict, quantile, text)
 }
 
 // The listing of a file of which the first `size` bytes of the buffer are the first ones, as many as the buffer has room for.
@@ -46,6 +72,15 @@ fn print_first(buffer: &[u8], size: usize, text: &mut [u8]) -> usize
     ensures { λ n. ⌜ (n ≤ length (now (text .exit))) × (n ≡ length (take n (now (text .exit)))) ⌝ }
 {
     print(&buffer[..size], text)
+}
+
+// The line of the answer at a level, of such a file.
+fn print_level_first(buffer: &[u8], size: usize, level: u64, text: &mut [u8]) -> usize
+    requires { ⌜ HoldsFirst (now buffer) size ⌝ }
+    ensures { λ n. ⌜ PrintsLevelFirst level (now (buffer .entry)) size (now (text .entry)) (now (text .exit)) n ⌝ }
+    ensures { λ n. ⌜ (n ≤ length (now (text .exit))) × (n ≡ length (take n (now (text .exit)))) ⌝ }
+{
+    print_level(&buffer[..size], level, text)
 }
 
 // The listing of the file on standard input, which is read into the buffer. It fails where a read does, or where the buffer has no
@@ -63,6 +98,27 @@ pub fn print_input(buffer: &mut [u8], text: &mut [u8]) -> PrintedInput
         };
     }
     let size = print_first(&buffer[..], found.size, text);
+    PrintedInput {
+        read: found.size,
+        size,
+        failed: false,
+    }
+}
+
+// The line of the answer at a level, of the file on standard input, which is read as for the listing.
+pub fn print_level_input(buffer: &mut [u8], level: u64, text: &mut [u8]) -> PrintedInput
+    ensures { λ p. ⌜ PrintsLevelInput level (now (buffer .exit)) (now (text .entry)) (now (text .exit)) p ⌝ }
+    ensures { λ p. ⌜ (p .size ≤ length (now (text .exit))) × (p .size ≡ length (take (p .size) (now (text .exit)))) ⌝ }
+{
+    let found = input::read_input(buffer, 0);
+    if found.last < 0 || buffer.len() < MOST_BYTES {
+        return PrintedInput {
+            read: found.size,
+            size: 0,
+            failed: true,
+        };
+    }
+    let size = print_level_first(&buffer[..], found.size, level, text);
     PrintedInput {
         read: found.size,
         size,

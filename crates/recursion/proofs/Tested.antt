@@ -2,7 +2,7 @@
 use mathlib.Core.Path.{_≡_, refl, sym, _∙_, ap, subst}
 use mathlib.Core.Bool.{Bool, true, false, true≢false, _&&_, _||_, or-true}
 use mathlib.Core.Logic.{⊎-elim}
-use mathlib.Core.List.{List}
+use mathlib.Core.List.{List, [], _∷_}
 use mathlib.Core.Option.{none, some}
 use Prim.Native.Nat.{ℕ, suc, _+_, _<_, _≤_}
 use native.Mathlib.Nat.{eq-or-lt-of-le, le-of-suc-le-suc}
@@ -13,9 +13,9 @@ use lib.IntN.{ℤ, natAbs}
 use lib.ListN.{length, getD}
 use Rattle.fund.specs.Limits.{most-horizon, most-bound}
 use Rattle.fund.specs.Recursion.{Cell}
-use Rattle.fund.specs.Refusals.{Lengths, wide, short}
-use Rattle.laws.specs.Accepted.{or-false}
-use Rattle.laws.specs.Valued.{first-none-of, first-some-of, long-enough, narrow-cell}
+use Rattle.fund.specs.Refusals.{wide, anyShort}
+use Rattle.laws.specs.Accepted.{all-long}
+use Rattle.laws.specs.Valued.{first-none-of, first-some-of, narrow-cell}
 use Rattle.recursion.specs.declared.Recursed.the-variants.{Done, Short, Outside}
 use Rattle.recursion.specs.Slices.{sizes, most-transform, most-error, most-cell, CellFits}
 use Rattle.recursion.specs.Recursion.{large, errorAt, sumOrStart, tested}
@@ -47,11 +47,11 @@ module _ (X : ℕ) (d : List ℤ) (h : List ℕ) (start : Cell) (nf nr : ℕ) wh
   tested-horizon l = rw (lt-ltb _ _ l)
 
   module _ (l : X ≤ most-horizon) where
-    pub tested-short : short (record { D = length d; H = length h; f = nf; R = nr }) X ≡ true → tested X d h start nf nr ≡ Short
+    pub tested-short : anyShort (length d ∷ length h ∷ nf ∷ nr ∷ []) X ≡ true → tested X d h start nf nr ≡ Short
     unfolding tested
     tested-short s = rw (le-ltb _ _ l, s)
 
-    module _ (s : short (record { D = length d; H = length h; f = nf; R = nr }) X ≡ false) where
+    module _ (s : anyShort (length d ∷ length h ∷ nf ∷ nr ∷ []) X ≡ false) where
       pub tested-error : (k : ℕ) → errorAt X h ≡ some k → tested X d h start nf nr ≡ Outside k
       unfolding tested
       tested-error k e = rw (le-ltb _ _ l, s, e)
@@ -70,29 +70,14 @@ unfolding tested sumOrStart
 tested-kept X d h start nf nr k =
     rw (
       le-ltb _ _ (k .transform .horizon),
-      long-enough (record { D = length d; H = length h; f = nf; R = nr }) X (k .transform .d-long) (k .transform .h-long) (k .f-long) (k .r-long),
+      all-long (length d ∷ length h ∷ nf ∷ nr ∷ []) X (k .transform .d-long, (k .transform .h-long, (k .f-long, (k .r-long, tt)))),
       error-none h X (k .transform .errors),
       le-ltb _ _ (k .transform .sizes-within),
       small-cell start (k .start-fits),
       narrow-cell start (k .start-fits .narrow),
     )
 
--- ---- what the tests that pass say
-pub record Long (n : Lengths) (X : ℕ) : Type 0 where
-  pub d-long : X < n .D
-  pub h-long : X < n .H
-  pub f-long : X < n .f
-  pub r-long : X < n .R
-
-pub long-of : (n : Lengths) (X : ℕ) → short n X ≡ false → Long n X
-unfolding short
-long-of n X e =
-    let a = or-false _ _ e in
-    let b = or-false _ _ (a .0) in
-    let c = or-false _ _ (b .0) in
-    record { d-long = leb-false _ _ (c .0); h-long = leb-false _ _ (c .1); f-long = leb-false _ _ (b .1); r-long = leb-false _ _ (a .1) }
-
--- f(0) and R(0)
+-- ---- what the tests that pass say: f(0) and R(0)
 module _ (start : Cell) where
   pub start-of : (leb (natAbs (start .f)) most-cell && leb (start .R) most-bound) ≡ true → CellFits start
   start-of e = go (leb (natAbs (start .f)) most-cell) refl e

@@ -9,7 +9,7 @@ use lib.ListN.{length, getD, replicate}
 use Rattle.fund.specs.Base.{if_then_else_, table}
 use Rattle.fund.specs.Limits.{most-horizon}
 use Rattle.fund.specs.Recursion.{Cell, cells}
-use Rattle.fund.specs.Refusals.{first, wide, short}
+use Rattle.fund.specs.Refusals.{first, wide, anyShort}
 use Rattle.fund.specs.Answer.{lent}
 use Rattle.recursion.specs.declared.Recursed.{Recursed}
 use Rattle.recursion.specs.declared.Recursed.the-variants.{Done, Short, Outside, Wide, Large}
@@ -31,7 +31,7 @@ sumOrStart X d start = ltb most-transform (sizes d X) || large start || wide sta
 unfoldable pub tested : ℕ → List ℤ → List ℕ → Cell → ℕ → ℕ → Recursed
 tested X d h start nf nr =
     if ltb most-horizon X then Outside 0
-    else if short (record { D = length d; H = length h; f = nf; R = nr }) X then Short
+    else if anyShort (length d ∷ length h ∷ nf ∷ nr ∷ []) X then Short
     else elim (errorAt X h) [ some k ↦ Outside k | none ↦ if sumOrStart X d start then Outside 0 else Done ]
 
 -- The first of the cells, from place x on, that is too wide or, where it is not, too large.

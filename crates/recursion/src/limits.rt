@@ -3,12 +3,13 @@ use super::Recursed;
 use fund::Fund;
 ghost use mathlib.Core.Path.{_≡_};
 ghost use mathlib.Core.Bool.{_&&_};
+ghost use mathlib.Core.List.{[], _∷_};
 ghost use Prim.Native.Nat.{_<_};
 ghost use lib.Dec.{leb};
 ghost use lib.IntN.{natAbs};
 ghost use lib.ListN.{length};
 ghost use Rattle.fund.specs.Limits.{most-bound};
-ghost use Rattle.fund.specs.Refusals.{short as shortOf};
+ghost use Rattle.fund.specs.Refusals.{anyShort};
 ghost use Rattle.recursion.specs.Slices.{most-transform, most-cell, sizes};
 ghost use Rattle.recursion.specs.Tests.{ErrorAt, Tests};
 
@@ -20,7 +21,7 @@ pub(crate) const MOST_CELL: u64 = 2 * rounding::UNIT;
 
 // Whether one of four slices has fewer than X + 1 cells.
 pub fn short(horizon: usize, d: usize, h: usize, f: usize, r: usize) -> bool
-    ensures { λ s. ⌜ s ≡ shortOf (record { D = d; H = h; f = f; R = r }) horizon ⌝ }
+    ensures { λ s. ⌜ s ≡ anyShort (d ∷ h ∷ f ∷ r ∷ []) horizon ⌝ }
 {
     if d <= horizon {
         return true;

@@ -4,3 +4,4 @@ pub mod Signed
 pub mod Pieces
 pub mod Sizes
 pub mod Range
+pub mod Level

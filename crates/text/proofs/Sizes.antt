@@ -8,13 +8,15 @@ use lib.ListN.{length, length-append}
 use mir.Syntax.{w64}
 use mir.Val.{SFits}
 use Rattle.fund.specs.declared.Figures.{Figures}
+use Rattle.fund.specs.declared.Quantile.the-variants.{At}
 use Rattle.fund.specs.declared.Refusal.{Refusal}
 use Rattle.fund.specs.Base.{bytes}
 use Rattle.fund.specs.Limits.{most-horizon}
 use Rattle.fund.specs.Refusals.{numberOf}
 use Rattle.fund.specs.Listing.{decimal, signedDecimal, joined, refusedLine}
 use Rattle.text.specs.Writing.{HasRoom}
-use Rattle.text.specs.Shown.{most-cell-line, room}
+use Rattle.text.specs.Shown.{most-cell-line}
+use Rattle.text.specs.Level.{placeText, quantileLine, level-room}
 use Rattle.text.specs.Pieces.{cellLine, head, foot}
 use Rattle.text.proofs.Decimal.{decimal-length}
 
@@ -39,8 +41,12 @@ pub foot-size : (a : Figures) → SFits w64 (a .premium) → a .within < 2 ^ 64 
 unfolding foot joined bytes
 foot-size a h g = simp length-append (omega (arith, signed-word (a .premium) h, decimal-word (a .within) g))
 
-pub refusal-room : {text : List ℕ} (why : Refusal) (place n : ℕ) → n ≡ numberOf why → n < 2 ^ 64 → place < 2 ^ 64 → room ≤ length text
+pub refusal-room : {text : List ℕ} (why : Refusal) (place n : ℕ) → n ≡ numberOf why → n < 2 ^ 64 → place < 2 ^ 64 → level-room ≤ length text
     → HasRoom text 0 (refusedLine why place)
 unfolding refusedLine joined bytes
 refusal-room why place n e h g r =
     record { fits = simp (length-append, sym e) (omega (arith, decimal-word n h, decimal-word place g)) }
+
+pub quantile-room : {text : List ℕ} (x : ℕ) → x < 2 ^ 64 → level-room ≤ length text → HasRoom text 0 (quantileLine (At x))
+unfolding quantileLine placeText joined bytes
+quantile-room x h r = record { fits = simp length-append (omega (arith, decimal-word x h)) }

@@ -1,3 +1,4 @@
 pub mod Writing
 pub mod Shown
+pub mod Level
 pub mod Pieces

@@ -25,7 +25,7 @@ room = most-cell-line * suc most-horizon + most-other-lines
 
 -- What is printed of an answer.
 abbrev pub shownAnswer : Verdict → Figures → List ℤ → List ℕ → Answer
-shownAnswer verdict figures f R = record { verdict = verdict; part = empty; figures = figures; D = []; H = []; f = f; R = R }
+shownAnswer verdict figures f R = record { verdict = verdict; part = empty; figures = figures; D = []; H = []; f = f; R = R; F = [] }
 
 -- No R(x) is above its limit.
 unfoldable pub bounded : List ℕ → Bool

@@ -1,6 +1,8 @@
-// The bytes of a listing. Each private function writes one piece into a text from a place on, and returns the place behind it.
+// The bytes of a listing, and of the line of an answer at a level. Each private function writes one piece into a text from a place on,
+// and returns the place behind it.
 use fund::Figures;
 use fund::Fund;
+use fund::Quantile;
 use fund::Refusal;
 use fund::Verdict;
 ghost use mathlib.Core.Path.{_≡_};
@@ -11,9 +13,13 @@ ghost use Rattle.fund.specs.Listing.{decimal, signedDecimal, joined, cellLines,
 ghost use Rattle.text.specs.Writing.{HasRoom, Put, Written};
 ghost use Rattle.text.specs.Pieces.{cellLine, head, foot, acceptedLines, PrintableCells};
 ghost use Rattle.text.specs.Shown.{most-cell-line, room, shownAnswer, bounded, printable, listingOf};
+ghost use Rattle.text.specs.Level.{quantileLine, level-room, levelLineOf};
 
 // Bytes enough for every listing.
 pub const ROOM: usize = 217204;
+
+// Bytes enough for the line of every answer at a level.
+pub const LEVEL_ROOM: usize = 64;
 
 // Writes the listing of the figures from the start of the text, and returns its size. Where a figure is out of range or the
 // text is too short, it writes nothing.
@@ -36,6 +42,21 @@ pub fn listing(
     let count = horizon + 1;
     match verdict {
         Verdict::Accepted => put_accepted(figures, &f[..count], &r[..count], text),
+        Verdict::Refused(why, place) => put_refusal(why, place, text),
+    }
+}
+
+// Writes the line of an answer at a level from the start of the text, and returns its size. Where the text is too short, it writes
+// nothing.
+pub fn level_line(verdict: Verdict, quantile: Quantile, text: &mut [u8]) -> usize
+    ensures { λ size. ⌜
+        Written (levelLineOf verdict quantile (length (now (text .entry)))) (now (text .entry)) (now (text .exit)) size ⌝ }
+{
+    if text.len() < LEVEL_ROOM {
+        return 0;
+    }
+    match verdict {
+        Verdict::Accepted => put_quantile(quantile, text),
         Verdict::Refused(why, place) => put_refusal(why, place, text),
     }
 }
@@ -178,9 +199,20 @@ fn put_accepted(figures: Figures, f: &[i64], r: &[u64], text: &mut [u8]) -> usiz
     put_foot(figures, text, foot)
 }
 
+// Writes the line of an answer at a level, of a fund that is accepted.
+fn put_quantile(quantile: Quantile, text: &mut [u8]) -> usize
+    requires { ⌜ level-room ≤ length (now text) ⌝ }
+    ensures { λ size. ⌜ Written (quantileLine quantile) (now (text .entry)) (now (text .exit)) size ⌝ }
+{
+    match quantile {
+        Quantile::At(x) => put_line(b"quantile=", x, text, 0),
+        Quantile::None => put_key(b"quantile=none\n", text, 0),
+    }
+}
+
 // Writes the line of a refusal.
 fn put_refusal(why: Refusal, place: u64, text: &mut [u8]) -> usize
-    requires { ⌜ room ≤ length (now text) ⌝ }
+    requires { ⌜ level-room ≤ length (now text) ⌝ }
     ensures { λ size. ⌜ Written (refusedLine why place) (now (text .entry)) (now (text .exit)) size ⌝ }
 {
     let number = fund::number(why);

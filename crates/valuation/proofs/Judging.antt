@@ -20,16 +20,16 @@ use Rattle.fund.specs.declared.Verdict.the-variants.{Accepted, Refused}
 use Rattle.fund.proofs.Verdict as Ver
 use Rattle.fund.specs.Base.{if_then_else_}
 use Rattle.fund.specs.Limits.{most-members, most-load, most-truncation}
-use Rattle.fund.specs.Lines.{lines, linesFrom}
 use Rattle.fund.specs.Transform.{load, truncation}
 use Rattle.fund.specs.Refusals.{Lengths, short, refuse, at0, valued, first, wide}
-use Rattle.fund.specs.Answer.{Answer, empty, part, lineAt, noFigures, refused, fundTerms, fundCells}
-use Rattle.recursion.proofs.Tested.{Long, long-of}
-use Rattle.valuation.specs.declared.Valued.{Valued}
+use Rattle.fund.specs.Answer.{Answer, noFigures, refused, fundTerms, fundCells}
+use Rattle.laws.specs.Answer.{no-line}
+use Rattle.laws.specs.Accepted.{Long, long-of}
 use Rattle.totals.specs.declared.Totals.{Totals}
 use Rattle.totals.specs.Inside.{inside}
 use Rattle.valuation.specs.Filling.{TableFits, TableAdded}
 use Rattle.totals.specs.Totals.{TotalsFor}
+use Rattle.valuation.specs.declared.Valued.{Valued}
 use Rattle.valuation.specs.Valued.{left, outcome, Zeros, verdictOf, valuation}
 use Rattle.valuation.specs.Steps.{testedOf, PassedTests, Tested, Fillable, TransformFilled, ReadyFor, ValuedAnswer}
 use Rattle.totals.proofs.InsideTells.{inside-tells}
@@ -55,6 +55,12 @@ module _ (fund : Fund) (t : Totals) (n : Lengths) where
       tested-short k s = rw (e, le-ltb _ _ l, le-ltb _ _ k, s)
 
 -- ---- a refusal
+-- zeros in all slices and figures
+pub left-zeros : (v : Valued) (w : Verdict) (n : Lengths) (d : List ℤ) (h : List ℕ) (f : List ℤ) (r : List ℕ) (s : List ℤ) → Zeros n d h f r s → v ≡ record { verdict = w; figures = noFigures } →
+    left v d h f r s ≡ refused [] n w
+unfolding refused
+left-zeros v w n d h f r s z k = rw (k, z .d-zero, z .h-zero, z .f-zero, z .r-zero, z .s-zero, no-line w)
+
 abbrev chain : Bool → Bool → Bool → Verdict → Verdict
 chain a b c after = refuse refusal.Load (at0 a) (refuse refusal.Order (at0 b) (refuse refusal.Short (at0 c) after))
 
@@ -65,14 +71,6 @@ refused-alike true b c after why place e = e
 refused-alike false true c after why place e = e
 refused-alike false false true after why place e = e
 refused-alike false false false after why place e = let z : _≡_ {A = ℕ} 0 1 = cc in absurd (omega arith)
-
-no-part : (i a b c : Bool) → part [] (if i then chain a b c Accepted else Refused refusal.Range 0) ≡ empty
-unfolding part refuse at0 lineAt lines linesFrom
-no-part false a b c = refl
-no-part true true b c = refl
-no-part true false true c = refl
-no-part true false false true = refl
-no-part true false false false = refl
 
 -- the cap of the truncation figure does not hide a refusal
 capped : (m x : ℕ) → ltb m (min x (m + 1)) ≡ ltb m x
@@ -121,13 +119,9 @@ module _ (fund : Fund) (count : ℕ) (ms : List Life) (fewer : length ms ≤ cou
       go true i = verdict-inside i ∙ within i
       go false i = outside i ∙ sym (tested-range fund t n i) ∙ e
 
-  pub left-refused : (v : Valued) (why : Refusal) (place : ℕ) (d : List ℤ) (h : List ℕ) (f : List ℤ) (r : List ℕ) → Zeros n d h f r → v ≡ record { verdict = Refused why place; figures = noFigures } →
-      testedOf fund t n ≡ Refused why place → left v d h f r ≡ valuation fund count ms n
-  unfolding valuation refused testedOf
-  left-refused v why place d h f r z k e = rw (k, z .d-zero, z .h-zero, z .f-zero, z .r-zero, refused-verdict why place e, no-line) refl
-    where
-      no-line : part [] (Refused why place) ≡ empty
-      no-line = subst (λ v. part [] v ≡ empty) e (no-part (t .inside) (ltb most-load (t .load)) (ltb most-truncation (t .truncation)) (short n (fund .horizon)))
+  pub left-refused : (a : Answer) (why : Refusal) (place : ℕ) → a ≡ refused [] n (Refused why place) → testedOf fund t n ≡ Refused why place → a ≡ valuation fund count ms n
+  unfolding valuation
+  left-refused a why place k e = k ∙ ap (outcome fund ms n) (sym (refused-verdict why place e))
 
   -- ---- no refusal so far
   module _ (p : PassedTests fund t n) where
@@ -140,7 +134,7 @@ module _ (fund : Fund) (count : ℕ) (ms : List Life) (fewer : length ms ≤ cou
         let s = for .sums (p .inside-is) in
         (h .0, record { members = h .1; header = h .2; load-within = omega (arith, s .load-is, p .load-within); d-long = long .d-long; h-long = long .h-long })
 
-    pub ready : (d : List ℤ) (h : List ℕ) → n ≡ record { D = length d; H = length h; f = n .f; R = n .R } → TransformFilled fund ms (n .D) (n .H) d h → ReadyFor fund ms t d h (n .f) (n .R)
+    pub ready : (d : List ℤ) (h : List ℕ) → n ≡ record { D = length d; H = length h; f = n .f; R = n .R; F = n .F } → TransformFilled fund ms (n .D) (n .H) d h → ReadyFor fund ms t d h (n .f) (n .R) (n .F)
     ready d h e filled =
         let i = for .tells .yes (p .inside-is) in
         record {
@@ -159,10 +153,10 @@ pub first-few : {A : Type 0} (n : ℕ) (xs : List A) → length (take n xs) ≤ 
 first-few n xs = omega (arith, length-take n xs)
 
 -- a verdict that is not `Accepted`, with its zeros
-pub left-judged : (fund : Fund) (count : ℕ) (ms : List Life) → length ms ≤ count → (t : Totals) → TotalsFor fund count ms t → (n : Lengths) (v : Valued) (w : Verdict) → OneOf (1 ∷ []) (Declared.tagOf Ver.the-type w) →
-    Tested fund t n w → (d : List ℤ) (h : List ℕ) (f : List ℤ) (r : List ℕ) → Zeros n d h f r → v ≡ record { verdict = w; figures = noFigures } → left v d h f r ≡ valuation fund count ms n
-left-judged fund count ms fewer t for n v Accepted o s d h f r z k = absurd (let e : _≡_ {A = ℕ} 0 1 = o in omega arith)
-left-judged fund count ms fewer t for n v (Refused why place) o s d h f r z k = left-refused fund count ms fewer t for n v why place d h f r z k s
+pub left-judged : (fund : Fund) (count : ℕ) (ms : List Life) → length ms ≤ count → (t : Totals) → TotalsFor fund count ms t → (n : Lengths) (a : Answer) (w : Verdict) → OneOf (1 ∷ []) (Declared.tagOf Ver.the-type w) →
+    Tested fund t n w → a ≡ refused [] n w → a ≡ valuation fund count ms n
+left-judged fund count ms fewer t for n a Accepted o s k = absurd (let e : _≡_ {A = ℕ} 0 1 = o in omega arith)
+left-judged fund count ms fewer t for n a (Refused why place) o s k = left-refused fund count ms fewer t for n a why place k s
 
 -- ---- the transform
 zero-at : {A : Type 0} (a : A) (n k : ℕ) (s : List A) → s ≡ replicate n a → k < n → getD s k a ≡ a

@@ -4,3 +4,4 @@ pub mod ValuedInside
 mod Judging
 mod Recursing
 mod Settling
+mod RunningSums

@@ -21,12 +21,14 @@ use Rattle.fund.specs.Transform.{D, H, lambda, load, mean, truncation}
 use Rattle.fund.specs.Recursion.{Cell, start, startBound}
 use Rattle.fund.specs.Premium.{premium, within}
 use Rattle.fund.specs.Refusals.{Lengths, first, wide, refuse, valued}
-use Rattle.fund.specs.Answer.{part, noFigures, fundTerms, fundStart, fundCells, fundTruncation, fundMean, fundFigures, lent, refused, accepted}
-use Rattle.laws.specs.Accepted.{All, all-map, first-none}
-use Rattle.laws.specs.Tables.{length-table, table-first}
+use Rattle.fund.specs.Quantile.{runningSum}
+use Rattle.fund.specs.Answer.{Answer, part, noFigures, fundTerms, fundStart, fundCells, fundTruncation, fundMean, fundFigures, lent, refused, accepted}
+use Rattle.laws.specs.Accepted.{All, all-map, first-none, Long, long-of}
+use Rattle.laws.specs.Tables.{table-first}
 use Rattle.laws.specs.Slices.{table-ext}
 use Rattle.laws.specs.Valued.{valued-rest}
 use Rattle.laws.specs.Answer.{fundCell, fundCells-are, f-cell, R-cell}
+use Rattle.laws.specs.Sums.{running-lent, fundFs, length-fs}
 use Rattle.distance.specs.Widths.{f-sum-small}
 use Rattle.widths.specs.Lives.{InRange}
 use Rattle.widths.specs.Parts.{loadPart, meanPart}
@@ -38,22 +40,18 @@ use Rattle.recursion.specs.Slices.{cellIn, most-cell}
 use Rattle.recursion.specs.Recursion.{Left, leaves}
 use Rattle.recursion.specs.Recursion as Rec
 use Rattle.recursion.proofs.Recursed as R
-use Rattle.recursion.proofs.Outcomes.{not-done, drop-replicate}
-use Rattle.recursion.proofs.Tested.{Long, long-of}
+use Rattle.recursion.proofs.Outcomes.{not-done}
 use Rattle.valuation.specs.declared.Valued.{Valued}
 use Rattle.valuation.specs.declared.premium.StopLoss.{StopLoss}
 use Rattle.totals.specs.declared.Totals.{Totals}
 use Rattle.totals.specs.Table.{Members, most-mean}
 use Rattle.totals.specs.Totals.{startLambda}
 use Rattle.valuation.specs.Premium.{Cells, StopLossIs, levels}
-use Rattle.valuation.specs.Valued.{left, outcome, lengths}
+use Rattle.valuation.specs.Sums.{SumsFit}
+use Rattle.valuation.specs.Valued.{left, outcome}
 use Rattle.valuation.specs.Steps.{ReadyFor, Ready, RecursionLeft, RecursedFor, refusalOf, ValuedAnswer, SettledFor, AnsweredFor}
+use Rattle.valuation.proofs.RunningSums.{fronted}
 use Rattle.valuation.proofs.Recursing.{answerOf, narrow-of, FundFits, recursion-is}
-
--- a slice that was zero, with its front filled
-fronted : {A : Type 0} (blank : A) (n k : ℕ) (g : ℕ → A) (t : List A) → t ≡ table k g ++ drop k (replicate n blank) → t ≡ lent blank n (table k g)
-unfolding lent
-fronted blank n k g t h = h ∙ ap (λ u. table k g ++ u) (drop-replicate k n blank ∙ ap (λ m. replicate (n - m) blank) (sym (length-table k g)))
 
 -- a mean that the cap does not change
 mean-is : (ms : List Life) → Members ms → (a m : ℕ) → load a ms ≤ most-load → m ≡ min (mean a ms) most-mean → m ≡ mean a ms
@@ -61,10 +59,10 @@ unfolding mean
 mean-is ms l a m h e = omega (arith, e, load-is a ms, total-le InRange (meanPart a) (loadPart a) 65535 0 (λ m r. mean-le m a r) ms (l .in-range))
 
 -- answers that agree field by field
-same-answer : {d d′ f f′ : List ℤ} {h h′ r r′ : List ℕ} {e e′ m m′ w w′ : ℕ} {p p′ : ℤ} → d ≡ d′ → h ≡ h′ → f ≡ f′ → r ≡ r′ → e ≡ e′ → m ≡ m′ → p ≡ p′ → w ≡ w′ →
-    left (record { verdict = Accepted; figures = record { truncation = e; mean = m; premium = p; within = w } }) d h f r
-    ≡ left (record { verdict = Accepted; figures = record { truncation = e′; mean = m′; premium = p′; within = w′ } }) d′ h′ f′ r′
-same-answer a b c q x y z u = λ i. left (record { verdict = Accepted; figures = record { truncation = x i; mean = y i; premium = z i; within = u i } }) (a i) (b i) (c i) (q i)
+same-answer : {d d′ f f′ s s′ : List ℤ} {h h′ r r′ : List ℕ} {e e′ m m′ w w′ : ℕ} {p p′ : ℤ} → d ≡ d′ → h ≡ h′ → f ≡ f′ → r ≡ r′ → s ≡ s′ → e ≡ e′ → m ≡ m′ → p ≡ p′ → w ≡ w′ →
+    left (record { verdict = Accepted; figures = record { truncation = e; mean = m; premium = p; within = w } }) d h f r s
+    ≡ left (record { verdict = Accepted; figures = record { truncation = e′; mean = m′; premium = p′; within = w′ } }) d′ h′ f′ r′ s′
+same-answer a b c q s x y z u = λ i. left (record { verdict = Accepted; figures = record { truncation = x i; mean = y i; premium = z i; within = u i } }) (a i) (b i) (c i) (q i) (s i)
 
 -- a search that found none
 all-table : {A : Type 0} (P : A → Type 0) (n : ℕ) (g : ℕ → A) → All P (table n g) → (x : ℕ) → x < n → P (g x)
@@ -83,12 +81,12 @@ answer-of (recursed.Outside k) = 1
 answer-of (recursed.Wide x) = 1
 answer-of (recursed.Large x) = 1
 
-module _ (fund : Fund) (ms : List Life) (t : Totals) (d : List ℤ) (h : List ℕ) (f : List ℤ) (r : List ℕ) (k : ReadyFor fund ms t d h (length f) (length r)) where
+module _ (fund : Fund) (ms : List Life) (t : Totals) (d : List ℤ) (h : List ℕ) (f : List ℤ) (r : List ℕ) (ns : ℕ) (k : ReadyFor fund ms t d h (length f) (length r) ns) where
   abbrev X : ℕ
   X = fund .horizon
 
   abbrev n : Lengths
-  n = lengths d h f r
+  n = record { D = length d; H = length h; f = length f; R = length r; F = ns }
 
   within-load : load (fund .frequency) ms ≤ most-load
   within-load = omega (arith, k .sums .load-is, k .passed .load-within)
@@ -138,12 +136,12 @@ module _ (fund : Fund) (ms : List Life) (t : Totals) (d : List ℤ) (h : List �
       ∙ recursion-is fund ms fits d h _ _ (k .filled .d-is) (k .filled .h-is) (omega (arith, ap (λ (y : Cell). y .R) start-is, k .sums .bound-within)) (length f) (length r) (long .f-long) (long .r-long)
 
   -- ---- a wide cell
-  pub answers-wide : (a : Recursed) → OneOf (1 ∷ 2 ∷ 3 ∷ 4 ∷ []) (Declared.tagOf R.the-type a) → RecursionLeft fund t a d h f r → (v : Valued) (d′ : List ℤ) (h′ : List ℕ) →
-      v ≡ record { verdict = refusalOf a; figures = noFigures } → d′ ≡ replicate (length d) (pos 0) → h′ ≡ replicate (length h) 0 → ValuedAnswer fund ms n (left v d′ h′ f r)
+  pub answers-wide : (a : Recursed) → OneOf (1 ∷ 2 ∷ 3 ∷ 4 ∷ []) (Declared.tagOf R.the-type a) → RecursionLeft fund t a d h f r → (v : Valued) (d′ : List ℤ) (h′ : List ℕ) (s′ : List ℤ) →
+      v ≡ record { verdict = refusalOf a; figures = noFigures } → d′ ≡ replicate (length d) (pos 0) → h′ ≡ replicate (length h) 0 → s′ ≡ replicate ns (pos 0) → ValuedAnswer fund ms n (left v d′ h′ f r s′)
   unfolding leaves refuse refused part
-  answers-wide a o e v d′ h′ v-is d-is h-is = go found refl
+  answers-wide a o e v d′ h′ s′ v-is d-is h-is s-is = go found refl
     where
-      go : (x : Option ℕ) → found ≡ x → ValuedAnswer fund ms n (left v d′ h′ f r)
+      go : (x : Option ℕ) → found ≡ x → ValuedAnswer fund ms n (left v d′ h′ f r s′)
       go none s =
           let e′ = leaves-is a e ∙ ap (λ x. leaves (fundCells fund ms) (length f) (length r) (answerOf x)) s in
           let done = ap (λ (l : Left). l .answer) e′ in
@@ -153,7 +151,7 @@ module _ (fund : Fund) (ms : List Life) (t : Totals) (d : List ℤ) (h : List �
           let w : v ≡ record { verdict = Refused refusal.Wide x; figures = noFigures } = v-is ∙ ap (λ b. record { verdict = refusalOf b; figures = noFigures }) (ap (λ (l : Left). l .answer) e′) in
           let f₀ : f ≡ replicate (length f) (pos 0) = ap (λ (l : Left). l .f) e′ in
           let r₀ : r ≡ replicate (length r) 0 = ap (λ (l : Left). l .R) e′ in
-          let z : left v d′ h′ f r ≡ refused [] n (Refused refusal.Wide x) = λ i. left (w i) (d-is i) (h-is i) (f₀ i) (r₀ i) in
+          let z : left v d′ h′ f r s′ ≡ refused [] n (Refused refusal.Wide x) = λ i. left (w i) (d-is i) (h-is i) (f₀ i) (r₀ i) (s-is i) in
           z ∙ ap (outcome fund ms n) (sym (rest ∙ ap (λ x. refuse refusal.Wide x Accepted) s))
 
   -- ---- cells that stand
@@ -212,11 +210,14 @@ module _ (fund : Fund) (ms : List Life) (t : Totals) (d : List ℤ) (h : List �
           narrow = λ x g. omega (arith, r-at x (omega arith), s .narrow x (omega arith));
         }
 
+    pub sums-fit : SumsFit X f ns
+    sums-fit = record { horizon = k .header .horizon; f-long = long .f-long; sums-long = long .sums-long; levels-within = levels-within (suc X) (omega arith) }
+
     -- the figures and the slices
-    pub answers-accepted : (pr : ℤ) (p : StopLoss) → StopLossIs (fund .deductible) (t .mean) (t .truncation) f r p → pr ≡ p .premium →
-        ValuedAnswer fund ms n (left (record { verdict = Accepted; figures = record { truncation = t .truncation; mean = t .mean; premium = pr; within = p .within } }) d h f r)
+    pub answers-accepted : (pr : ℤ) (p : StopLoss) (s′ : List ℤ) → StopLossIs (fund .deductible) (t .mean) (t .truncation) f r p → pr ≡ p .premium → s′ ≡ lent (pos 0) ns (table (suc X) (runningSum f)) →
+        ValuedAnswer fund ms n (left (record { verdict = Accepted; figures = record { truncation = t .truncation; mean = t .mean; premium = pr; within = p .within } }) d h f r s′)
     unfolding accepted fundFigures fundMean
-    answers-accepted pr p priced pr-is = same-answer d-lent h-lent (s .f-is) (s .r-is) figure-is m-is pr-of p-of ∙ ap (outcome fund ms n) (sym (s .accepts))
+    answers-accepted pr p s′ priced pr-is sums-is = same-answer d-lent h-lent (s .f-is) (s .r-is) s-lent figure-is m-is pr-of p-of ∙ ap (outcome fund ms n) (sym (s .accepts))
       where
         m-is : t .mean ≡ mean (fund .frequency) ms
         m-is = mean-is ms (k .members) (fund .frequency) (t .mean) within-load (k .sums .mean-is)
@@ -227,6 +228,12 @@ module _ (fund : Fund) (ms : List Life) (t : Totals) (d : List ℤ) (h : List �
         h-lent : h ≡ lent 0 (length h) (table (suc X) (H (fundTerms fund ms)))
         h-lent = fronted 0 (length h) (suc X) (H (fundTerms fund ms)) h (k .filled .h-is)
 
+        s-lent : s′ ≡ lent (pos 0) ns (table (suc X) (runningSum (fundFs fund ms)))
+        s-lent =
+            sums-is
+            ∙ ap (λ (l : List ℤ). lent (pos 0) ns (table (suc X) (runningSum l))) (s .f-is)
+            ∙ ap (lent (pos 0) ns) (running-lent (length f) (fundFs fund ms) X (let w = length-fs fund ms in omega arith))
+
         pr-of : pr ≡ premium (fund .deductible) (mean (fund .frequency) ms) (fundCells fund ms)
         pr-of = pr-is ∙ priced .premium-is (suc X) (k .header .deductible) ∙ ap₂ (premium (fund .deductible)) m-is cells-in
 
@@ -234,9 +241,9 @@ module _ (fund : Fund) (ms : List Life) (t : Totals) (d : List ℤ) (h : List �
         p-of = priced .within-is (suc X) (k .header .deductible) ∙ ap₂ (within (fund .deductible)) figure-is cells-in
 
 -- ---- slices whose lengths are those of others
-module _ (fund : Fund) (t : Totals) (a : Recursed) (d : List ℤ) (h : List ℕ) (f : List ℤ) (r : List ℕ) (nf nr : ℕ) (ef : length f ≡ nf) (er : length r ≡ nr) where
-  pub recursed-for : Ready fund t d h nf nr → Rec.left a f r ≡ Rec.recursion (fund .horizon) d h (record { f = t .cell; R = t .bound }) nf nr → RecursedFor fund t a d h f r
+module _ (fund : Fund) (t : Totals) (a : Recursed) (d : List ℤ) (h : List ℕ) (f : List ℤ) (r : List ℕ) (nf nr ns : ℕ) (ef : length f ≡ nf) (er : length r ≡ nr) where
+  pub recursed-for : Ready fund t d h nf nr ns → Rec.left a f r ≡ Rec.recursion (fund .horizon) d h (record { f = t .cell; R = t .bound }) nf nr → RecursedFor fund t a d h f r ns
   recursed-for k e = record { ready = rw (ef, er) k; left-is = rw (ef, er) e }
 
-  pub answered-for : (v : Valued) (d′ : List ℤ) (h′ : List ℕ) → SettledFor fund t a d h f r v d′ h′ → AnsweredFor fund t d h nf nr (left v d′ h′ f r)
-  answered-for v d′ h′ s ms k = rw (ef, er) at (s ms (rw (ef, er) k))
+  pub answered-for : (answer : Answer) → SettledFor fund t d h f r ns answer → AnsweredFor fund t d h nf nr ns answer
+  answered-for answer s ms k = rw (ef, er) at (s ms (rw (ef, er) k))

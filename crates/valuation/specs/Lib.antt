@@ -1,4 +1,5 @@
 pub mod Filling
 pub mod Premium
+pub mod Sums
 pub mod Valued
 pub mod Steps

@@ -20,12 +20,11 @@ use Rattle.recursion.specs.declared.Recursed.the-variants as recursed
 use Rattle.recursion.specs.Recursion.{recursion}
 use Rattle.recursion.specs.Recursion as Rec
 use lib.Dec.{ltb}
-use Rattle.valuation.specs.declared.Valued.{Valued}
 use Rattle.totals.specs.declared.Totals.{Totals}
 use Rattle.totals.specs.Table.{Members}
 use Rattle.totals.specs.Inside.{HeaderIn}
 use Rattle.totals.specs.Totals.{LivesTotals}
-use Rattle.valuation.specs.Valued.{left, outcome, lengths}
+use Rattle.valuation.specs.Valued.{outcome}
 
 -- ---- the ranges, 7, 8 and 9, of the totals
 unfoldable pub testedOf : Fund → Totals → Lengths → Verdict
@@ -57,24 +56,24 @@ pub record TransformFilled (fund : Fund) (ms : List Life) (nd nh : ℕ) (d : Lis
   pub d-is : d ≡ table (suc (fund .horizon)) (D (fundTerms fund ms)) ++ drop (suc (fund .horizon)) (replicate nd (pos 0))
   pub h-is : h ≡ table (suc (fund .horizon)) (H (fundTerms fund ms)) ++ drop (suc (fund .horizon)) (replicate nh 0)
 
--- ---- the recursion and what follows it
-pub record ReadyFor (fund : Fund) (ms : List Life) (t : Totals) (d : List ℤ) (h : List ℕ) (nf nr : ℕ) : Type 0 where
+-- ---- the recursion and what follows it; ns is the length of the slice for the running sums
+pub record ReadyFor (fund : Fund) (ms : List Life) (t : Totals) (d : List ℤ) (h : List ℕ) (nf nr ns : ℕ) : Type 0 where
   pub members : Members ms
   pub header : HeaderIn fund
   pub sums : LivesTotals fund ms t
-  pub passed : PassedTests fund t (record { D = length d; H = length h; f = nf; R = nr })
+  pub passed : PassedTests fund t (record { D = length d; H = length h; f = nf; R = nr; F = ns })
   pub filled : TransformFilled fund ms (length d) (length h) d h
 
-pub record Ready (fund : Fund) (t : Totals) (d : List ℤ) (h : List ℕ) (nf nr : ℕ) : Type 0 where
+pub record Ready (fund : Fund) (t : Totals) (d : List ℤ) (h : List ℕ) (nf nr ns : ℕ) : Type 0 where
   pub ms : List Life
-  pub ready : ReadyFor fund ms t d h nf nr
+  pub ready : ReadyFor fund ms t d h nf nr ns
 
 -- what the recursion left of the totals and the transform
 abbrev pub RecursionLeft : Fund → Totals → Recursed → List ℤ → List ℕ → List ℤ → List ℕ → Type 0
 RecursionLeft fund t a d h f r = Rec.left a f r ≡ recursion (fund .horizon) d h (record { f = t .cell; R = t .bound }) (length f) (length r)
 
-pub record RecursedFor (fund : Fund) (t : Totals) (a : Recursed) (d : List ℤ) (h : List ℕ) (f : List ℤ) (r : List ℕ) : Type 0 where
-  pub ready : Ready fund t d h (length f) (length r)
+pub record RecursedFor (fund : Fund) (t : Totals) (a : Recursed) (d : List ℤ) (h : List ℕ) (f : List ℤ) (r : List ℕ) (ns : ℕ) : Type 0 where
+  pub ready : Ready fund t d h (length f) (length r) ns
   pub left-is : RecursionLeft fund t a d h f r
 
 abbrev pub refusalOf : Recursed → Verdict
@@ -88,8 +87,10 @@ refusalOf (recursed.Large x) = Refused refusal.Range 0
 abbrev pub ValuedAnswer : Fund → List Life → Lengths → Answer → Type 0
 ValuedAnswer fund ms n a = a ≡ outcome fund ms n (valued fund ms n (fundCells fund ms))
 
-abbrev pub SettledFor : Fund → Totals → Recursed → List ℤ → List ℕ → List ℤ → List ℕ → Valued → List ℤ → List ℕ → Type 0
-SettledFor fund t a d h f r v d′ h′ = (ms : List Life) → ReadyFor fund ms t d h (length f) (length r) → ValuedAnswer fund ms (lengths d h f r) (left v d′ h′ f r)
+abbrev pub SettledFor : Fund → Totals → List ℤ → List ℕ → List ℤ → List ℕ → ℕ → Answer → Type 0
+SettledFor fund t d h f r ns a =
+    (ms : List Life) → ReadyFor fund ms t d h (length f) (length r) ns → ValuedAnswer fund ms (record { D = length d; H = length h; f = length f; R = length r; F = ns }) a
 
-abbrev pub AnsweredFor : Fund → Totals → List ℤ → List ℕ → ℕ → ℕ → Answer → Type 0
-AnsweredFor fund t d h nf nr a = (ms : List Life) → ReadyFor fund ms t d h nf nr → ValuedAnswer fund ms (record { D = length d; H = length h; f = nf; R = nr }) a
+abbrev pub AnsweredFor : Fund → Totals → List ℤ → List ℕ → ℕ → ℕ → ℕ → Answer → Type 0
+AnsweredFor fund t d h nf nr ns a =
+    (ms : List Life) → ReadyFor fund ms t d h nf nr ns → ValuedAnswer fund ms (record { D = length d; H = length h; f = nf; R = nr; F = ns }) a

@@ -1,4 +1,4 @@
--- What the valuation of a fund's lives answers and leaves: the refusals 7 to 10 or the fund's figures, with the four result slices.
+-- What the valuation of a fund's lives answers and leaves: the refusals 7 to 10 or the fund's figures, with the five result slices.
 use mathlib.Core.Path.{_≡_}
 use mathlib.Core.List.{List, []}
 use Prim.Native.Nat.{ℕ}
@@ -16,8 +16,8 @@ use Rattle.valuation.specs.declared.Valued.{Valued}
 use Rattle.totals.specs.Inside.{inside}
 
 -- The answer that a call leaves: what it returns, and the slices.
-abbrev pub left : Valued → List ℤ → List ℕ → List ℤ → List ℕ → Answer
-left v d h f r = record { verdict = v .verdict; part = empty; figures = v .figures; D = d; H = h; f = f; R = r }
+abbrev pub left : Valued → List ℤ → List ℕ → List ℤ → List ℕ → List ℤ → Answer
+left v d h f r s = record { verdict = v .verdict; part = empty; figures = v .figures; D = d; H = h; f = f; R = r; F = s }
 
 -- The answer for a verdict: a refusal hands back no line here.
 abbrev pub outcome : Fund → List Life → Lengths → Verdict → Answer
@@ -31,12 +31,13 @@ verdictOf fund count ms n = if inside fund count ms then valued fund ms n (fundC
 unfoldable pub valuation : Fund → ℕ → List Life → Lengths → Answer
 valuation fund count ms n = outcome fund ms n (verdictOf fund count ms n)
 
-abbrev pub lengths : List ℤ → List ℕ → List ℤ → List ℕ → Lengths
-lengths d h f r = record { D = length d; H = length h; f = length f; R = length r }
+abbrev pub lengths : List ℤ → List ℕ → List ℤ → List ℕ → List ℤ → Lengths
+lengths d h f r s = record { D = length d; H = length h; f = length f; R = length r; F = length s }
 
 -- All cells are zero.
-pub record Zeros (n : Lengths) (d : List ℤ) (h : List ℕ) (f : List ℤ) (r : List ℕ) : Type 0 where
+pub record Zeros (n : Lengths) (d : List ℤ) (h : List ℕ) (f : List ℤ) (r : List ℕ) (s : List ℤ) : Type 0 where
   pub d-zero : d ≡ replicate (n .D) (pos 0)
   pub h-zero : h ≡ replicate (n .H) 0
   pub f-zero : f ≡ replicate (n .f) (pos 0)
   pub r-zero : r ≡ replicate (n .R) 0
+  pub s-zero : s ≡ replicate (n .F) (pos 0)

@@ -2,6 +2,7 @@
 // the refusals 7 to 10.
 mod lives;
 mod premium;
+mod sums;
 mod transform;
 
 use fund::Figures;
@@ -13,12 +14,13 @@ use recursion::Recursed;
 use totals::Totals;
 use transform::Filling;
 ghost use mathlib.Core.Path.{_≡_};
+ghost use mathlib.Core.List.{[]};
 ghost use Prim.Native.Nat.{_≤_};
 ghost use lib.IntN.{pos};
 ghost use lib.ListN.{length, replicate, take};
-ghost use Rattle.fund.specs.Answer.{noFigures};
+ghost use Rattle.fund.specs.Answer.{noFigures, refused};
+ghost use Rattle.fund.specs.Refusals.{short as shortOf};
 ghost use Rattle.fund.specs.Limits.{most-members};
-ghost use Rattle.totals.specs.Totals.{TotalsFor};
 ghost use Rattle.valuation.specs.Valued.{left, lengths, Zeros, valuation};
 ghost use Rattle.valuation.specs.Steps.{Tested, Ready, refusalOf, RecursedFor, SettledFor, AnsweredFor, Fillable, TransformFilled};
 
@@ -44,16 +46,52 @@ fn clear_transform(transform: &mut [i64], h: &mut [u64])
     whole::clear(h);
 }
 
-fn clear_all(transform: &mut [i64], h: &mut [u64], f: &mut [i64], r: &mut [u64])
-    ensures { λ _. ⌜ Zeros (lengths (now (transform .entry)) (now (h .entry)) (now (f .entry)) (now (r .entry))) (now (transform .exit)) (now (h .exit)) (now (f .exit)) (now (r .exit)) ⌝ }
+fn clear_all(transform: &mut [i64], h: &mut [u64], f: &mut [i64], r: &mut [u64], sums: &mut [i64])
+    ensures { λ _. ⌜ Zeros (lengths (now (transform .entry)) (now (h .entry)) (now (f .entry)) (now (r .entry)) (now (sums .entry)))
+        (now (transform .exit)) (now (h .exit)) (now (f .exit)) (now (r .exit)) (now (sums .exit)) ⌝ }
 {
     clear_transform(transform, h);
     clear_transform(f, r);
+    whole::clear_signed(sums);
+}
+
+// A refusal with zeros in all slices; it hands back no line here.
+pub fn refuse(
+    verdict: Verdict,
+    transform: &mut [i64],
+    h: &mut [u64],
+    f: &mut [i64],
+    r: &mut [u64],
+    sums: &mut [i64],
+) -> Valued
+    ensures { λ v. ⌜ left v (now (transform .exit)) (now (h .exit)) (now (f .exit)) (now (r .exit)) (now (sums .exit)) ≡
+        refused [] (lengths (now (transform .entry)) (now (h .entry)) (now (f .entry)) (now (r .entry)) (now (sums .entry))) verdict ⌝ }
+{
+    clear_all(transform, h, f, r, sums);
+    refused(verdict)
+}
+
+// Whether one of the five slices has fewer than X + 1 cells.
+fn short(horizon: usize, d: usize, h: usize, f: usize, r: usize, sums: usize) -> bool
+    ensures { λ s. ⌜ s ≡ shortOf (record { D = d; H = h; f = f; R = r; F = sums }) horizon ⌝ }
+{
+    if recursion::short(horizon, d, h, f, r) {
+        return true;
+    }
+    sums <= horizon
 }
 
 // The ranges that a file's header and lives have, then the refusals 7, 8 and 9.
-fn tested_totals(fund: Fund, t: Totals, d: usize, h: usize, f: usize, r: usize) -> Verdict
-    ensures { λ v. ⌜ Tested fund t (record { D = d; H = h; f = f; R = r }) v ⌝ }
+fn tested_totals(
+    fund: Fund,
+    t: Totals,
+    d: usize,
+    h: usize,
+    f: usize,
+    r: usize,
+    sums: usize,
+) -> Verdict
+    ensures { λ v. ⌜ Tested fund t (record { D = d; H = h; f = f; R = r; F = sums }) v ⌝ }
 {
     if !t.inside {
         return Verdict::Refused(Refusal::Range, 0);
@@ -64,7 +102,7 @@ fn tested_totals(fund: Fund, t: Totals, d: usize, h: usize, f: usize, r: usize) 
     if Fund::MOST_TRUNCATION < t.truncation {
         return Verdict::Refused(Refusal::Order, 0);
     }
-    if recursion::short(fund.horizon as usize, d, h, f, r) {
+    if short(fund.horizon as usize, d, h, f, r, sums) {
         return Verdict::Refused(Refusal::Short, 0);
     }
     Verdict::Accepted
@@ -92,14 +130,18 @@ fn settled(
     h: &mut [u64],
     f: &[i64],
     r: &[u64],
+    sums: &mut [i64],
 ) -> Valued
-    requires { ⌜ RecursedFor fund t answer (now transform) (now h) (now f) (now r) ⌝ }
-    ensures { λ v. ⌜ SettledFor fund t answer (now (transform .entry)) (now (h .entry)) (now (f .entry)) (now (r .entry)) v (now (transform .exit)) (now (h .exit)) ⌝ }
+    requires { ⌜ RecursedFor fund t answer (now transform) (now h) (now f) (now r) (length (now sums)) ⌝ }
+    ensures { λ v. ⌜ SettledFor fund t (now (transform .entry)) (now (h .entry)) (now (f .entry)) (now (r .entry)) (length (now (sums .entry)))
+        (left v (now (transform .exit)) (now (h .exit)) (now (f .entry)) (now (r .entry)) (now (sums .exit))) ⌝ }
 {
     let Recursed::Done = answer else {
         clear_transform(transform, h);
+        whole::clear_signed(sums);
         return refused(refusal(answer));
     };
+    sums::running_sums(fund.horizon as usize, f, sums);
     let priced = premium::premium(fund.deductible as usize, t.mean, t.truncation, f, r);
     Valued {
         verdict: Verdict::Accepted,
@@ -120,10 +162,11 @@ fn recursed(
     h: &mut [u64],
     f: &mut [i64],
     r: &mut [u64],
+    sums: &mut [i64],
 ) -> Valued
-    requires { ⌜ Ready fund t (now transform) (now h) (length (now f)) (length (now r)) ⌝ }
-    ensures { λ v. ⌜ AnsweredFor fund t (now (transform .entry)) (now (h .entry)) (length (now (f .entry))) (length (now (r .entry)))
-        (left v (now (transform .exit)) (now (h .exit)) (now (f .exit)) (now (r .exit))) ⌝ }
+    requires { ⌜ Ready fund t (now transform) (now h) (length (now f)) (length (now r)) (length (now sums)) ⌝ }
+    ensures { λ v. ⌜ AnsweredFor fund t (now (transform .entry)) (now (h .entry)) (length (now (f .entry))) (length (now (r .entry))) (length (now (sums .entry)))
+        (left v (now (transform .exit)) (now (h .exit)) (now (f .exit)) (now (r .exit)) (now (sums .exit))) ⌝ }
 {
     let answer = recursion::recursion(
         fund.horizon as usize,
@@ -134,7 +177,7 @@ fn recursed(
         f,
         r,
     );
-    settled(fund, t, answer, transform, h, &f[..], &r[..])
+    settled(fund, t, answer, transform, h, &f[..], &r[..], sums)
 }
 
 // D and H of the first n lives, and zeros beyond the horizon.
@@ -157,31 +200,7 @@ fn first_transform(
     lives::fill_first(lives, n, filling, transform, h);
 }
 
-// What follows the totals of the first n lives.
-fn judged(
-    fund: Fund,
-    t: Totals,
-    lives: [Life; Fund::MEMBER_ROWS],
-    n: usize,
-    transform: &mut [i64],
-    h: &mut [u64],
-    f: &mut [i64],
-    r: &mut [u64],
-) -> Valued
-    requires { ⌜ TotalsFor fund n (take n lives) t ⌝ }
-    ensures { λ v. ⌜ left v (now (transform .exit)) (now (h .exit)) (now (f .exit)) (now (r .exit)) ≡
-        valuation fund n (take n lives) (lengths (now (transform .entry)) (now (h .entry)) (now (f .entry)) (now (r .entry))) ⌝ }
-{
-    let verdict = tested_totals(fund, t, transform.len(), h.len(), f.len(), r.len());
-    let Verdict::Accepted = verdict else {
-        clear_all(transform, h, f, r);
-        return refused(verdict);
-    };
-    first_transform(fund, lives, n, transform, h);
-    recursed(fund, t, transform, h, f, r)
-}
-
-// The valuation of the first n lives of a table, into four result slices.
+// The valuation of the first n lives of a table, into five result slices.
 pub fn value(
     fund: Fund,
     lives: [Life; Fund::MEMBER_ROWS],
@@ -190,10 +209,24 @@ pub fn value(
     h: &mut [u64],
     f: &mut [i64],
     r: &mut [u64],
+    sums: &mut [i64],
 ) -> Valued
-    ensures { λ v. ⌜ left v (now (transform .exit)) (now (h .exit)) (now (f .exit)) (now (r .exit)) ≡
-        valuation fund n (take n lives) (lengths (now (transform .entry)) (now (h .entry)) (now (f .entry)) (now (r .entry))) ⌝ }
+    ensures { λ v. ⌜ left v (now (transform .exit)) (now (h .exit)) (now (f .exit)) (now (r .exit)) (now (sums .exit)) ≡
+        valuation fund n (take n lives) (lengths (now (transform .entry)) (now (h .entry)) (now (f .entry)) (now (r .entry)) (now (sums .entry))) ⌝ }
 {
     let t = totals::first_totals(fund, lives, n);
-    judged(fund, t, lives, n, transform, h, f, r)
+    let verdict = tested_totals(
+        fund,
+        t,
+        transform.len(),
+        h.len(),
+        f.len(),
+        r.len(),
+        sums.len(),
+    );
+    let Verdict::Accepted = verdict else {
+        return refuse(verdict, transform, h, f, r, sums);
+    };
+    first_transform(fund, lives, n, transform, h);
+    recursed(fund, t, transform, h, f, r, sums)
 }

@@ -1,6 +1,6 @@
 -- Whole numbers in a word with a sign: a sum is at most the sum of the sizes, and a cell with an amount added or
--- subtracted (`Shifted`) is the number itself where the sizes fit.
-use mathlib.Core.Path.{_≡_, refl, _∙_, ap₂}
+-- subtracted (`Shifted`), and a sum of two (`Added`), is the number itself where the sizes fit.
+use mathlib.Core.Path.{_≡_, refl, _∙_, ap, ap₂}
 use mathlib.Core.Bool.{Bool, true, false, not, cond}
 use Prim.Native.Nat.{ℕ, zero, suc, _+_, _-_, _≤_, _<_, _^_}
 use native.Mathlib.Omega.{arith}
@@ -36,6 +36,17 @@ natAbs-signed false size = refl
 fits-small : (z : ℤ) → natAbs z ≤ 2 ^ 62 → SFits w64 z
 fits-small (pos n) h = record { sfits = omega arith }
 fits-small (negsuc n) h = record { sfits = omega arith }
+
+-- the sum of two words with a sign
+pub record Added (a b : ℤ) : Type 0 where
+  pub fits : SFits w64 (toZ w64 (ofZ w64 a) +ℤ toZ w64 (ofZ w64 b))
+  pub is : toZ w64 (ofZ w64 (toZ w64 (ofZ w64 a) +ℤ toZ w64 (ofZ w64 b))) ≡ a +ℤ b
+
+pub added : (a b : ℤ) → natAbs a + natAbs b ≤ 2 ^ 62 → Added a b
+added a b h =
+    let e : toZ w64 (ofZ w64 a) +ℤ toZ w64 (ofZ w64 b) ≡ a +ℤ b = ap₂ _+ℤ_ (toZ-ofZ (fits-small a (omega arith))) (toZ-ofZ (fits-small b (omega arith))) in
+    let f : SFits w64 (a +ℤ b) = fits-small (a +ℤ b) (omega (arith, natAbs-add a b)) in
+    record { fits = rw e f; is = ap (λ z. toZ w64 (ofZ w64 z)) e ∙ toZ-ofZ f }
 
 pub record Shifted (cell z : ℤ) (minus : Bool) (size : ℕ) : Type 0 where
   pub fits : SFits w64 z

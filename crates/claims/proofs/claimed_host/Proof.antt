@@ -6,11 +6,11 @@ use Rattle.claims.proofs.claimed_host.Tie as tie
 
 returns : tie.Need-returns
 returns c =
-    let p = c .before .before .before .before .before .before .miguepo-price in
-    host-demands _ _ _ _ _ _ _ (p .ensures)
+    let p = c .before .before .before .before .before .before .before .miguepo-price in
+    host-demands _ _ _ _ _ _ _ _ _ (p .ensures)
 
 pub claimed-host-spec : {M : Type 1} → statement M
 claimed-host-spec =
     tie.close
     (tie.spec (λ c κs. search needs) (λ c. search needs) (λ c. search needs)
-    (λ c. search needs) (λ c. search needs) returns)
+    (λ c. search needs) (λ c. search needs) (λ c. search needs) returns)

@@ -6,12 +6,12 @@ use Rattle.claims.proofs.claimed_price.Tie as tie
 
 returns : tie.Need-returns
 returns c =
-    let p = c .before .before .before .before .before .before .price in
-    let o = p .last .1 in
-    price-demands _ _ (p .result) (o .0) (o .1 .0) (o .1 .1 .0) (o .1 .1 .1 .0) (p .ensures)
+    let p = c .before .before .before .before .before .before .before .price in
+    let o = p .last .1 .1 in
+    price-demands _ _ _ (p .result) (o .0) (o .1 .0) (o .1 .1 .0) (o .1 .1 .1 .0) (o .1 .1 .1 .1 .0) (p .ensures)
 
 pub claimed-price-spec : {M : Type 1} → statement M
 claimed-price-spec =
     tie.close
     (tie.spec (λ c κs. search needs) (λ c. search needs) (λ c. search needs)
-    (λ c. search needs) (λ c. search needs) returns)
+    (λ c. search needs) (λ c. search needs) (λ c. search needs) returns)

@@ -4,24 +4,21 @@ use mathlib.Core.List.{List}
 use Prim.Native.Nat.{ℕ}
 use borrow.Author.Needs.{needs}
 use lib.ListN.{length}
-use Rattle.fund.specs.Refusals.{Lengths}
-use Rattle.fund.specs.Answer.{answer}
 use Rattle.text.specs.Writing.{Written}
-use Rattle.pricing.specs.Priced.{left, Answers}
-use Rattle.printing.proofs.Printing.{written-within, cells-length, signed-length, enough-lent, shown-is}
+use Rattle.printing.proofs.Printing.{written-within, cells-length, signed-length, shown-is}
 use Rattle.printing.proofs.print.Statement.{statement}
 use Rattle.printing.proofs.print.Tie as tie
 
 returns : tie.Need-returns
 returns c =
-    let priced = c .before .before .before .before .before .before .before .before .before .before .before in
-    let a = priced .before .before .before .before .before .before .before .args in
+    let listed = c .before .before in
+    let priced = listed .before .before .before .before .before .before .before .before .before .before in
+    let a = priced .before .before .before .before .before .before .before .before .args in
     let p = priced .price in
-    let l = c .before .before .listing in
-    let o = p .last .1 in
-    let answers = subst (λ (n : Lengths). Answers (a .file .now) (p .result) (left (p .result) (o .0) (o .1 .0) (o .1 .1 .0) (o .1 .1 .1 .0)) (answer (a .file .now) n)) enough-lent (p .ensures .answers) in
+    let l = listed .listing in
+    let o = p .last .1 .1 in
     let w = subst (λ (t : List ℕ). Written t (a .text .now) (l .last .1 .1 .1 .1 .1 .0) (l .result))
-    (shown-is (a .file .now) (p .result) (o .0) (o .1 .0) (o .1 .1 .0) (o .1 .1 .1 .0) answers (p .kept .1 .1 .1 .0 ∙ signed-length) (p .kept .1 .1 .1 .1 .0 ∙ cells-length) (length (a .text .now)))
+    (shown-is (a .file .now) 0 (p .result) (o .0) (o .1 .0) (o .1 .1 .0) (o .1 .1 .1 .0) (o .1 .1 .1 .1 .0) (p .ensures .answers) (p .kept .1 .1 .1 .1 .0 ∙ signed-length) (p .kept .1 .1 .1 .1 .1 .0 ∙ cells-length) (length (a .text .now)))
     (l .ensures) in
     (w, written-within w)
 
@@ -29,5 +26,5 @@ pub print-spec : {M : Type 1} → statement M
 print-spec =
     tie.close
     (tie.spec (λ c. search needs) (λ c. search needs) (λ c. search needs)
-    (λ c. search needs) (λ c κs. search needs) (λ c. search needs) (λ c. search needs)
-    (λ c κs. search needs) (λ c. search needs) returns)
+    (λ c. search needs) (λ c. search needs) (λ c κs. search needs) (λ c. search needs)
+    (λ c. search needs) (λ c κs. search needs) (λ c. search needs) returns)

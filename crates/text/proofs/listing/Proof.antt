@@ -44,7 +44,7 @@ enum-known-verdict : tie.Need-enum-known-verdict
 enum-known-verdict c = search needs
 
 put-refusal-requires : tie.Need-put-refusal-requires
-put-refusal-requires c κs = range (c .before .before .before .before) .enough-text
+put-refusal-requires c κs = omega (arith, range (c .before .before .before .before) .enough-text)
 
 returns-2 : tie.Need-returns-2
 returns-2 c =

@@ -1,6 +1,7 @@
 -- Each test's answer is the definition's; where all pass, the limits are kept.
 use mathlib.Core.Path.{_≡_, sym, _∙_}
 use mathlib.Core.Bool.{false}
+use mathlib.Core.List.{List, [], _∷_}
 use mathlib.Core.Logic.{⊎-elim}
 use Prim.Native.Nat.{ℕ, suc, _<_, _≤_}
 use native.Mathlib.Omega.{arith}
@@ -10,9 +11,10 @@ use lib.ListN.{length, getD}
 use mir.Facts.{toZ-ofZ}
 use Rattle.fund.specs.Limits.{most-horizon}
 use Rattle.fund.specs.Recursion.{Cell}
-use Rattle.fund.specs.Refusals.{Lengths, short}
+use Rattle.fund.specs.Refusals.{anyShort}
+use Rattle.laws.specs.Accepted.{All, long-all}
 use Rattle.recursion.specs.Slices.{most-error}
-use Rattle.recursion.proofs.Tested.{Long, long-of, error-none, tested-horizon, tested-short, tested-error, tested-sum, tested-start, start-of, start-above}
+use Rattle.recursion.proofs.Tested.{error-none, tested-horizon, tested-short, tested-error, tested-sum, tested-start, start-of, start-above}
 use Rattle.recursion.proofs.limits.tested.Statement.{statement}
 use Rattle.recursion.proofs.limits.tested.Tie as tie
 
@@ -20,14 +22,14 @@ abbrev start : tie.Start → Cell
 start s = record { f = s .args .first; R = s .args .bound }
 
 -- the slices are long enough
-abbrev lengths : tie.Start → Lengths
-lengths s = record { D = length (s .args .d .now); H = length (s .args .h .now); f = s .args .cells; R = s .args .bounds }
+abbrev lengths : tie.Start → List ℕ
+lengths s = length (s .args .d .now) ∷ length (s .args .h .now) ∷ s .args .cells ∷ s .args .bounds ∷ []
 
-not-short : (c : tie.Else2) → short (lengths (c .before .before .before .before)) (c .before .before .before .before .args .horizon) ≡ false
+not-short : (c : tie.Else2) → anyShort (lengths (c .before .before .before .before)) (c .before .before .before .before .args .horizon) ≡ false
 not-short c = sym (c .before .short .ensures) ∙ c .if2 .left
 
-long : (c : tie.Else2) → Long (lengths (c .before .before .before .before)) (c .before .before .before .before .args .horizon)
-long c = long-of (lengths (c .before .before .before .before)) (c .before .before .before .before .args .horizon) (not-short c)
+long : (c : tie.Else2) → All (λ n. c .before .before .before .before .args .horizon < n) (lengths (c .before .before .before .before))
+long c = long-all (lengths (c .before .before .before .before)) (c .before .before .before .before .args .horizon) (not-short c)
 
 -- no H is above its limit
 errors : (c : tie.Else3) → let s = c .before .before .before .before .before .before in (j : ℕ) → j < s .args .horizon → getD (s .args .h .now) (suc j) 0 ≤ most-error
@@ -51,7 +53,7 @@ returns-2 c =
     tested-short (s .args .horizon) (s .args .d .now) (s .args .h .now) (start s) _ _ (within (c .before .before)) (sym (c .before .short .ensures) ∙ c .if2 .taken)
 
 error-at-requires : tie.Need-error-at-requires
-error-at-requires c κs = long c .h-long
+error-at-requires c κs = long c .1 .0
 
 returns-3 : tie.Need-returns-3
 returns-3 c =
@@ -61,7 +63,7 @@ returns-3 c =
     (⊎-elim (λ n. absurd (omega (arith, n .0, c .if3 .taken))) (λ n. n .1) (c .before .error-at .ensures))
 
 sizes-within-requires : tie.Need-sizes-within-requires
-sizes-within-requires c κs = long (c .before .before) .d-long
+sizes-within-requires c κs = long (c .before .before) .0
 
 returns-4 : tie.Need-returns-4
 returns-4 c =
@@ -89,13 +91,13 @@ returns-6 c =
       transform =
           record {
             horizon = within (e .before .before .before .before);
-            d-long = l .d-long;
-            h-long = l .h-long;
+            d-long = l .0;
+            h-long = l .1 .0;
             sizes-within = leb-true _ _ (sym (c .before .before .before .sizes-within .ensures) ∙ not-false _ (c .before .before .if4 .left));
             errors = errors e;
           };
-      f-long = l .f-long;
-      r-long = l .r-long;
+      f-long = l .1 .1 .0;
+      r-long = l .1 .1 .1 .0;
       start-fits = start-of (start s) (sym (rw (toZ-ofZ (s .fits .first)) at (c .before .start-within .ensures)) ∙ not-false _ (c .if5 .left));
     }
 

@@ -1,0 +1,32 @@
+-- The definitions give every row of the table of levels, from the file's bytes to the running sums and the answer at the level. By
+-- computing both sides.
+use mathlib.Core.Path.{_≡_, refl}
+use mathlib.Core.List.{map}
+use Prim.Native.Nat.{suc}
+use lib.ListN.{take}
+use Rattle.rounding.specs.Rounding.{near, nearest, up}
+use Rattle.fund.specs.Base.{bytes, total, sum, sumℤ, table, alternate}
+use Rattle.fund.specs.Lines.{begun, linesFrom, lines}
+use Rattle.fund.specs.Spelling.{digits, isNumber, valueFrom, value, inFirst, fields, allNumbers, numbers, behind, spelled}
+use Rattle.fund.specs.Reading.{between, inRanges, headerLines, headerOf, rowOf, rising, rateInRange, memberInRange, noMember, atEnd, readRows, readHeader, reading}
+use Rattle.fund.specs.Folding.{rateAt, folded, life, lives}
+use Rattle.fund.specs.Transform.{unit, nextRow, row, placed, termOf, rowTerms, singleTerms, replacedTerm, replacedTerms, terms, sumD, sumH, D, H, lambda, load, w, truncation, mean}
+use Rattle.fund.specs.Recursion.{t, alternating, multiplied, start, c, startBound, entries, sumR, sumF, nextCell, cells}
+use Rattle.fund.specs.Premium.{sumBelow, boundBelow, premium, within}
+use Rattle.fund.specs.Refusals.{first, unmatched, half, wide, anyShort, short, refuse, at0, firstMember, valued, matched, verdict}
+use Rattle.fund.specs.Quantile.{runningSum, reaches, quantile, quantileOf}
+use Rattle.fund.specs.Answer.{fundTerms, fundStart, fundCells, fundTruncation, fundMean, fundFigures, lineAt, part, refused, lent, accepted, answerOf, answerTo, answer}
+use Rattle.fund.specs.Listing.{horizonIn, enough}
+use Rattle.fund.specs.Starred.{text, file, eight}
+use Rattle.fund.specs.Levels.{LevelRow, levels}
+
+-- What the definitions give for a row's file and level.
+abbrev given : LevelRow → LevelRow
+given r =
+    let a = answer (r .file) enough in
+    let X = horizonIn (reading (r .file)) in
+    record { file = r .file; sums = take (suc X) (a .F); level = r .level; quantile = quantileOf (r .level) X (a .F) (a .verdict) }
+
+pub every-level : map given levels ≡ levels
+unfolding near nearest up bytes total sum sumℤ table alternate begun linesFrom lines digits isNumber valueFrom value inFirst fields allNumbers numbers behind spelled between inRanges headerLines headerOf rowOf rising rateInRange memberInRange noMember atEnd readRows readHeader reading rateAt folded life lives unit nextRow row placed termOf rowTerms singleTerms replacedTerm replacedTerms terms sumD sumH D H lambda load w truncation mean t alternating multiplied start c startBound entries sumR sumF nextCell cells sumBelow boundBelow premium within first unmatched half wide anyShort short refuse at0 firstMember valued matched verdict fundTerms fundStart fundCells fundTruncation fundMean fundFigures lineAt part refused lent accepted answerOf answerTo answer horizonIn text file eight runningSum reaches quantile levels
+every-level = refl

@@ -1,0 +1,105 @@
+-- `level::level_of`: the digits and the value of the text are those of the rest from i on, after the value that was read, which fits.
+use mathlib.Core.Path.{_≡_, refl, sym, ap, _∙_}
+use Prim.Native.Nat.{suc, _+_, _-_, _*_, _^_, _≤_, _<_}
+use native.Mathlib.Numerals.{add-one}
+use native.Mathlib.Omega.{arith}
+use lib.ListN.{length, getD, drop}
+use Rattle.fund.specs.Spelling.{digits, valueFrom, value as valueOf}
+use Rattle.reader.proofs.Numbers.{digits-next, digits-below, digits-above, digits-end, value-next, value-end}
+use Rattle.level.specs.declared.Argument.the-variants.{Level}
+use Rattle.level.proofs.Spelling.{level-none, level-misspelled, level-wide, level-value, value-least}
+use Rattle.level.proofs.level_of.Statement.{statement}
+use Rattle.level.proofs.level_of.Tie as tie
+
+abbrev Inv-loop : tie.InvT-loop
+Inv-loop text value₀ i₀ value i = (i ≤ length text) × (value < 2 ^ 64) × (digits text ≡ digits (drop i text)) × (valueFrom 0 text ≡ valueFrom value (drop i text))
+
+abbrev μ-loop : tie.MeasureT-loop
+μ-loop text value₀ i₀ value i = length text - i
+
+returns : tie.Need-returns Inv-loop μ-loop
+returns c = sym (level-none (c .before .args .text .now) (c .if1 .taken))
+
+loop-holds : tie.Need-loop-holds Inv-loop μ-loop
+loop-holds c = (omega arith, omega arith, refl, refl)
+
+shared-slice-read-b : tie.Need-shared-slice-read-b Inv-loop μ-loop
+shared-slice-read-b c = omega arith
+
+returns-2 : tie.Need-returns-2 Inv-loop μ-loop
+returns-2 c =
+    let l = c .before .before .before in
+    let s = l .before .before .args .text .now in
+    sym (level-misspelled s (l .loop .inv .2 ∙ digits-below s (l .loop .i) (omega arith) (c .if2 .taken)))
+
+returns-3 : tie.Need-returns-3 Inv-loop μ-loop
+returns-3 c =
+    let l = c .before .before .before .before in
+    let s = l .before .before .args .text .now in
+    sym (level-misspelled s (l .loop .inv .2 ∙ digits-above s (l .loop .i) (omega arith) (c .before .if2 .left) (c .if3 .taken)))
+
+cast-digit : tie.Need-cast-digit Inv-loop μ-loop
+cast-digit c = omega arith
+
+sub-if4 : tie.Need-sub-if4 Inv-loop μ-loop
+sub-if4 c = omega arith
+
+returns-4 : tie.Need-returns-4 Inv-loop μ-loop
+unfolding valueOf
+returns-4 c =
+    let l = c .before .before .before .before .before in
+    let s = l .before .before .args .text .now in
+    let i = l .loop .i in
+    let next = value-next (l .loop .value) s i (omega arith) in
+    sym (level-wide s (omega (arith, l .loop .inv .3, next, value-least (10 * l .loop .value + (getD s i 0 - 48)) (drop (suc i) s))))
+
+mul-value : tie.Need-mul-value Inv-loop μ-loop
+mul-value c = omega arith
+
+add-value : tie.Need-add-value Inv-loop μ-loop
+add-value c = omega arith
+
+add-i : tie.Need-add-i Inv-loop μ-loop
+add-i c = omega arith
+
+loop-less : tie.Need-loop-less Inv-loop μ-loop
+loop-less c = omega arith
+
+loop-again : tie.Need-loop-again Inv-loop μ-loop
+loop-again c =
+    let l = c .before .before .before .before .before in
+    let s = l .before .before .args .text .now in (
+      omega arith,
+      omega arith,
+      rw add-one (l .loop .inv .2 ∙ digits-next s (l .loop .i) (omega arith) (c .before .before .if2 .left) (c .before .if3 .left)),
+      rw add-one (l .loop .inv .3 ∙ value-next (l .loop .value) s (l .loop .i) (omega arith)),
+    )
+
+returns-5 : tie.Need-returns-5 Inv-loop μ-loop
+unfolding valueOf
+returns-5 c =
+    let l = c .before in
+    let s = l .before .before .args .text .now in
+    let e : valueOf s ≡ l .loop .value = l .loop .inv .3 ∙ value-end (l .loop .value) s (l .loop .i) (omega arith) in
+    ap Level (sym e) ∙ sym (level-value s (omega arith) (l .loop .inv .2 ∙ digits-end s (l .loop .i) (omega arith)) (omega (arith, e, l .loop .inv .1)))
+
+pub level-of-spec : {M : Type 1} → statement M
+level-of-spec =
+    tie.close
+    (tie.spec
+    Inv-loop
+    μ-loop
+    returns
+    loop-holds
+    shared-slice-read-b
+    returns-2
+    returns-3
+    cast-digit
+    sub-if4
+    returns-4
+    mul-value
+    add-value
+    add-i
+    loop-less
+    loop-again
+    returns-5)

@@ -1,0 +1,73 @@
+// Prints the deductible at a level of the fund file on standard input: the first place where the sum of the cells is at least the level,
+// or none; or the refusal's line. The level is the argument, in units of 10^-12.
+use libc::STDERR_FILENO;
+use libc::STDOUT_FILENO;
+ghost use mathlib.Core.Path.{_≡_};
+ghost use Rattle.level.specs.Spelling.{levelIn};
+
+// What an argument says.
+enum Argument {
+    Level(u64),
+    Misspelled,
+}
+
+// One digit or more, whose value fits a word.
+fn level_of(text: &[u8]) -> Argument
+    ensures { λ r. ⌜ r ≡ levelIn (now (text .entry)) ⌝ }
+{
+    if text.len() == 0 {
+        return Argument::Misspelled;
+    }
+    let mut value: u64 = 0;
+    let mut i = 0;
+    while i < text.len() {
+        let b = text[i];
+        if b < b'0' {
+            return Argument::Misspelled;
+        }
+        if b'9' < b {
+            return Argument::Misspelled;
+        }
+        let digit = (b - b'0') as u64;
+        if (u64::MAX - digit) / 10 < value {
+            return Argument::Misspelled;
+        }
+        value = 10 * value + digit;
+        i += 1;
+    }
+    Argument::Level(value)
+}
+
+fn print_usage() {
+    io::write_all(
+        STDERR_FILENO,
+        b"usage: level UNITS < FILE, where UNITS is the level times 10^12, in 1 to 20 digits and below 2^64\n",
+    );
+}
+
+fn print_line(level: u64) {
+    let mut file = [0u8; printing::MOST_BYTES];
+    let mut text = [0u8; text::LEVEL_ROOM];
+    let printed = printing::print_level_input(&mut file, level, &mut text);
+    if printed.failed {
+        os::fail(b"standard input");
+        return;
+    }
+    let size = printed.size;
+    if !io::write_all(STDOUT_FILENO, &text[..size]) {
+        os::fail(b"standard output");
+    }
+}
+
+fn main() {
+    if os::arg_count() != 2 {
+        print_usage();
+        return;
+    }
+    let mut word = [0u8; 20];
+    let size = os::arg(1, &mut word);
+    match level_of(&word[..size]) {
+        Argument::Level(level) => print_line(level),
+        Argument::Misspelled => print_usage(),
+    }
+}

@@ -1,0 +1,60 @@
+-- A call that tells of an answer of the definition's meets its contract, demand 3 included (prices); and the line that is handed back
+-- (line-inside, line-outside, line-reversed).
+use mathlib.Core.Path.{_≡_, refl, sym, _∙_, ap, subst}
+use mathlib.Core.List.{List, []}
+use Prim.Native.Nat.{ℕ, _-_, _≤_, _<_}
+use borrow.Author.Tests.{le-leb, lt-leb}
+use lib.IntN.{ℤ}
+use lib.ListN.{length, take, drop}
+use Rattle.fund.specs.declared.Refusal.{Refusal}
+use Rattle.fund.specs.declared.Verdict.{Verdict}
+use Rattle.fund.specs.declared.Verdict.the-variants.{Refused}
+use Rattle.fund.specs.Reading.{reading}
+use Rattle.fund.specs.Refusals.{Lengths}
+use Rattle.fund.specs.Quantile.{quantileOf}
+use Rattle.fund.specs.Answer.{Answer, refused, answer}
+use Rattle.fund.specs.Listing.{horizonIn}
+use Rattle.fund.specs.Distance.{WithinBounds}
+use Rattle.distance.specs.Distance.{distance}
+use Rattle.valuation.specs.declared.Valued.{Valued}
+use Rattle.valuation.specs.Valued.{left as leftOf}
+use Rattle.pricing.specs.declared.Priced.{Priced}
+use Rattle.pricing.specs.Priced.{left, lined, horizonWith, Tells, Answers, Prices, lineOf}
+
+-- no horizon is told of a refusal
+pub refused-horizon : (a : Answer) (n : Lengths) (why : Refusal) (place X : ℕ) → a ≡ refused [] n (Refused why place) → horizonWith (a .verdict) 0 ≡ horizonWith (a .verdict) X
+unfolding refused
+refused-horizon a n why place X e = rw e refl
+
+module _ (file : List ℕ) (level : ℕ) (n : Lengths) (p : Priced) (v : Valued) (X : ℕ) (d : List ℤ) (h : List ℕ) (f : List ℤ) (r : List ℕ) (s : List ℤ) (t : Tells file level X v s p)
+    (is : lined file (leftOf v d h f r s) ≡ answer file n) where
+  answers : horizonWith (v .verdict) X ≡ horizonWith (v .verdict) (horizonIn (reading file)) → Answers file level p (left p d h f r s) (answer file n)
+  answers x =
+      record {
+        answer = (λ i. record { verdict = t .verdict i; part = t .line i; figures = t .figures i; D = d; H = h; f = f; R = r; F = s }) ∙ is;
+        horizon = t .horizon ∙ x ∙ ap (λ w. horizonWith w (horizonIn (reading file))) (sym (t .verdict));
+        quantile = t .quantile ∙ ap (quantileOf level (p .horizon) s) (sym (t .verdict));
+        ordered = t .ordered;
+        inside = t .inside;
+      }
+
+  pub prices : horizonWith (v .verdict) X ≡ horizonWith (v .verdict) (horizonIn (reading file)) → Prices file level n p (left p d h f r s)
+  prices x =
+      let k = answers x in
+      record {
+        answers = k;
+        distance = λ fund r e. subst (λ (x : Answer). WithinBounds fund x) (sym (k .answer)) (distance file n fund r (sym (ap (λ (x : Answer). x .verdict) (k .answer)) ∙ e));
+      }
+
+module _ (file : List ℕ) (p : Priced) where
+  pub line-inside : p .start ≤ p .end → p .end ≤ length file → take (p .end - p .start) (drop (p .start) file) ≡ lineOf file p
+  unfolding lineOf
+  line-inside o i = rw (le-leb _ _ o, le-leb _ _ i)
+
+  pub line-outside : p .start ≤ p .end → length file < p .end → [] ≡ lineOf file p
+  unfolding lineOf
+  line-outside o i = rw (le-leb _ _ o, lt-leb _ _ i)
+
+  pub line-reversed : p .end < p .start → [] ≡ lineOf file p
+  unfolding lineOf
+  line-reversed o = rw (lt-leb _ _ o)

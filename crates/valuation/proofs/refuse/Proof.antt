@@ -1,0 +1,16 @@
+-- The slices are cleared, and the figures are zero.
+use borrow.Author.Needs.{needs}
+use Rattle.valuation.proofs.Judging.{left-zeros}
+use Rattle.valuation.proofs.refuse.Statement.{statement}
+use Rattle.valuation.proofs.refuse.Tie as tie
+
+returns : tie.Need-returns
+returns c =
+    let z = c .before .before .before .before .before .before .before .before in
+    left-zeros (c .refused .result) _ _ _ _ _ _ _ (z .clear-all .ensures) (c .refused .ensures)
+
+pub refuse-spec : {M : Type 1} → statement M
+refuse-spec =
+    tie.close
+    (tie.spec (λ c κs. search needs) (λ c κs. search needs) (λ c. search needs)
+    (λ c. search needs) (λ c. search needs) (λ c. search needs) (λ c. search needs) returns)
