@@ -21,14 +21,15 @@ use Rattle.laws.specs.Tables.{table-first, map-table}
 use Rattle.laws.specs.Slices.{lent-is}
 use Rattle.laws.specs.Valued.{narrow-cell, wide-cell}
 use Rattle.laws.specs.Cells.{cellAt, cells-are}
-use Rattle.recursion.proofs.Recursed as R
-use Rattle.recursion.specs.declared.Recursed.{Recursed}
-use Rattle.recursion.specs.declared.Recursed.the-variants.{Done, Short, Outside, Wide, Large}
-use Rattle.recursion.specs.Slices.{cellIn, entriesIn, most-cell, CellFits}
-use Rattle.recursion.specs.Recursion.{large, stopped, cellsTo, after, recursed, left, leaves, recursion}
-use Rattle.recursion.specs.Tests.{Kept, Tests}
+use Rattle.limits.specs.declared.Recursed.{Recursed}
+use Rattle.limits.specs.declared.Recursed.the-variants.{Done, Short, Outside, Wide, Large}
+use Rattle.limits.specs.Limits.{most-cell, CellFits}
+use Rattle.limits.specs.Tests.{large, Kept, Tests}
+use Rattle.limits.proofs.Recursed as R
+use Rattle.limits.proofs.Testing.{small-cell, tested-kept}
+use Rattle.recursion.specs.Slices.{cellIn, entriesIn}
+use Rattle.recursion.specs.Recursion.{stopped, cellsTo, after, recursed, left, leaves, recursion}
 use Rattle.recursion.specs.Steps.{CellsFilled, StepsTo, StepsFrom, CarriedOut, Settled}
-use Rattle.recursion.proofs.Tested.{small-cell, tested-kept}
 
 -- ---- the start
 pub start-cell : (nf nr : ℕ) (z : ℤ) (n : ℕ) → 0 < nf → 0 < nr → cellIn (set (replicate nf (pos 0)) 0 z) (set (replicate nr 0) 0 n) 0 ≡ record { f = z; R = n }

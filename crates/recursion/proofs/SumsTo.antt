@@ -8,11 +8,12 @@ use lib.IntN.{ℤ, pos, natAbs, _+ℤ_}
 use lib.ListN.{getD}
 use Rattle.laws.specs.Cells.{addF, addR}
 use Rattle.whole.specs.declared.Sums.{Sums}
-use Rattle.recursion.specs.Slices.{cellIn, entryIn, TransformFits, CellsFit}
+use Rattle.limits.specs.Limits.{TransformFits}
+use Rattle.limits.proofs.Growing.{sumN-grow}
+use Rattle.recursion.specs.Slices.{cellIn, entryIn, CellsFit}
 use Rattle.recursion.specs.Places.{Blank, from, Listed}
 use Rattle.recursion.specs.Steps.{most-part-sum, SumsFit, Added, SumsTo}
 use Rattle.recursion.proofs.Added.{added-empty}
-use Rattle.recursion.proofs.Growing.{sumN-grow}
 
 module _ (d : List ℤ) (h : List ℕ) (f : List ℤ) (r : List ℕ) (last : ℕ) where
   pub sums-none : SumsTo d h f r last 0 (record { plus = 0; minus = 0; bound = 0 })

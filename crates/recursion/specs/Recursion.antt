@@ -1,38 +1,16 @@
 -- What a call of the recursion answers and leaves, for any transform, any start and any lengths of the slices for f and R.
-use mathlib.Core.Bool.{Bool, _||_}
 use mathlib.Core.List.{List, [], _∷_, map, reverse}
-use mathlib.Core.Option.{Option, none, some}
 use Prim.Native.Nat.{ℕ, suc}
-use lib.Dec.{ltb}
-use lib.IntN.{ℤ, pos, natAbs}
-use lib.ListN.{length, getD, replicate}
-use Rattle.fund.specs.Base.{if_then_else_, table}
-use Rattle.fund.specs.Limits.{most-horizon}
+use lib.IntN.{ℤ, pos}
+use lib.ListN.{replicate}
+use Rattle.fund.specs.Base.{if_then_else_}
 use Rattle.fund.specs.Recursion.{Cell, cells}
-use Rattle.fund.specs.Refusals.{first, wide, anyShort}
+use Rattle.fund.specs.Refusals.{wide}
 use Rattle.fund.specs.Answer.{lent}
-use Rattle.recursion.specs.declared.Recursed.{Recursed}
-use Rattle.recursion.specs.declared.Recursed.the-variants.{Done, Short, Outside, Wide, Large}
-use Rattle.recursion.specs.Slices.{entriesIn, sizes, most-transform, most-error, most-cell}
-
--- |f(x)| is above its limit.
-unfoldable pub large : Cell → Bool
-large y = ltb most-cell (natAbs (y .f))
-
--- The first k from 1 to X whose H(k) is above its limit.
-unfoldable pub errorAt : ℕ → List ℕ → Option ℕ
-errorAt X h = first (ltb most-error) 1 (table X (λ k. getD h (suc k) 0))
-
--- The sum of |D(k)| or the start is above its limit.
-unfoldable pub sumOrStart : ℕ → List ℤ → Cell → Bool
-sumOrStart X d start = ltb most-transform (sizes d X) || large start || wide start
-
--- The limits, in the order in which they are tested: X, the lengths of the slices, each H(k), then the sum and the start.
-unfoldable pub tested : ℕ → List ℤ → List ℕ → Cell → ℕ → ℕ → Recursed
-tested X d h start nf nr =
-    if ltb most-horizon X then Outside 0
-    else if anyShort (length d ∷ length h ∷ nf ∷ nr ∷ []) X then Short
-    else elim (errorAt X h) [ some k ↦ Outside k | none ↦ if sumOrStart X d start then Outside 0 else Done ]
+use Rattle.limits.specs.declared.Recursed.{Recursed}
+use Rattle.limits.specs.declared.Recursed.the-variants.{Done, Short, Outside, Wide, Large}
+use Rattle.limits.specs.Tests.{large, tested}
+use Rattle.recursion.specs.Slices.{entriesIn}
 
 -- The first of the cells, from place x on, that is too wide or, where it is not, too large.
 unfoldable pub stopped : ℕ → List Cell → Recursed

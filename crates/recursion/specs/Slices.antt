@@ -1,13 +1,12 @@
--- Cells and the transform as they stand in lent slices, and the limits within which the recursion is carried out.
+-- Cells and the transform as they stand in lent slices.
 use mathlib.Core.List.{List}
-use Prim.Native.Nat.{ℕ, suc, _*_, _^_, _<_, _≤_}
-use lib.IntN.{ℤ, pos, natAbs}
+use Prim.Native.Nat.{ℕ, suc, _<_, _≤_}
+use lib.IntN.{ℤ, pos}
 use lib.ListN.{length, getD}
-use Rattle.algebra.specs.RationalSum.{sumN}
 use Rattle.fund.specs.Base.{table}
-use Rattle.fund.specs.Limits.{most-horizon, most-bound}
 use Rattle.fund.specs.Recursion.{Cell, Entry}
 use Rattle.laws.specs.Cells.{cellAt}
+use Rattle.limits.specs.Limits.{CellFits}
 
 -- f(x) and R(x), D(k+1) and H(k+1)
 abbrev pub cellIn : List ℤ → List ℕ → ℕ → Cell
@@ -24,32 +23,7 @@ entriesIn X d h = table X (entryIn d h)
 abbrev pub cellOf : ℕ → List ℤ → List ℕ → List ℤ → List ℕ → ℕ → Cell
 cellOf X d h f r = cellAt (entriesIn X d h) (cellIn f r 0)
 
--- The sum of |D(k)|, an H(k), and an |f(x)| are at most these.
-abbrev pub most-transform : ℕ
-most-transform = 400000 * 10 ^ 12
-
-abbrev pub most-error : ℕ
-most-error = 10 ^ 9
-
-abbrev pub most-cell : ℕ
-most-cell = 2 * 10 ^ 12
-
--- |D(1)| + .. + |D(n)|
-abbrev pub sizes : List ℤ → ℕ → ℕ
-sizes d n = sumN n (λ k. natAbs (getD d (suc k) (pos 0)))
-
--- ---- within the limits: a cell, the transform to X, and the cells up to last
-pub record CellFits (y : Cell) : Type 0 where
-  pub narrow : y .R ≤ most-bound
-  pub level : natAbs (y .f) ≤ most-cell
-
-pub record TransformFits (X : ℕ) (d : List ℤ) (h : List ℕ) : Type 0 where
-  pub horizon : X ≤ most-horizon
-  pub d-long : X < length d
-  pub h-long : X < length h
-  pub sizes-within : sizes d X ≤ most-transform
-  pub errors : (k : ℕ) → k < X → getD h (suc k) 0 ≤ most-error
-
+-- the cells up to last are within the limits
 pub record CellsFit (f : List ℤ) (r : List ℕ) (last : ℕ) : Type 0 where
   pub f-long : last < length f
   pub r-long : last < length r

@@ -1,25 +1,14 @@
-// The recursion of document 01 on a transform and a start from anywhere: each f(x) and R(x) from D, H and the cells before it. All
-// limits that keep its sums within a word are tested here.
-mod limits;
+// The recursion of document 01 on a transform and a start from anywhere: each f(x) and R(x) from D, H and the cells before it. The
+// limits that keep its sums within a word are tested first.
 mod places;
 mod products;
 mod steps;
 
-pub use limits::short;
+pub use limits::Recursed;
 ghost use mathlib.Core.Path.{_≡_};
 ghost use lib.ListN.{length};
 ghost use Rattle.recursion.specs.Recursion.{left, recursion};
 ghost use Rattle.recursion.specs.Steps.{CarriedOut, Settled};
-
-// What the recursion answers: all cells up to the horizon stand, a slice has fewer than X + 1 cells, a limit of the transform or of
-// the start is broken (at k for an H(k), else at 0), or the first x whose bound or whose |f| is above its limit.
-pub enum Recursed {
-    Done,
-    Short,
-    Outside(u64),
-    Wide(u64),
-    Large(u64),
-}
 
 // The limits, and where they are kept the steps.
 fn carried_out(

@@ -1,10 +1,10 @@
 // The steps of the recursion: the sums over k for each x, the cell from them, and the tests of the cell.
-use super::Recursed;
-use super::limits::MOST_CELL;
 use super::places;
 use super::places::Places;
 use super::products;
 use fund::Fund;
+use limits::MOST_CELL;
+use limits::Recursed;
 use whole::Signed;
 use whole::Sums;
 ghost use mathlib.Core.Path.{_≡_};
@@ -13,9 +13,10 @@ ghost use lib.IntN.{pos};
 ghost use lib.ListN.{length, replicate, set};
 ghost use Rattle.rounding.specs.Rounding.{near, nearest, up};
 ghost use Rattle.whole.specs.Sums.{sumOf};
-ghost use Rattle.recursion.specs.Slices.{cellIn, CellFits, TransformFits, CellsFit};
+ghost use Rattle.limits.specs.Limits.{CellFits, TransformFits};
+ghost use Rattle.limits.specs.Tests.{Kept};
+ghost use Rattle.recursion.specs.Slices.{cellIn, CellsFit};
 ghost use Rattle.recursion.specs.Places.{PlacesOf};
-ghost use Rattle.recursion.specs.Tests.{Kept};
 ghost use Rattle.recursion.specs.Steps.{most-part-sum, SumsTo, StepsFor, StepsFrom};
 
 // A place for each k from 1 to X.

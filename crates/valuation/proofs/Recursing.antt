@@ -25,11 +25,12 @@ use Rattle.laws.specs.Answer.{fundCell, fundCells-are}
 use Rattle.distance.specs.Members.{Priceable}
 use Rattle.distance.specs.Widths.{f-small}
 use Rattle.widths.specs.Widths.{width-D, width-H, H-le, D-sum-le}
-use Rattle.recursion.specs.declared.Recursed.{Recursed}
-use Rattle.recursion.specs.declared.Recursed.the-variants.{Done, Wide}
-use Rattle.recursion.specs.Slices.{most-cell, CellFits, TransformFits}
-use Rattle.recursion.specs.Recursion.{large, stopped, cellsTo, leaves, recursion, recursed, after}
-use Rattle.recursion.proofs.Tested.{tested-kept}
+use Rattle.limits.specs.declared.Recursed.{Recursed}
+use Rattle.limits.specs.declared.Recursed.the-variants.{Done, Wide}
+use Rattle.limits.specs.Limits.{most-cell, CellFits, TransformFits}
+use Rattle.limits.specs.Tests.{large}
+use Rattle.limits.proofs.Testing.{tested-kept}
+use Rattle.recursion.specs.Recursion.{stopped, cellsTo, leaves, recursion, recursed, after}
 use Rattle.totals.specs.Table.{Members}
 use Rattle.totals.specs.Inside.{HeaderIn}
 

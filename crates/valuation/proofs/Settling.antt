@@ -34,12 +34,13 @@ use Rattle.widths.specs.Lives.{InRange}
 use Rattle.widths.specs.Parts.{loadPart, meanPart}
 use Rattle.widths.specs.PartBounds.{mean-le, load-is}
 use Rattle.widths.specs.Sums.{total-le}
-use Rattle.recursion.specs.declared.Recursed.{Recursed}
-use Rattle.recursion.specs.declared.Recursed.the-variants as recursed
-use Rattle.recursion.specs.Slices.{cellIn, most-cell}
+use Rattle.limits.specs.declared.Recursed.{Recursed}
+use Rattle.limits.specs.declared.Recursed.the-variants as recursed
+use Rattle.limits.specs.Limits.{most-cell}
+use Rattle.limits.proofs.Recursed as R
+use Rattle.recursion.specs.Slices.{cellIn}
 use Rattle.recursion.specs.Recursion.{Left, leaves}
 use Rattle.recursion.specs.Recursion as Rec
-use Rattle.recursion.proofs.Recursed as R
 use Rattle.recursion.proofs.Outcomes.{not-done}
 use Rattle.valuation.specs.declared.Valued.{Valued}
 use Rattle.valuation.specs.declared.premium.StopLoss.{StopLoss}

@@ -15,8 +15,8 @@ use Rattle.fund.specs.Limits.{most-load, most-truncation}
 use Rattle.fund.specs.Transform.{D, H, load}
 use Rattle.fund.specs.Refusals.{Lengths, short, refuse, at0, valued}
 use Rattle.fund.specs.Answer.{Answer, fundTerms, fundCells}
-use Rattle.recursion.specs.declared.Recursed.{Recursed}
-use Rattle.recursion.specs.declared.Recursed.the-variants as recursed
+use Rattle.limits.specs.declared.Recursed.{Recursed}
+use Rattle.limits.specs.declared.Recursed.the-variants as recursed
 use Rattle.recursion.specs.Recursion.{recursion}
 use Rattle.recursion.specs.Recursion as Rec
 use lib.Dec.{ltb}

@@ -75,7 +75,7 @@ pub fn refuse(
 fn short(horizon: usize, d: usize, h: usize, f: usize, r: usize, sums: usize) -> bool
     ensures { λ s. ⌜ s ≡ shortOf (record { D = d; H = h; f = f; R = r; F = sums }) horizon ⌝ }
 {
-    if recursion::short(horizon, d, h, f, r) {
+    if limits::short(horizon, d, h, f, r) {
         return true;
     }
     sums <= horizon

@@ -3,7 +3,7 @@ use mathlib.Core.Path.{subst}
 use borrow.Author.Needs.{needs}
 use lib.ListN.{length}
 use mir.Facts.{toZ-ofZ}
-use Rattle.recursion.specs.Tests.{Kept, Tests}
+use Rattle.limits.specs.Tests.{Kept, Tests}
 use Rattle.recursion.proofs.Outcomes.{outcome-tested, outcome-steps}
 use Rattle.recursion.proofs.carried_out.Statement.{statement}
 use Rattle.recursion.proofs.carried_out.Tie as tie

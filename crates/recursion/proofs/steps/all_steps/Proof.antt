@@ -5,7 +5,8 @@ use borrow.Author.Needs.{needs}
 use lib.ListN.{length}
 use mir.Facts.{toZ-ofZ}
 use Rattle.laws.specs.Cells.{cellAt}
-use Rattle.recursion.specs.Slices.{cellIn, entriesIn, CellFits}
+use Rattle.limits.specs.Limits.{CellFits}
+use Rattle.recursion.specs.Slices.{cellIn, entriesIn}
 use Rattle.recursion.proofs.Outcomes.{start-cell, steps-from}
 use Rattle.recursion.proofs.steps.all_steps.Statement.{statement}
 use Rattle.recursion.proofs.steps.all_steps.Tie as tie

@@ -13,7 +13,8 @@ use mir.Facts.{toZ-ofZ}
 use Rattle.rounding.specs.Rounding.{nearest, up}
 use Rattle.fund.specs.Recursion.{Cell}
 use Rattle.whole.specs.Sums.{sumOf}
-use Rattle.recursion.specs.Slices.{cellOf, CellFits}
+use Rattle.limits.specs.Limits.{CellFits}
+use Rattle.recursion.specs.Slices.{cellOf}
 use Rattle.recursion.specs.Steps.{most-part-sum, CellsFilled}
 use Rattle.recursion.proofs.SumsTo.{sums-fit}
 use Rattle.recursion.proofs.CellsFilled.{filled-first, filled-known, next-f, next-R, filled-more}

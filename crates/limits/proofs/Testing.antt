@@ -16,10 +16,9 @@ use Rattle.fund.specs.Recursion.{Cell}
 use Rattle.fund.specs.Refusals.{wide, anyShort}
 use Rattle.laws.specs.Accepted.{all-long}
 use Rattle.laws.specs.Valued.{first-none-of, first-some-of, narrow-cell}
-use Rattle.recursion.specs.declared.Recursed.the-variants.{Done, Short, Outside}
-use Rattle.recursion.specs.Slices.{sizes, most-transform, most-error, most-cell, CellFits}
-use Rattle.recursion.specs.Recursion.{large, errorAt, sumOrStart, tested}
-use Rattle.recursion.specs.Tests.{Kept}
+use Rattle.limits.specs.declared.Recursed.the-variants.{Done, Short, Outside}
+use Rattle.limits.specs.Limits.{sizes, most-transform, most-error, most-cell, CellFits}
+use Rattle.limits.specs.Tests.{large, errorAt, sumOrStart, tested, Kept}
 
 pub small-cell : (y : Cell) → CellFits y → large y ≡ false
 unfolding large

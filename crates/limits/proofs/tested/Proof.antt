@@ -13,10 +13,10 @@ use Rattle.fund.specs.Limits.{most-horizon}
 use Rattle.fund.specs.Recursion.{Cell}
 use Rattle.fund.specs.Refusals.{anyShort}
 use Rattle.laws.specs.Accepted.{All, long-all}
-use Rattle.recursion.specs.Slices.{most-error}
-use Rattle.recursion.proofs.Tested.{error-none, tested-horizon, tested-short, tested-error, tested-sum, tested-start, start-of, start-above}
-use Rattle.recursion.proofs.limits.tested.Statement.{statement}
-use Rattle.recursion.proofs.limits.tested.Tie as tie
+use Rattle.limits.specs.Limits.{most-error}
+use Rattle.limits.proofs.Testing.{error-none, tested-horizon, tested-short, tested-error, tested-sum, tested-start, start-of, start-above}
+use Rattle.limits.proofs.tested.Statement.{statement}
+use Rattle.limits.proofs.tested.Tie as tie
 
 abbrev start : tie.Start → Cell
 start s = record { f = s .args .first; R = s .args .bound }

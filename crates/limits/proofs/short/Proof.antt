@@ -2,8 +2,8 @@
 use mathlib.Core.Bool.{or-false}
 use borrow.Author.Tests.{le-leb, lt-leb}
 use Rattle.fund.specs.Refusals.{anyShort}
-use Rattle.recursion.proofs.limits.short.Statement.{statement}
-use Rattle.recursion.proofs.limits.short.Tie as tie
+use Rattle.limits.proofs.short.Statement.{statement}
+use Rattle.limits.proofs.short.Tie as tie
 
 returns : tie.Need-returns
 unfolding anyShort

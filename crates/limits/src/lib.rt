@@ -1,5 +1,4 @@
 // The limits of the recursion, tested in their order: X, the lengths of the slices, each H(k), then the sum of |D(k)| and the start.
-use super::Recursed;
 use fund::Fund;
 ghost use mathlib.Core.Path.{_≡_};
 ghost use mathlib.Core.Bool.{_&&_};
@@ -10,14 +9,26 @@ ghost use lib.IntN.{natAbs};
 ghost use lib.ListN.{length};
 ghost use Rattle.fund.specs.Limits.{most-bound};
 ghost use Rattle.fund.specs.Refusals.{anyShort};
-ghost use Rattle.recursion.specs.Slices.{most-transform, most-cell, sizes};
-ghost use Rattle.recursion.specs.Tests.{ErrorAt, Tests};
+ghost use Rattle.limits.specs.Limits.{most-transform, most-cell, sizes};
+ghost use Rattle.limits.specs.Tests.{ErrorAt, Tests};
 
+// What the recursion answers: all cells up to the horizon stand, a slice has fewer than X + 1 cells, a limit of the transform or of
+// the start is broken (at k for an H(k), else at 0), or the first x whose bound or whose |f| is above its limit. The tests here answer
+// one of the first three.
+pub enum Recursed {
+    Done,
+    Short,
+    Outside(u64),
+    Wide(u64),
+    Large(u64),
+}
+
+// The sum of |D(k)|, an H(k), and an |f(x)| are at most these.
 const MOST_TRANSFORM: u64 = 400000 * rounding::UNIT;
 
 const MOST_ERROR: u64 = 1000000000;
 
-pub(crate) const MOST_CELL: u64 = 2 * rounding::UNIT;
+pub const MOST_CELL: u64 = 2 * rounding::UNIT;
 
 // Whether one of four slices has fewer than X + 1 cells.
 pub fn short(horizon: usize, d: usize, h: usize, f: usize, r: usize) -> bool
@@ -79,7 +90,7 @@ fn start_within(first: i64, bound: u64) -> bool
 }
 
 // Done where all limits are kept: the slices f and r have `cells` and `bounds` cells.
-pub(crate) fn tested(
+pub fn tested(
     horizon: usize,
     d: &[i64],
     h: &[u64],

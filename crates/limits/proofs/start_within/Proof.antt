@@ -5,9 +5,9 @@ use borrow.Author.Needs.{needs}
 use borrow.Author.Tests.{le-leb, lt-leb}
 use lib.IntN.{natAbs}
 use mir.Facts.{toZ-ofZ}
-use Rattle.recursion.specs.Slices.{most-cell}
-use Rattle.recursion.proofs.limits.start_within.Statement.{statement}
-use Rattle.recursion.proofs.limits.start_within.Tie as tie
+use Rattle.limits.specs.Limits.{most-cell}
+use Rattle.limits.proofs.start_within.Statement.{statement}
+use Rattle.limits.proofs.start_within.Tie as tie
 
 magnitude-requires : tie.Need-magnitude-requires
 magnitude-requires c κs = search needs

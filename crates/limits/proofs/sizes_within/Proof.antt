@@ -8,10 +8,10 @@ use borrow.Author.Tests.{le-leb, lt-leb}
 use lib.IntN.{pos, natAbs}
 use lib.ListN.{getD}
 use mir.Facts.{toZ-ofZ}
-use Rattle.recursion.specs.Slices.{most-transform, sizes}
-use Rattle.recursion.proofs.Growing.{sumN-grow}
-use Rattle.recursion.proofs.limits.sizes_within.Statement.{statement}
-use Rattle.recursion.proofs.limits.sizes_within.Tie as tie
+use Rattle.limits.specs.Limits.{most-transform, sizes}
+use Rattle.limits.proofs.Growing.{sumN-grow}
+use Rattle.limits.proofs.sizes_within.Statement.{statement}
+use Rattle.limits.proofs.sizes_within.Tie as tie
 
 abbrev Inv-loop : tie.InvT-loop
 Inv-loop horizon d left₀ k₀ left k = (k ≤ horizon) × (left + sizes d k ≡ most-transform)

@@ -5,10 +5,10 @@ use Prim.Native.Nat.{ℕ, suc, _-_, _<_, _≤_}
 use native.Mathlib.Numerals.{add-one}
 use native.Mathlib.Omega.{arith}
 use lib.ListN.{getD}
-use Rattle.recursion.specs.Slices.{most-error}
-use Rattle.recursion.proofs.Tested.{error-found, errors-more}
-use Rattle.recursion.proofs.limits.error_at.Statement.{statement}
-use Rattle.recursion.proofs.limits.error_at.Tie as tie
+use Rattle.limits.specs.Limits.{most-error}
+use Rattle.limits.proofs.Testing.{error-found, errors-more}
+use Rattle.limits.proofs.error_at.Statement.{statement}
+use Rattle.limits.proofs.error_at.Tie as tie
 
 abbrev Inv-loop : tie.InvT-loop
 Inv-loop horizon h k₀ k = (k ≤ horizon) × ((j : ℕ) → j < k → getD h (suc j) 0 ≤ most-error)
