@@ -1,7 +1,7 @@
 -- What acceptance says: none of the refusals' conditions holds (accepts).
-use mathlib.Core.Path.{_≡_, refl, _∙_, ap}
-use mathlib.Core.Bool.{Bool, true, false, _||_, or-false as or-none}
-use mathlib.Core.List.{List, [], _∷_, _++_}
+use mathlib.Core.Path.{_≡_, refl, ap}
+use mathlib.Core.Bool.{Bool, true, false, _||_}
+use mathlib.Core.List.{List, [], _∷_}
 use mathlib.Core.Option.{Option, none, some}
 use Prim.Native.Nat.{ℕ, suc, _≤_, _<_}
 use native.Mathlib.Omega.{arith}
@@ -42,16 +42,6 @@ pub all-long : (ns : List ℕ) (X : ℕ) → All (λ n. X < n) ns → anyShort n
 unfolding anyShort
 all-long [] X h = refl
 all-long (n ∷ rest) X h = rw (lt-leb n X (h .0), all-long rest X (h .1))
-
--- one slice more
-or-after : (a b c : Bool) → (a || (b || c)) ≡ ((a || b) || c)
-or-after true b c = refl
-or-after false b c = refl
-
-pub any-more : (ns : List ℕ) (n X : ℕ) → anyShort (ns ++ (n ∷ [])) X ≡ (anyShort ns X || leb n X)
-unfolding anyShort
-any-more [] n X = or-none (leb n X)
-any-more (m ∷ rest) n X = ap (λ b. leb m X || b) (any-more rest n X) ∙ or-after (leb m X) (anyShort rest X) (leb n X)
 
 pub record Long (n : Lengths) (X : ℕ) : Type 0 where
   pub d-long : X < n .D

@@ -31,7 +31,7 @@ const MOST_ERROR: u64 = 1000000000;
 pub const MOST_CELL: u64 = 2 * rounding::UNIT;
 
 // Whether one of four slices has fewer than X + 1 cells.
-pub fn short(horizon: usize, d: usize, h: usize, f: usize, r: usize) -> bool
+fn short(horizon: usize, d: usize, h: usize, f: usize, r: usize) -> bool
     ensures { λ s. ⌜ s ≡ anyShort (d ∷ h ∷ f ∷ r ∷ []) horizon ⌝ }
 {
     if d <= horizon {

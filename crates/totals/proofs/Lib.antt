@@ -5,3 +5,4 @@ mod TableTotals
 mod TableCalls
 pub mod FirstLives
 pub mod InsideTells
+pub mod Testing

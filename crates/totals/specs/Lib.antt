@@ -2,3 +2,4 @@ pub mod Table
 pub mod Start
 pub mod Inside
 pub mod Totals
+pub mod Tests

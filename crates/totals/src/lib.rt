@@ -1,11 +1,13 @@
-// What the first lives of a table add up to: the load, the truncation figure, the mean, and the start.
+// What the first lives of a table add up to: the load, the truncation figure, the mean, and the start; and the refusals that these decide.
 mod figures;
 mod inside;
 mod start;
+mod tests;
 
 use fund::Fund;
 use fund::Life;
 use start::Product;
+pub use tests::tested;
 use whole::Signed;
 ghost use mathlib.Core.Path.{_≡_};
 ghost use Prim.Native.Nat.{_*_, _≤_};

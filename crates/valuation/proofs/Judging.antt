@@ -1,5 +1,5 @@
--- The ranges and the refusals 7, 8 and 9, from the totals: what the tests answer (tested-range, tested-load, tested-order, tested-short), what is left where
--- one of them refuses (left-refused), and what is known where none does (fillable, ready, verdict-passed).
+-- The ranges and the refusals 7, 8 and 9, from the totals: what is left where one of them refuses (left-refused), and what is known where none does
+-- (fillable, ready, left-answered).
 use mathlib.Core.Path.{_≡_, refl, sym, _∙_, ap, subst}
 use mathlib.Core.Bool.{Bool, true, false, true≢false}
 use mathlib.Core.List.{List, [], _∷_}
@@ -18,7 +18,6 @@ use Rattle.fund.specs.declared.Refusal.the-variants as refusal
 use Rattle.fund.specs.declared.Verdict.{Verdict}
 use Rattle.fund.specs.declared.Verdict.the-variants.{Accepted, Refused}
 use Rattle.fund.proofs.Verdict as Ver
-use Rattle.fund.specs.Base.{if_then_else_}
 use Rattle.fund.specs.Limits.{most-members, most-load, most-truncation}
 use Rattle.fund.specs.Transform.{load, truncation}
 use Rattle.fund.specs.Refusals.{Lengths, short, refuse, at0, valued, first, wide}
@@ -27,32 +26,14 @@ use Rattle.laws.specs.Answer.{no-line}
 use Rattle.laws.specs.Accepted.{Long, long-of}
 use Rattle.totals.specs.declared.Totals.{Totals}
 use Rattle.totals.specs.Inside.{inside}
-use Rattle.valuation.specs.Filling.{TableFits, TableAdded}
 use Rattle.totals.specs.Totals.{TotalsFor}
+use Rattle.totals.specs.Tests.{testedOf, PassedTests, Tested}
+use Rattle.totals.proofs.Testing.{tested-range}
+use Rattle.valuation.specs.Filling.{TableFits, TableAdded}
 use Rattle.valuation.specs.declared.Valued.{Valued}
 use Rattle.valuation.specs.Valued.{left, outcome, Zeros, verdictOf, valuation}
-use Rattle.valuation.specs.Steps.{testedOf, PassedTests, Tested, Fillable, TransformFilled, ReadyFor, ValuedAnswer}
+use Rattle.valuation.specs.Steps.{Fillable, TransformFilled, ReadyFor, ValuedAnswer}
 use Rattle.totals.proofs.InsideTells.{inside-tells}
-
--- ---- the tests
-module _ (fund : Fund) (t : Totals) (n : Lengths) where
-  pub tested-range : t .inside ≡ false → testedOf fund t n ≡ Refused refusal.Range 0
-  unfolding testedOf
-  tested-range e = rw e
-
-  module _ (e : t .inside ≡ true) where
-    pub tested-load : most-load < t .load → testedOf fund t n ≡ Refused refusal.Load 0
-    unfolding testedOf refuse at0
-    tested-load l = rw (e, lt-ltb _ _ l)
-
-    module _ (l : t .load ≤ most-load) where
-      pub tested-order : most-truncation < t .truncation → testedOf fund t n ≡ Refused refusal.Order 0
-      unfolding testedOf refuse at0
-      tested-order k = rw (e, le-ltb _ _ l, lt-ltb _ _ k)
-
-      pub tested-short : t .truncation ≤ most-truncation → short n (fund .horizon) ≡ true → testedOf fund t n ≡ Refused refusal.Short 0
-      unfolding testedOf refuse at0
-      tested-short k s = rw (e, le-ltb _ _ l, le-ltb _ _ k, s)
 
 -- ---- a refusal
 -- zeros in all slices and figures

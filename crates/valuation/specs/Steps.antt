@@ -1,6 +1,5 @@
 -- What the steps of a valuation say, from the totals to the answer. Those that see no table say it for every table of which this is known.
 use mathlib.Core.Path.{_≡_}
-use mathlib.Core.Bool.{true, false}
 use mathlib.Core.List.{List, _++_}
 use Prim.Native.Nat.{ℕ, suc, _≤_, _<_}
 use lib.IntN.{ℤ, pos}
@@ -10,39 +9,21 @@ use Rattle.fund.specs.declared.Life.{Life}
 use Rattle.fund.specs.declared.Refusal.the-variants as refusal
 use Rattle.fund.specs.declared.Verdict.{Verdict}
 use Rattle.fund.specs.declared.Verdict.the-variants.{Accepted, Refused}
-use Rattle.fund.specs.Base.{table, if_then_else_}
-use Rattle.fund.specs.Limits.{most-load, most-truncation}
+use Rattle.fund.specs.Base.{table}
+use Rattle.fund.specs.Limits.{most-load}
 use Rattle.fund.specs.Transform.{D, H, load}
-use Rattle.fund.specs.Refusals.{Lengths, short, refuse, at0, valued}
+use Rattle.fund.specs.Refusals.{Lengths, valued}
 use Rattle.fund.specs.Answer.{Answer, fundTerms, fundCells}
 use Rattle.limits.specs.declared.Recursed.{Recursed}
 use Rattle.limits.specs.declared.Recursed.the-variants as recursed
 use Rattle.recursion.specs.Recursion.{recursion}
 use Rattle.recursion.specs.Recursion as Rec
-use lib.Dec.{ltb}
 use Rattle.totals.specs.declared.Totals.{Totals}
 use Rattle.totals.specs.Table.{Members}
 use Rattle.totals.specs.Inside.{HeaderIn}
 use Rattle.totals.specs.Totals.{LivesTotals}
+use Rattle.totals.specs.Tests.{PassedTests}
 use Rattle.valuation.specs.Valued.{outcome}
-
--- ---- the ranges, 7, 8 and 9, of the totals
-unfoldable pub testedOf : Fund → Totals → Lengths → Verdict
-testedOf fund t n =
-    if t .inside then refuse refusal.Load (at0 (ltb most-load (t .load)))
-    (refuse refusal.Order (at0 (ltb most-truncation (t .truncation)))
-    (refuse refusal.Short (at0 (short n (fund .horizon))) Accepted))
-    else Refused refusal.Range 0
-
-pub record PassedTests (fund : Fund) (t : Totals) (n : Lengths) : Type 0 where
-  pub inside-is : t .inside ≡ true
-  pub load-within : t .load ≤ most-load
-  pub truncation-within : t .truncation ≤ most-truncation
-  pub long : short n (fund .horizon) ≡ false
-
-abbrev pub Tested : Fund → Totals → Lengths → Verdict → Type 0
-Tested fund t n Accepted = PassedTests fund t n
-Tested fund t n (Refused why place) = testedOf fund t n ≡ Refused why place
 
 -- ---- the transform of a table
 pub record Fillable (fund : Fund) (ms : List Life) (nd nh : ℕ) : Type 0 where

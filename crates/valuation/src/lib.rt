@@ -19,10 +19,9 @@ ghost use Prim.Native.Nat.{_≤_};
 ghost use lib.IntN.{pos};
 ghost use lib.ListN.{length, replicate, take};
 ghost use Rattle.fund.specs.Answer.{noFigures, refused};
-ghost use Rattle.fund.specs.Refusals.{short as shortOf};
 ghost use Rattle.fund.specs.Limits.{most-members};
 ghost use Rattle.valuation.specs.Valued.{left, lengths, Zeros, valuation};
-ghost use Rattle.valuation.specs.Steps.{Tested, Ready, refusalOf, RecursedFor, SettledFor, AnsweredFor, Fillable, TransformFilled};
+ghost use Rattle.valuation.specs.Steps.{Ready, refusalOf, RecursedFor, SettledFor, AnsweredFor, Fillable, TransformFilled};
 
 // What a valuation answers beside the result slices.
 pub struct Valued {
@@ -69,43 +68,6 @@ pub fn refuse(
 {
     clear_all(transform, h, f, r, sums);
     refused(verdict)
-}
-
-// Whether one of the five slices has fewer than X + 1 cells.
-fn short(horizon: usize, d: usize, h: usize, f: usize, r: usize, sums: usize) -> bool
-    ensures { λ s. ⌜ s ≡ shortOf (record { D = d; H = h; f = f; R = r; F = sums }) horizon ⌝ }
-{
-    if limits::short(horizon, d, h, f, r) {
-        return true;
-    }
-    sums <= horizon
-}
-
-// The ranges that a file's header and lives have, then the refusals 7, 8 and 9.
-fn tested_totals(
-    fund: Fund,
-    t: Totals,
-    d: usize,
-    h: usize,
-    f: usize,
-    r: usize,
-    sums: usize,
-) -> Verdict
-    ensures { λ v. ⌜ Tested fund t (record { D = d; H = h; f = f; R = r; F = sums }) v ⌝ }
-{
-    if !t.inside {
-        return Verdict::Refused(Refusal::Range, 0);
-    }
-    if Fund::MOST_LOAD < t.load {
-        return Verdict::Refused(Refusal::Load, 0);
-    }
-    if Fund::MOST_TRUNCATION < t.truncation {
-        return Verdict::Refused(Refusal::Order, 0);
-    }
-    if short(fund.horizon as usize, d, h, f, r, sums) {
-        return Verdict::Refused(Refusal::Short, 0);
-    }
-    Verdict::Accepted
 }
 
 // Refusal 10, or none. A fund's own transform has no other answers than these two: any other breaks a limit.
@@ -215,7 +177,7 @@ pub fn value(
         valuation fund n (take n lives) (lengths (now (transform .entry)) (now (h .entry)) (now (f .entry)) (now (r .entry)) (now (sums .entry))) ⌝ }
 {
     let t = totals::first_totals(fund, lives, n);
-    let verdict = tested_totals(
+    let verdict = totals::tested(
         fund,
         t,
         transform.len(),

@@ -2,9 +2,9 @@
 use mathlib.Core.Path.{sym, _∙_}
 use borrow.Author.Needs.{needs}
 use borrow.Author.Tests.{not-true, not-false}
-use Rattle.valuation.proofs.Judging.{tested-range, tested-load, tested-order, tested-short}
-use Rattle.valuation.proofs.tested_totals.Statement.{statement}
-use Rattle.valuation.proofs.tested_totals.Tie as tie
+use Rattle.totals.proofs.Testing.{tested-range, tested-load, tested-order, tested-short}
+use Rattle.totals.proofs.tests.tested.Statement.{statement}
+use Rattle.totals.proofs.tests.tested.Tie as tie
 
 returns : tie.Need-returns
 returns c = tested-range _ (c .before .before .args .t) _ (not-true _ (c .if1 .taken))
@@ -32,5 +32,5 @@ returns-5 c =
     let l = o .before .before in
     record { inside-is = not-false _ (l .before .before .if1 .left); load-within = l .if2 .left; truncation-within = o .if3 .left; long = sym (c .before .short .ensures) ∙ c .if4 .left }
 
-pub tested-totals-spec : {M : Type 1} → statement M
-tested-totals-spec = tie.close (tie.spec returns returns-2 returns-3 short-requires returns-4 returns-5)
+pub tested-spec : {M : Type 1} → statement M
+tested-spec = tie.close (tie.spec returns returns-2 returns-3 short-requires returns-4 returns-5)
