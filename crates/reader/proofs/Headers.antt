@@ -14,13 +14,13 @@ use Rattle.fund.specs.Spelling.{spelled}
 use Rattle.fund.specs.Reading.{stopped, inRanges, HeaderLine, headerLines, headerOf, readHeader, readRows, reading}
 use Rattle.laws.specs.Accepted.{All}
 use Rattle.laws.specs.Ranges.{spelled-length}
+use Rattle.spelling.specs.declared.Numbers.{Numbers}
+use Rattle.spelling.specs.Text.{numbersIn}
+use Rattle.spelling.proofs.Texts.{numbers-none, numbers-some}
 use Rattle.reader.specs.declared.line.Line.{Line}
 use Rattle.reader.specs.declared.header.HeaderStep.the-variants.{Number, Stopped}
-use Rattle.reader.specs.declared.text.Numbers.{Numbers}
-use Rattle.reader.specs.Text.{numbersIn}
 use Rattle.reader.specs.Lines.{linesAt, lineIn, NextLine}
 use Rattle.reader.specs.Header.{noLine, headerLine, numbersOf, headerFrom, HeaderStepped}
-use Rattle.reader.proofs.Texts.{numbers-none, numbers-some}
 
 one-number : (ns : List ℕ) → length (take 1 ns) ≡ 1 → take 1 ns ≡ getD ns 0 0 ∷ []
 one-number [] e = absurd (omega arith)

@@ -1,6 +1,3 @@
-pub mod Texts
-pub mod Numbers
-pub mod Fields
 pub mod Lines
 pub mod Headers
 pub mod Rows

@@ -14,10 +14,10 @@ use Rattle.fund.specs.Base.{if_then_else_}
 use Rattle.fund.specs.Lines.{Line as FundLine, begun, linesFrom, lines}
 use Rattle.fund.specs.Spelling.{behind, numbers, spelled}
 use Rattle.fund.specs.Answer.{empty, lineAt}
+use Rattle.spelling.specs.Text.{before}
+use Rattle.spelling.proofs.Texts.{before-within}
 use Rattle.reader.specs.declared.line.Line.{Line}
-use Rattle.reader.specs.Text.{before}
 use Rattle.reader.specs.Lines.{linesAt, lineIn, NextLine, Passed}
-use Rattle.reader.proofs.Fields.{before-within}
 
 lines-first : (at m : ℕ) (s : List ℕ) → 0 < length s → m ≡ at + suc (before 10 s) → linesFrom at s ≡ record { start = at; text = take (before 10 s) s; ended = ltb (before 10 s) (length s) } ∷ linesFrom m (drop (suc (before 10 s)) s)
 unfolding before linesFrom begun

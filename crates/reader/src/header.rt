@@ -1,16 +1,16 @@
 // The header lines, in their order.
 use crate::line;
 use crate::line::Line;
-use crate::text::Numbers;
 use fund::Fund;
 use fund::Refusal;
+use spelling::Numbers;
 ghost use mathlib.Core.Path.{_≡_};
 ghost use mathlib.Core.List.{[], _∷_};
 ghost use Prim.Native.Nat.{_<_};
 ghost use lib.ListN.{length};
 ghost use Rattle.fund.specs.Spelling.{spelled};
 ghost use Rattle.fund.specs.Reading.{between, inRanges, headerLines};
-ghost use Rattle.reader.specs.Text.{numbersIn};
+ghost use Rattle.spelling.specs.Text.{numbersIn};
 ghost use Rattle.reader.specs.Lines.{lineIn, LineInside};
 ghost use Rattle.reader.specs.Header.{headerLine, numbersOf, HeaderStepped, HeaderRead};
 

@@ -4,7 +4,6 @@ mod header;
 mod line;
 mod part;
 mod row;
-mod text;
 
 use fund::Fund;
 use fund::Member;

@@ -1,11 +1,10 @@
 // The lines of a file, one after the other, and how a line is spelled.
-use crate::text;
-use crate::text::Numbers;
+use spelling::Numbers;
 ghost use mathlib.Core.Path.{_≡_};
 ghost use Prim.Native.Nat.{_≤_, _<_};
 ghost use lib.ListN.{length};
 ghost use Rattle.fund.specs.Spelling.{spelled};
-ghost use Rattle.reader.specs.Text.{numbersIn};
+ghost use Rattle.spelling.specs.Text.{numbersIn};
 ghost use Rattle.reader.specs.Lines.{lineIn, LineInside, NextLine};
 
 // A line is the bytes from start to end; the next one starts at next, which is behind end where the line feed is there.
@@ -27,7 +26,7 @@ fn line_from(file: &[u8], at: usize) -> Line
     requires { ⌜ at < length (now file) ⌝ }
     ensures { λ r. ⌜ NextLine (now (file .entry)) at r ⌝ }
 {
-    let end = text::find(file, b'\n', at);
+    let end = spelling::find(file, b'\n', at);
     if end < file.len() {
         return Line {
             start: at,
@@ -80,9 +79,9 @@ pub(crate) fn spelled(file: &[u8], line: Line, key: &[u8], count: usize) -> Numb
         };
     }
     let text = &file[start..end];
-    if text::begins(text, key) {
+    if spelling::begins(text, key) {
         let from = key.len();
-        return text::numbers_of(&text[from..], count);
+        return spelling::numbers_of(&text[from..], count);
     }
     Numbers {
         spelled: false,

@@ -5,7 +5,8 @@ use native.Mathlib.Omega.{arith}
 use borrow.Author.Needs.{needs}
 use lib.ListN.{length, drop}
 use Rattle.fund.specs.Spelling.{behind, numbers}
-use Rattle.reader.specs.Text.{numbersIn}
+use Rattle.spelling.specs.Text.{numbersIn}
+use Rattle.spelling.proofs.Texts.{few-numbers}
 use Rattle.reader.specs.Lines.{lineIn}
 use Rattle.reader.proofs.Lines.{rest-all, behind-length, spelled-open, spelled-not, spelled-behind}
 use Rattle.reader.proofs.line.spelled.Statement.{statement}
@@ -49,6 +50,7 @@ returns-2 : tie.Need-returns-2
 returns-2 c =
     let a = c .before .before .before .before .before .before .before .before .before .args in
     c .numbers-of .ensures
+    ∙ few-numbers (a .count) _ (omega arith)
     ∙ ap (numbers (a .count)) (rest-all (length (a .key .now)) (lineIn (a .file .now) (a .line) .text))
     ∙ sym (spelled-behind (a .file .now) (a .line) (a .key .now) (a .count) _ (omega arith) (begun (c .before .before)))
 

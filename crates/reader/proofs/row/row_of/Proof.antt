@@ -2,8 +2,8 @@
 use mathlib.Core.Path.{sym, _∙_}
 use borrow.Author.Needs.{needs}
 use Rattle.fund.specs.Base.{bytes}
+use Rattle.spelling.proofs.Texts.{numbers-none, numbers-some}
 use Rattle.reader.specs.Lines.{lineIn}
-use Rattle.reader.proofs.Texts.{numbers-none, numbers-some}
 use Rattle.reader.proofs.Rows.{row-rate, row-member, row-end, row-other}
 use Rattle.reader.proofs.row.row_of.Statement.{statement}
 use Rattle.reader.proofs.row.row_of.Tie as tie

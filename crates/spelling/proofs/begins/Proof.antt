@@ -1,4 +1,4 @@
--- `reader::text::begins`: what stands behind the key is what stands behind the rest of it, from i on in both.
+-- `spelling::begins`: what stands behind the key is what stands behind the rest of it, from i on in both.
 use mathlib.Core.Path.{_≡_, refl, _∙_}
 use Prim.Native.Nat.{_-_, _≤_}
 use native.Mathlib.Numerals.{add-one}
@@ -6,9 +6,9 @@ use native.Mathlib.Nat.{le-antisymm}
 use native.Mathlib.Omega.{arith}
 use lib.ListN.{length, drop}
 use Rattle.fund.specs.Spelling.{behind}
-use Rattle.reader.proofs.Texts.{behind-next, behind-not, behind-short, behind-end}
-use Rattle.reader.proofs.text.begins.Statement.{statement}
-use Rattle.reader.proofs.text.begins.Tie as tie
+use Rattle.spelling.proofs.Texts.{behind-next, behind-not, behind-short, behind-end}
+use Rattle.spelling.proofs.begins.Statement.{statement}
+use Rattle.spelling.proofs.begins.Tie as tie
 
 abbrev Inv-loop : tie.InvT-loop
 Inv-loop text key i₀ i = (i ≤ length key) × (i ≤ length text) × (behind key text ≡ behind (drop i key) (drop i text))

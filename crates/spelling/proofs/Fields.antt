@@ -12,17 +12,9 @@ use lib.ListN.{length, take, drop, set, length-drop}
 use lib.Seq.{take-suc-set, take-all, drop-drop}
 use Rattle.fund.specs.Base.{if_then_else_}
 use Rattle.fund.specs.Spelling.{isNumber, value, inFirst, fields, allNumbers, numbers}
-use Rattle.reader.specs.declared.text.Number.the-variants.{Value, Misspelled}
-use Rattle.reader.specs.Text.{before, readNumber}
-
-pub before-within : (b : ℕ) (s : List ℕ) → before b s ≤ length s
-unfolding before
-before-within b [] = omega arith
-before-within b (x ∷ s) = go (eqb x b) (before-within b s)
-  where
-    go : (t : Bool) → before b s ≤ length s → (if t then 0 else suc (before b s)) ≤ suc (length s)
-    go true ih = omega arith
-    go false ih = omega arith
+use Rattle.spelling.specs.declared.Number.the-variants.{Value, Misspelled}
+use Rattle.spelling.specs.Text.{before, readNumber}
+use Rattle.spelling.proofs.Texts.{before-within}
 
 fields-last : (s : List ℕ) → length s ≤ before 44 s → fields s ≡ s ∷ []
 unfolding before fields inFirst

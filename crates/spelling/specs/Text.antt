@@ -3,13 +3,13 @@ use mathlib.Core.Bool.{Bool, true, false}
 use mathlib.Core.List.{List, [], _∷_}
 use mathlib.Core.Option.{Option, none, some}
 use Prim.Native.Nat.{ℕ, suc}
-use lib.Dec.{eqb}
+use lib.Dec.{eqb, leb}
 use lib.ListN.{take, drop}
 use Rattle.fund.specs.Base.{if_then_else_}
-use Rattle.fund.specs.Spelling.{isNumber, value}
-use Rattle.reader.specs.declared.text.Number.{Number}
-use Rattle.reader.specs.declared.text.Number.the-variants.{Value, Misspelled}
-use Rattle.reader.specs.declared.text.Numbers.{Numbers}
+use Rattle.fund.specs.Spelling.{isNumber, value, numbers}
+use Rattle.spelling.specs.declared.Number.{Number}
+use Rattle.spelling.specs.declared.Number.the-variants.{Value, Misspelled}
+use Rattle.spelling.specs.declared.Numbers.{Numbers}
 
 -- How many bytes stand before the first `b`, or before the end where there is none.
 unfoldable pub before : ℕ → List ℕ → ℕ
@@ -27,3 +27,7 @@ readNumber text = if isNumber text then Value (value text) else Misspelled
 -- The first numbers of an answer, where the text is spelled so.
 unfoldable pub numbersIn : ℕ → Numbers → Option (List ℕ)
 numbersIn count r = if r .spelled then some (take count (r .values)) else none
+
+-- Just `count` numbers between commas, where these are at most four.
+unfoldable pub fewNumbers : ℕ → List ℕ → Option (List ℕ)
+fewNumbers count text = if leb count 4 then numbers count text else none

@@ -1,15 +1,18 @@
--- Laws of a text: the bytes before the first of a kind, and the text behind a key, both place by place.
+-- Laws of a text: the bytes before the first of a kind, and the text behind a key, both place by place; and what an answer of numbers says.
 use mathlib.Core.Path.{_≡_, sym}
-use mathlib.Core.Bool.{true, false}
-use mathlib.Core.List.{List}
+use mathlib.Core.Bool.{Bool, true, false}
+use mathlib.Core.List.{List, [], _∷_}
 use mathlib.Core.Option.{none, some}
 use Prim.Native.Nat.{ℕ, suc, _≤_, _<_}
-use borrow.Author.Tests.{eq-eqb, ne-eqb}
+use native.Mathlib.Omega.{arith}
+use borrow.Author.Tests.{eq-eqb, ne-eqb, le-leb}
+use lib.Dec.{eqb}
 use lib.ListN.{length, getD, take, drop, drop-of-length-le}
 use lib.Seq.{drop-cons}
-use Rattle.fund.specs.Spelling.{behind}
-use Rattle.reader.specs.declared.text.Numbers.{Numbers}
-use Rattle.reader.specs.Text.{before, numbersIn}
+use Rattle.fund.specs.Base.{if_then_else_}
+use Rattle.fund.specs.Spelling.{behind, numbers}
+use Rattle.spelling.specs.declared.Numbers.{Numbers}
+use Rattle.spelling.specs.Text.{before, numbersIn, fewNumbers}
 
 pub before-here : (b : ℕ) (s : List ℕ) (i : ℕ) → i < length s → getD s i 0 ≡ b → before b (drop i s) ≡ 0
 unfolding before
@@ -22,6 +25,15 @@ before-next b s i h e = rw (drop-cons s i 0 h, ne-eqb (getD s i 0) b e)
 pub before-end : (b : ℕ) (s : List ℕ) (i : ℕ) → length s ≤ i → before b (drop i s) ≡ 0
 unfolding before
 before-end b s i h = rw (drop-of-length-le s h)
+
+pub before-within : (b : ℕ) (s : List ℕ) → before b s ≤ length s
+unfolding before
+before-within b [] = omega arith
+before-within b (x ∷ s) = go (eqb x b) (before-within b s)
+  where
+    go : (t : Bool) → before b s ≤ length s → (if t then 0 else suc (before b s)) ≤ suc (length s)
+    go true ih = omega arith
+    go false ih = omega arith
 
 pub behind-next : (key s : List ℕ) (i : ℕ) → i < length key → i < length s → getD s i 0 ≡ getD key i 0 → behind (drop i key) (drop i s) ≡ behind (drop (suc i) key) (drop (suc i) s)
 unfolding behind
@@ -47,3 +59,7 @@ numbers-none count r e = rw e
 pub numbers-some : (count : ℕ) (r : Numbers) → r .spelled ≡ true → numbersIn count r ≡ some (take count (r .values))
 unfolding numbersIn
 numbers-some count r e = rw e
+
+pub few-numbers : (count : ℕ) (s : List ℕ) → count ≤ 4 → fewNumbers count s ≡ numbers count s
+unfolding fewNumbers
+few-numbers count s h = rw (le-leb count 4 h)

@@ -1,14 +1,14 @@
--- `reader::text::number_of`: the digits and the value of the text are those of the rest from i on, after a value of i digits.
+-- `spelling::number_of`: the digits and the value of the text are those of the rest from i on, after a value of i digits.
 use mathlib.Core.Path.{_≡_, refl, sym, ap, _∙_}
 use Prim.Native.Nat.{_-_, _≤_, _<_, _^_}
 use native.Mathlib.Numerals.{add-one}
 use native.Mathlib.Omega.{arith}
 use lib.ListN.{length, drop}
 use Rattle.fund.specs.Spelling.{digits, valueFrom, value as valueOf}
-use Rattle.reader.specs.declared.text.Number.the-variants.{Value}
-use Rattle.reader.proofs.Numbers.{number-none, number-long, number-zero, number-leading, number-misspelled, number-value, digits-next, digits-below, digits-above, digits-end, value-next, value-end, below-next, below-most}
-use Rattle.reader.proofs.text.number_of.Statement.{statement}
-use Rattle.reader.proofs.text.number_of.Tie as tie
+use Rattle.spelling.specs.declared.Number.the-variants.{Value}
+use Rattle.spelling.proofs.Digits.{number-none, number-long, number-zero, number-leading, number-misspelled, number-value, digits-next, digits-below, digits-above, digits-end, value-next, value-end, below-next, below-most}
+use Rattle.spelling.proofs.number_of.Statement.{statement}
+use Rattle.spelling.proofs.number_of.Tie as tie
 
 abbrev Inv-loop : tie.InvT-loop
 Inv-loop text n value₀ i₀ value i = (i ≤ n) × (n ≡ length text) × (value < 10 ^ i) × (digits text ≡ digits (drop i text)) × (valueFrom 0 text ≡ valueFrom value (drop i text))

@@ -3,22 +3,22 @@ ghost use mathlib.Core.Path.{_≡_};
 ghost use Prim.Native.Nat.{_+_, _≤_};
 ghost use lib.ListN.{length, drop};
 ghost use Rattle.fund.specs.Spelling.{behind, numbers};
-ghost use Rattle.reader.specs.Text.{before, behindIf, readNumber, numbersIn};
+ghost use Rattle.spelling.specs.Text.{before, behindIf, readNumber, numbersIn, fewNumbers};
 
 // A number of one to seven digits.
-pub(crate) enum Number {
+enum Number {
     Value(u64),
     Misspelled,
 }
 
 // The numbers of a text, where it is spelled so.
-pub(crate) struct Numbers {
-    pub(crate) spelled: bool,
-    pub(crate) values: [u64; 4],
+pub struct Numbers {
+    pub spelled: bool,
+    pub values: [u64; 4],
 }
 
-// The place of the first byte `b` from `from` on, or the length.
-pub(crate) fn find(s: &[u8], b: u8, from: usize) -> usize
+// The place of the first byte `b` from `from` on; where there is none, the length, or `from` if that is larger.
+pub fn find(s: &[u8], b: u8, from: usize) -> usize
     ensures { λ r. ⌜ r ≡ from + before b (drop from (now (s .entry))) ⌝ }
 {
     let mut i = from;
@@ -32,7 +32,7 @@ pub(crate) fn find(s: &[u8], b: u8, from: usize) -> usize
 }
 
 // Whether the key begins the text.
-pub(crate) fn begins(text: &[u8], key: &[u8]) -> bool
+pub fn begins(text: &[u8], key: &[u8]) -> bool
     ensures { λ r. ⌜ behind (now (key .entry)) (now (text .entry)) ≡ behindIf r (length (now (key .entry))) (now (text .entry)) ⌝ }
 {
     let mut i = 0;
@@ -49,7 +49,7 @@ pub(crate) fn begins(text: &[u8], key: &[u8]) -> bool
 }
 
 // "decimal, without sign, space or leading zero (0 itself is `0`), of one to seven digits"
-pub(crate) fn number_of(text: &[u8]) -> Number
+fn number_of(text: &[u8]) -> Number
     ensures { λ r. ⌜ r ≡ readNumber (now (text .entry)) ⌝ }
 {
     let n = text.len();
@@ -82,7 +82,7 @@ pub(crate) fn number_of(text: &[u8]) -> Number
 }
 
 // Just `count` numbers between commas.
-pub(crate) fn numbers_of(text: &[u8], count: usize) -> Numbers
+fn collect_numbers(text: &[u8], count: usize) -> Numbers
     requires { ⌜ count ≤ 4 ⌝ }
     ensures { λ r. ⌜ numbersIn count r ≡ numbers count (now (text .entry)) ⌝ }
 {
@@ -111,4 +111,17 @@ pub(crate) fn numbers_of(text: &[u8], count: usize) -> Numbers
         spelled: false,
         values,
     }
+}
+
+// Just `count` numbers between commas, up to four: with a larger count no text is spelled so.
+pub fn numbers_of(text: &[u8], count: usize) -> Numbers
+    ensures { λ r. ⌜ numbersIn count r ≡ fewNumbers count (now (text .entry)) ⌝ }
+{
+    if 4 < count {
+        return Numbers {
+            spelled: false,
+            values: [0u64; 4],
+        };
+    }
+    collect_numbers(text, count)
 }

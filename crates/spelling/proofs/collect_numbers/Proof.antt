@@ -1,4 +1,4 @@
--- `reader::text::numbers_of`: the numbers of the text are the k that are read and just as many as are left, from `at` on.
+-- `spelling::collect_numbers`: the numbers of the text are the k that are read and just as many as are left, from `at` on.
 use mathlib.Core.Path.{_≡_, refl, sym, _∙_}
 use Prim.Native.Nat.{suc, _+_, _-_, _≤_, _<_}
 use native.Mathlib.Nat.{sub-zero}
@@ -8,10 +8,10 @@ use borrow.Author.Needs.{needs}
 use lib.ListN.{length, take, drop, length-set}
 use lib.Seq.{take-suc-set}
 use Rattle.fund.specs.Spelling.{numbers}
-use Rattle.reader.specs.Text.{numbersIn}
-use Rattle.reader.proofs.Fields.{collected, numbers-collected, collected-over, last-one, end-within, more-at, last-at, ill-at}
-use Rattle.reader.proofs.text.numbers_of.Statement.{statement}
-use Rattle.reader.proofs.text.numbers_of.Tie as tie
+use Rattle.spelling.specs.Text.{numbersIn}
+use Rattle.spelling.proofs.Fields.{collected, numbers-collected, collected-over, last-one, end-within, more-at, last-at, ill-at}
+use Rattle.spelling.proofs.collect_numbers.Statement.{statement}
+use Rattle.spelling.proofs.collect_numbers.Tie as tie
 
 abbrev Inv-loop : tie.InvT-loop
 Inv-loop text count values₀ k₀ at₀ values k at = (k ≤ count) × (at ≤ length text) × (length values ≡ 4) × (numbers count text ≡ collected (take k values) (count - k) (drop at text))
@@ -108,8 +108,8 @@ returns-3 c =
     let z : a .count - l .k ≡ 0 = omega arith in
     sym (l .inv .3 ∙ rw z (collected-over _ _))
 
-pub numbers-of-spec : {M : Type 1} → statement M
-numbers-of-spec =
+pub collect-numbers-spec : {M : Type 1} → statement M
+collect-numbers-spec =
     tie.close
     (tie.spec
     Inv-loop

@@ -10,8 +10,8 @@ use lib.Dec.{leb}
 use lib.ListN.{length, getD, drop, drop-of-length-le}
 use lib.Seq.{drop-cons}
 use Rattle.fund.specs.Spelling.{digits, isNumber, valueFrom, value}
-use Rattle.reader.specs.declared.text.Number.the-variants.{Value, Misspelled}
-use Rattle.reader.specs.Text.{readNumber}
+use Rattle.spelling.specs.declared.Number.the-variants.{Value, Misspelled}
+use Rattle.spelling.specs.Text.{readNumber}
 
 pub number-none : (s : List ℕ) → length s ≡ 0 → readNumber s ≡ Misspelled
 unfolding readNumber isNumber

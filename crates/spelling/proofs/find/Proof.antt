@@ -1,13 +1,13 @@
--- `reader::text::find`: the bytes before the first b from `from` on are those passed and those before it from i on.
+-- `spelling::find`: the bytes before the first b from `from` on are those passed and those before it from i on.
 use mathlib.Core.Path.{_≡_, refl}
 use Prim.Native.Nat.{_+_, _-_}
 use native.Mathlib.Numerals.{add-one}
 use native.Mathlib.Omega.{arith}
 use lib.ListN.{length, drop}
-use Rattle.reader.specs.Text.{before}
-use Rattle.reader.proofs.Texts.{before-here, before-next, before-end}
-use Rattle.reader.proofs.text.find.Statement.{statement}
-use Rattle.reader.proofs.text.find.Tie as tie
+use Rattle.spelling.specs.Text.{before}
+use Rattle.spelling.proofs.Texts.{before-here, before-next, before-end}
+use Rattle.spelling.proofs.find.Statement.{statement}
+use Rattle.spelling.proofs.find.Tie as tie
 
 abbrev Inv-loop : tie.InvT-loop
 Inv-loop s b from i₀ i = from + before b (drop from s) ≡ i + before b (drop i s)

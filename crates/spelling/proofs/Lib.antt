@@ -1,0 +1,3 @@
+pub mod Texts
+mod Digits
+mod Fields
