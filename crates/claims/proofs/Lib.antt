@@ -1,2 +1,3 @@
 mod Deriving
 mod Calls
+mod Tested

@@ -11,20 +11,26 @@ use matching::Matched;
 use reader::FileRead;
 use reader::Part;
 use recursion::Recursed;
+use spelling::Numbers;
 use totals::Totals;
 use valuation::Valued;
 ghost use mathlib.Core.Path.{_≡_};
 ghost use mathlib.Core.List.{[]};
-ghost use lib.ListN.{length, take};
+ghost use Prim.Native.Nat.{_+_};
+ghost use lib.ListN.{length, take, drop};
 ghost use Rattle.fund.specs.Limits.{limits};
+ghost use Rattle.fund.specs.Spelling.{behind};
 ghost use Rattle.fund.specs.Reading.{reading};
 ghost use Rattle.fund.specs.Quantile.{quantile};
 ghost use Rattle.fund.specs.Answer.{part, refused};
+ghost use Rattle.spelling.specs.Text.{before, behindIf, NumbersOf};
 ghost use Rattle.reader.specs.Read.{fileRead};
 ghost use Rattle.reader.specs.Part.{Spans};
 ghost use Rattle.matching.specs.Matching.{matchedTables};
 ghost use Rattle.recursion.specs.Recursion.{left, recursion};
+ghost use Rattle.limits.specs.Tests.{tested};
 ghost use Rattle.totals.specs.Totals.{TotalsFor};
+ghost use Rattle.totals.specs.Tests.{testedOf};
 ghost use Rattle.valuation.specs.Valued.{left as leftOf, lengths, valuation};
 ghost use Rattle.text.specs.Shown.{shownAnswer, listingOf};
 ghost use Rattle.text.specs.Level.{levelLineOf};
@@ -35,6 +41,27 @@ pub fn claimed_limits() -> Limits
     ensures { λ r. ⌜ r ≡ limits ⌝ }
 {
     Fund::limits()
+}
+
+// The place of a byte in a text from a place on, or the end.
+pub fn claimed_find(text: &[u8], byte: u8, from: usize) -> usize
+    ensures { λ r. ⌜ r ≡ from + before byte (drop from (now (text .entry))) ⌝ }
+{
+    spelling::find(text, byte, from)
+}
+
+// Whether a key begins a text.
+pub fn claimed_begins(text: &[u8], key: &[u8]) -> bool
+    ensures { λ r. ⌜ behind (now (key .entry)) (now (text .entry)) ≡ behindIf r (length (now (key .entry))) (now (text .entry)) ⌝ }
+{
+    spelling::begins(text, key)
+}
+
+// The numbers between commas of a text, where there are just so many.
+pub fn claimed_numbers(text: &[u8], count: usize) -> Numbers
+    ensures { λ r. ⌜ NumbersOf count (now (text .entry)) r ⌝ }
+{
+    spelling::numbers_of(text, count)
 }
 
 // Refusals 1 and 2, or the header and the rows.
@@ -69,6 +96,21 @@ pub fn claimed_totals(fund: Fund, lives: [Life; Fund::MEMBER_ROWS], n: usize) ->
     ensures { λ t. ⌜ TotalsFor fund n (take n lives) t ⌝ }
 {
     totals::first_totals(fund, lives, n)
+}
+
+// The ranges and refusals 7, 8 and 9, from the totals and the lengths of the slices.
+pub fn claimed_tests(
+    fund: Fund,
+    t: Totals,
+    d: usize,
+    h: usize,
+    f: usize,
+    r: usize,
+    sums: usize,
+) -> Verdict
+    ensures { λ v. ⌜ v ≡ testedOf fund t (record { D = d; H = h; f = f; R = r; F = sums }) ⌝ }
+{
+    totals::tested_totals(fund, t, d, h, f, r, sums)
 }
 
 // Refusals 7 to 10, or the figures and the cells.
@@ -108,6 +150,21 @@ pub fn claimed_quantile(level: u64, horizon: usize, sums: &[i64]) -> Quantile
     ensures { λ q. ⌜ q ≡ quantile level horizon (now (sums .entry)) ⌝ }
 {
     quantile::quantile(level, horizon, sums)
+}
+
+// Whether a transform, a start and slices keep the limits of the recursion.
+pub fn claimed_kept(
+    horizon: usize,
+    d: &[i64],
+    h: &[u64],
+    first: i64,
+    bound: u64,
+    cells: usize,
+    bounds: usize,
+) -> Recursed
+    ensures { λ t. ⌜ t ≡ tested horizon (now (d .entry)) (now (h .entry)) (record { f = first; R = bound }) cells bounds ⌝ }
+{
+    limits::tested(horizon, d, h, first, bound, cells, bounds)
 }
 
 // The recursion on any transform and start.

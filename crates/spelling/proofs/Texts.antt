@@ -1,18 +1,18 @@
 -- Laws of a text: the bytes before the first of a kind, and the text behind a key, both place by place; and what an answer of numbers says.
-use mathlib.Core.Path.{_≡_, sym}
+use mathlib.Core.Path.{_≡_, refl, sym}
 use mathlib.Core.Bool.{Bool, true, false}
 use mathlib.Core.List.{List, [], _∷_}
 use mathlib.Core.Option.{none, some}
 use Prim.Native.Nat.{ℕ, suc, _≤_, _<_}
 use native.Mathlib.Omega.{arith}
-use borrow.Author.Tests.{eq-eqb, ne-eqb, le-leb}
+use borrow.Author.Tests.{eq-eqb, ne-eqb, le-leb, lt-leb}
 use lib.Dec.{eqb}
-use lib.ListN.{length, getD, take, drop, drop-of-length-le}
+use lib.ListN.{length, getD, take, drop, replicate, drop-of-length-le}
 use lib.Seq.{drop-cons}
 use Rattle.fund.specs.Base.{if_then_else_}
 use Rattle.fund.specs.Spelling.{behind, numbers}
 use Rattle.spelling.specs.declared.Numbers.{Numbers}
-use Rattle.spelling.specs.Text.{before, numbersIn, fewNumbers}
+use Rattle.spelling.specs.Text.{before, numbersIn, fewNumbers, NumbersOf}
 
 pub before-here : (b : ℕ) (s : List ℕ) (i : ℕ) → i < length s → getD s i 0 ≡ b → before b (drop i s) ≡ 0
 unfolding before
@@ -63,3 +63,17 @@ numbers-some count r e = rw e
 pub few-numbers : (count : ℕ) (s : List ℕ) → count ≤ 4 → fewNumbers count s ≡ numbers count s
 unfolding fewNumbers
 few-numbers count s h = rw (le-leb count 4 h)
+
+pub many-numbers : (count : ℕ) (s : List ℕ) → 4 < count → fewNumbers count s ≡ none
+unfolding fewNumbers
+many-numbers count s h = rw (lt-leb count 4 h)
+
+-- A text that is not spelled so has blank numbers.
+pub no-numbers : (count : ℕ) (text : List ℕ) (r : Numbers) → r ≡ record { spelled = false; values = replicate 4 0 } → fewNumbers count text ≡ none → NumbersOf count text r
+unfolding numbersIn
+no-numbers count text r e n = rw e (record { numbers-are = sym n; behind = refl; blank = λ s. refl })
+
+-- An answer that is not spelled so has no numbers.
+pub none-in : (count : ℕ) (r : Numbers) → r .spelled ≡ false → numbersIn count r ≡ none
+unfolding numbersIn
+none-in count r e = rw e

@@ -1,10 +1,11 @@
 -- What the functions on a text answer, in the words of the fund's definitions.
+use mathlib.Core.Path.{_≡_}
 use mathlib.Core.Bool.{Bool, true, false}
 use mathlib.Core.List.{List, [], _∷_}
 use mathlib.Core.Option.{Option, none, some}
 use Prim.Native.Nat.{ℕ, suc}
 use lib.Dec.{eqb, leb}
-use lib.ListN.{take, drop}
+use lib.ListN.{take, drop, replicate}
 use Rattle.fund.specs.Base.{if_then_else_}
 use Rattle.fund.specs.Spelling.{isNumber, value, numbers}
 use Rattle.spelling.specs.declared.Number.{Number}
@@ -31,3 +32,9 @@ numbersIn count r = if r .spelled then some (take count (r .values)) else none
 -- Just `count` numbers between commas, where these are at most four.
 unfoldable pub fewNumbers : ℕ → List ℕ → Option (List ℕ)
 fewNumbers count text = if leb count 4 then numbers count text else none
+
+-- The numbers of the text, and zeros behind them; zeros where it is not spelled so.
+pub record NumbersOf (count : ℕ) (text : List ℕ) (r : Numbers) : Type 0 where
+  pub numbers-are : numbersIn count r ≡ fewNumbers count text
+  pub behind : drop count (r .values) ≡ drop count (replicate 4 0)
+  pub blank : r .spelled ≡ false → r .values ≡ replicate 4 0

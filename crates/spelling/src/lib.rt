@@ -1,9 +1,10 @@
 // The spelling of a text: where a byte stands, whether a key begins it, and its numbers between commas.
 ghost use mathlib.Core.Path.{_≡_};
+ghost use mathlib.Core.Bool.{false};
 ghost use Prim.Native.Nat.{_+_, _≤_};
-ghost use lib.ListN.{length, drop};
+ghost use lib.ListN.{length, drop, replicate};
 ghost use Rattle.fund.specs.Spelling.{behind, numbers};
-ghost use Rattle.spelling.specs.Text.{before, behindIf, readNumber, numbersIn, fewNumbers};
+ghost use Rattle.spelling.specs.Text.{before, behindIf, readNumber, numbersIn, NumbersOf};
 
 // A number of one to seven digits.
 enum Number {
@@ -84,7 +85,7 @@ fn number_of(text: &[u8]) -> Number
 // Just `count` numbers between commas.
 fn collect_numbers(text: &[u8], count: usize) -> Numbers
     requires { ⌜ count ≤ 4 ⌝ }
-    ensures { λ r. ⌜ numbersIn count r ≡ numbers count (now (text .entry)) ⌝ }
+    ensures { λ r. ⌜ (numbersIn count r ≡ numbers count (now (text .entry))) × (drop count (r .values) ≡ drop count (replicate 4 0)) ⌝ }
 {
     let mut values = [0u64; 4];
     let mut k: usize = 0;
@@ -113,15 +114,25 @@ fn collect_numbers(text: &[u8], count: usize) -> Numbers
     }
 }
 
-// Just `count` numbers between commas, up to four: with a larger count no text is spelled so.
+fn no_numbers() -> Numbers
+    ensures { λ r. ⌜ r ≡ record { spelled = false; values = replicate 4 0 } ⌝ }
+{
+    Numbers {
+        spelled: false,
+        values: [0u64; 4],
+    }
+}
+
+// Just `count` numbers between commas, up to four: with a larger count no text is spelled so. What is no number of the text is 0.
 pub fn numbers_of(text: &[u8], count: usize) -> Numbers
-    ensures { λ r. ⌜ numbersIn count r ≡ fewNumbers count (now (text .entry)) ⌝ }
+    ensures { λ r. ⌜ NumbersOf count (now (text .entry)) r ⌝ }
 {
     if 4 < count {
-        return Numbers {
-            spelled: false,
-            values: [0u64; 4],
-        };
+        return no_numbers();
     }
-    collect_numbers(text, count)
+    let collected = collect_numbers(text, count);
+    if collected.spelled {
+        return collected;
+    }
+    no_numbers()
 }

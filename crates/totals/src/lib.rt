@@ -7,7 +7,7 @@ mod tests;
 use fund::Fund;
 use fund::Life;
 use start::Product;
-pub use tests::tested;
+pub use tests::tested_totals;
 use whole::Signed;
 ghost use mathlib.Core.Path.{_≡_};
 ghost use Prim.Native.Nat.{_*_, _≤_};

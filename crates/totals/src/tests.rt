@@ -8,7 +8,7 @@ ghost use Rattle.fund.specs.Refusals.{short as shortOf};
 ghost use Rattle.totals.specs.Tests.{Tested};
 
 // Whether one of the five slices has fewer than X + 1 cells.
-fn short(horizon: usize, d: usize, h: usize, f: usize, r: usize, sums: usize) -> bool
+fn slices_short(horizon: usize, d: usize, h: usize, f: usize, r: usize, sums: usize) -> bool
     ensures { λ s. ⌜ s ≡ shortOf (record { D = d; H = h; f = f; R = r; F = sums }) horizon ⌝ }
 {
     if d <= horizon {
@@ -27,7 +27,15 @@ fn short(horizon: usize, d: usize, h: usize, f: usize, r: usize, sums: usize) ->
 }
 
 // The first refusal of the totals, or none. The five numbers are the lengths of the result slices.
-pub fn tested(fund: Fund, t: Totals, d: usize, h: usize, f: usize, r: usize, sums: usize) -> Verdict
+pub fn tested_totals(
+    fund: Fund,
+    t: Totals,
+    d: usize,
+    h: usize,
+    f: usize,
+    r: usize,
+    sums: usize,
+) -> Verdict
     ensures { λ v. ⌜ Tested fund t (record { D = d; H = h; f = f; R = r; F = sums }) v ⌝ }
 {
     if !t.inside {
@@ -39,7 +47,7 @@ pub fn tested(fund: Fund, t: Totals, d: usize, h: usize, f: usize, r: usize, sum
     if Fund::MOST_TRUNCATION < t.truncation {
         return Verdict::Refused(Refusal::Order, 0);
     }
-    if short(fund.horizon as usize, d, h, f, r, sums) {
+    if slices_short(fund.horizon as usize, d, h, f, r, sums) {
         return Verdict::Refused(Refusal::Short, 0);
     }
     Verdict::Accepted

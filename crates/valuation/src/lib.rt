@@ -177,7 +177,7 @@ pub fn value(
         valuation fund n (take n lives) (lengths (now (transform .entry)) (now (h .entry)) (now (f .entry)) (now (r .entry)) (now (sums .entry))) ⌝ }
 {
     let t = totals::first_totals(fund, lives, n);
-    let verdict = totals::tested(
+    let verdict = totals::tested_totals(
         fund,
         t,
         transform.len(),

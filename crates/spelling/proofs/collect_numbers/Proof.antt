@@ -5,8 +5,8 @@ use native.Mathlib.Nat.{sub-zero}
 use native.Mathlib.Numerals.{add-one}
 use native.Mathlib.Omega.{arith}
 use borrow.Author.Needs.{needs}
-use lib.ListN.{length, take, drop, length-set}
-use lib.Seq.{take-suc-set}
+use lib.ListN.{length, take, drop, replicate, length-set}
+use lib.Seq.{take-suc-set, drop-set-lt}
 use Rattle.fund.specs.Spelling.{numbers}
 use Rattle.spelling.specs.Text.{numbersIn}
 use Rattle.spelling.proofs.Fields.{collected, numbers-collected, collected-over, last-one, end-within, more-at, last-at, ill-at}
@@ -14,7 +14,7 @@ use Rattle.spelling.proofs.collect_numbers.Statement.{statement}
 use Rattle.spelling.proofs.collect_numbers.Tie as tie
 
 abbrev Inv-loop : tie.InvT-loop
-Inv-loop text count values₀ k₀ at₀ values k at = (k ≤ count) × (at ≤ length text) × (length values ≡ 4) × (numbers count text ≡ collected (take k values) (count - k) (drop at text))
+Inv-loop text count values₀ k₀ at₀ values k at = (k ≤ count) × (at ≤ length text) × (length values ≡ 4) × (numbers count text ≡ collected (take k values) (count - k) (drop at text)) × (drop count values ≡ drop count (replicate 4 0))
 
 abbrev μ-loop : tie.MeasureT-loop
 μ-loop text count values₀ k₀ at₀ values k at = count - k
@@ -22,7 +22,7 @@ abbrev μ-loop : tie.MeasureT-loop
 loop-holds : tie.Need-loop-holds Inv-loop μ-loop
 loop-holds c =
     let a = c .before .args in
-    (omega arith, omega arith, refl, rw sub-zero (numbers-collected (a .count) (a .text .now)))
+    (omega arith, omega arith, refl, rw sub-zero (numbers-collected (a .count) (a .text .now)), refl)
 
 find-requires : tie.Need-find-requires Inv-loop μ-loop
 find-requires c κs = search needs
@@ -53,7 +53,7 @@ returns c =
     let s = c .before .before .before .before .before .before .before .before .args .text .now in
     let l = c .before .before .before .before .before .before .loop in
     let f = c .before .before .before .before .find in
-    sym (l .inv .3 ∙ ill-at s (l .at) (f .result) (f .ensures) _ _ (sym (c .before .before .number-of .ensures) ∙ c .enum-told .given .1))
+    (sym (l .inv .3 ∙ ill-at s (l .at) (f .result) (f .ensures) _ _ (sym (c .before .before .number-of .ensures) ∙ c .enum-told .given .1)), l .inv .4)
 
 mul-values : tie.Need-mul-values Inv-loop μ-loop
 mul-values c = omega arith
@@ -70,9 +70,11 @@ returns-2 c =
     let a = c .before .before .before .before .before .before .before .before .before .before .args in
     let l = c .before .before .before .before .before .before .before .before .loop in
     let f = c .before .before .before .before .before .before .find in
-    let v = c .before .before .v .given in
-    last-one (l .values) (l .k) (a .count) (v .0 .0) (omega arith) (omega arith)
-    ∙ sym (l .inv .3 ∙ last-at (a .text .now) (l .at) (f .result) (f .ensures) _ _ (v .0 .0) (omega arith) (sym (c .before .before .before .before .number-of .ensures) ∙ v .1))
+    let v = c .before .before .v .given in (
+      last-one (l .values) (l .k) (a .count) (v .0 .0) (omega arith) (omega arith)
+          ∙ sym (l .inv .3 ∙ last-at (a .text .now) (l .at) (f .result) (f .ensures) _ _ (v .0 .0) (omega arith) (sym (c .before .before .before .before .number-of .ensures) ∙ v .1)),
+      drop-set-lt (a .count) (l .values) (l .k) (v .0 .0) (omega arith) ∙ l .inv .4,
+    )
 
 add-at : tie.Need-add-at Inv-loop μ-loop
 add-at c =
@@ -98,6 +100,7 @@ loop-again c =
       l .inv .3
           ∙ rw (n, add-one (l .k), take-suc-set (l .values) (l .k) (v .0 .0) k)
           (more-at (a .text .now) (l .at) (f .result) (f .ensures) _ _ (v .0 .0) (omega arith) (sym (c .before .before .before .before .number-of .ensures) ∙ v .1)),
+      drop-set-lt (a .count) (l .values) (l .k) (v .0 .0) (omega arith) ∙ l .inv .4,
     )
 
 returns-3 : tie.Need-returns-3 Inv-loop μ-loop
@@ -106,7 +109,7 @@ returns-3 c =
     let l = c .before .loop in
     let a = c .before .before .before .args in
     let z : a .count - l .k ≡ 0 = omega arith in
-    sym (l .inv .3 ∙ rw z (collected-over _ _))
+    (sym (l .inv .3 ∙ rw z (collected-over _ _)), l .inv .4)
 
 pub collect-numbers-spec : {M : Type 1} → statement M
 collect-numbers-spec =

@@ -21,7 +21,7 @@ passed : (c : tie.After-enum-told) →
     PassedTests (entered o .args .fund) (o .first-totals .result) (slices (entered o))
 passed c =
     let o = c .before .before .before in
-    subst (Tested (entered o .args .fund) (o .first-totals .result) (slices (entered o))) (c .enum-told .given .1) (c .before .before .tested .ensures)
+    subst (Tested (entered o .args .fund) (o .first-totals .result) (slices (entered o))) (c .enum-told .given .1) (c .before .before .tested-totals .ensures)
 
 returns : tie.Need-returns
 returns c =
@@ -30,8 +30,8 @@ returns c =
     let o = m .before .before in
     let s = entered o in
     let a = s .args in
-    left-judged (a .fund) (a .n) (take (a .n) (a .lives)) (first-few (a .n) (a .lives)) (o .first-totals .result) (o .first-totals .ensures) (slices s) _ (m .before .tested .result) (m .match .keys2)
-    (m .before .tested .ensures) (z .refuse .ensures)
+    left-judged (a .fund) (a .n) (take (a .n) (a .lives)) (first-few (a .n) (a .lives)) (o .first-totals .result) (o .first-totals .ensures) (slices s) _ (m .before .tested-totals .result) (m .match .keys2)
+    (m .before .tested-totals .ensures) (z .refuse .ensures)
 
 first-transform-requires : tie.Need-first-transform-requires
 first-transform-requires c κs =

@@ -49,7 +49,7 @@ numbers-of-requires c κs = search needs
 returns-2 : tie.Need-returns-2
 returns-2 c =
     let a = c .before .before .before .before .before .before .before .before .before .args in
-    c .numbers-of .ensures
+    c .numbers-of .ensures .numbers-are
     ∙ few-numbers (a .count) _ (omega arith)
     ∙ ap (numbers (a .count)) (rest-all (length (a .key .now)) (lineIn (a .file .now) (a .line) .text))
     ∙ sym (spelled-behind (a .file .now) (a .line) (a .key .now) (a .count) _ (omega arith) (begun (c .before .before)))

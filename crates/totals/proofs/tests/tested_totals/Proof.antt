@@ -3,8 +3,8 @@ use mathlib.Core.Path.{sym, _∙_}
 use borrow.Author.Needs.{needs}
 use borrow.Author.Tests.{not-true, not-false}
 use Rattle.totals.proofs.Testing.{tested-range, tested-load, tested-order, tested-short}
-use Rattle.totals.proofs.tests.tested.Statement.{statement}
-use Rattle.totals.proofs.tests.tested.Tie as tie
+use Rattle.totals.proofs.tests.tested_totals.Statement.{statement}
+use Rattle.totals.proofs.tests.tested_totals.Tie as tie
 
 returns : tie.Need-returns
 returns c = tested-range _ (c .before .before .args .t) _ (not-true _ (c .if1 .taken))
@@ -17,20 +17,20 @@ returns-3 c =
     let o = c .before .before in
     tested-order _ (o .before .before .before .before .args .t) _ (not-false _ (o .before .before .if1 .left)) (o .if2 .left) (c .if3 .taken)
 
-short-requires : tie.Need-short-requires
-short-requires c κs = search needs
+slices-short-requires : tie.Need-slices-short-requires
+slices-short-requires c κs = search needs
 
 returns-4 : tie.Need-returns-4
 returns-4 c =
     let o = c .before .before in
     let l = o .before .before in
-    tested-short _ (l .before .before .before .before .args .t) _ (not-false _ (l .before .before .if1 .left)) (l .if2 .left) (o .if3 .left) (sym (c .before .short .ensures) ∙ c .if4 .taken)
+    tested-short _ (l .before .before .before .before .args .t) _ (not-false _ (l .before .before .if1 .left)) (l .if2 .left) (o .if3 .left) (sym (c .before .slices-short .ensures) ∙ c .if4 .taken)
 
 returns-5 : tie.Need-returns-5
 returns-5 c =
     let o = c .before .before in
     let l = o .before .before in
-    record { inside-is = not-false _ (l .before .before .if1 .left); load-within = l .if2 .left; truncation-within = o .if3 .left; long = sym (c .before .short .ensures) ∙ c .if4 .left }
+    record { inside-is = not-false _ (l .before .before .if1 .left); load-within = l .if2 .left; truncation-within = o .if3 .left; long = sym (c .before .slices-short .ensures) ∙ c .if4 .left }
 
-pub tested-spec : {M : Type 1} → statement M
-tested-spec = tie.close (tie.spec returns returns-2 returns-3 short-requires returns-4 returns-5)
+pub tested-totals-spec : {M : Type 1} → statement M
+tested-totals-spec = tie.close (tie.spec returns returns-2 returns-3 slices-short-requires returns-4 returns-5)

@@ -2,8 +2,8 @@
 use mathlib.Core.Bool.{or-false}
 use borrow.Author.Tests.{le-leb, lt-leb}
 use Rattle.fund.specs.Refusals.{short, anyShort}
-use Rattle.totals.proofs.tests.short.Statement.{statement}
-use Rattle.totals.proofs.tests.short.Tie as tie
+use Rattle.totals.proofs.tests.slices_short.Statement.{statement}
+use Rattle.totals.proofs.tests.slices_short.Tie as tie
 
 returns : tie.Need-returns
 unfolding short anyShort
@@ -38,5 +38,5 @@ returns-5 c =
       or-false,
     )
 
-pub short-spec : {M : Type 1} → statement M
-short-spec = tie.close (tie.spec returns returns-2 returns-3 returns-4 returns-5)
+pub slices-short-spec : {M : Type 1} → statement M
+slices-short-spec = tie.close (tie.spec returns returns-2 returns-3 returns-4 returns-5)
