@@ -36,7 +36,7 @@ fn add_small(s: Sums, d: i64, h: u64, f: i64, r: u64) -> Sums
     let size = whole::magnitude(d);
     let cell = whole::magnitude(f);
     let part = product_nearest(size, cell);
-    let bound = product_up(size, r) + product_up(h, cell + r);
+    let bound = product_up(size, r) + error_up(h, cell + r);
     whole::with_part(s, opposite(d, f), part, bound)
 }
 
@@ -46,6 +46,17 @@ fn product_up(a: u64, b: u64) -> u64
     ensures { λ r. ⌜ r ≡ up (a * b) (10 ^ 12) ⌝ }
 {
     (a * b + (rounding::UNIT - 1)) / rounding::UNIT
+}
+
+// The same for an H(k): most are 0, and form no product.
+fn error_up(a: u64, b: u64) -> u64
+    requires { ⌜ a * b ≤ 18000003 * 10 ^ 12 ⌝ }
+    ensures { λ r. ⌜ r ≡ up (a * b) (10 ^ 12) ⌝ }
+{
+    if a == 0 {
+        return 0;
+    }
+    product_up(a, b)
 }
 
 // a * b / 10^12, to the nearest: a in base 8 * 10^6, from its high part down.

@@ -65,16 +65,7 @@ fn steps(horizon: usize, d: &[i64], h: &[u64], f: &mut [i64], r: &mut [u64]) -> 
 {
     let mut list = [0usize; MOST_PLACES];
     let p = places::list_places(horizon, d, h, &mut list);
-    let count = p.count;
-    if p.small {
-        let small = Places { count, small: true };
-        return fill_cells(horizon, d, h, &list, small, f, r);
-    }
-    let wide = Places {
-        count,
-        small: false,
-    };
-    fill_cells(horizon, d, h, &list, wide, f, r)
+    fill_cells(horizon, d, h, &list, p, f, r)
 }
 
 // The same, where the places are listed.

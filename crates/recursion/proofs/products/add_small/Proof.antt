@@ -47,19 +47,19 @@ product-up-requires c κs =
     let h : c .before .before .magnitude .result ≤ most-small-size = omega (arith, size-is (c .before .before), p .1 .0) in
     omega (arith, N.mul-le-mul h (p .0 .cell-fits .narrow))
 
-add-product-up : tie.Need-add-product-up
-add-product-up c =
+add-error-up : tie.Need-add-error-up
+add-error-up c =
     let p = c .before .before .before .before .pre in
     omega (arith, level-is (c .before .before), p .0 .cell-fits .level, p .0 .cell-fits .narrow)
 
-product-up-requires-2 : tie.Need-product-up-requires-2
-product-up-requires-2 c κs =
+error-up-requires : tie.Need-error-up-requires
+error-up-requires c κs =
     let s = c .before .before .before .before in
     let p = s .pre in
     let h : c .before .before .magnitude2 .result + s .args .r ≤ most-cell + 250000 = omega (arith, level-is (c .before .before), p .0 .cell-fits .level, p .0 .cell-fits .narrow) in
     omega (arith, N.mul-le-mul (p .1 .1) h)
 
-parts : (c : tie.After-product-up2) → let s = c .before .before .before .before .before in Parts (entry s) (cell s) (c .before .before .product-nearest .result) (c .before .product-up .result) (c .product-up2 .result)
+parts : (c : tie.After-error-up) → let s = c .before .before .before .before .before in Parts (entry s) (cell s) (c .before .before .product-nearest .result) (c .before .product-up .result) (c .error-up .result)
 unfolding unit
 parts c =
     let s = c .before .before .before .before .before in
@@ -68,10 +68,10 @@ parts c =
     record {
       near-is = c .before .before .product-nearest .ensures ∙ ap₂ (λ a b. near (a * b) (10 ^ 12)) size level;
       D-is = c .before .product-up .ensures ∙ ap (λ a. up (a * s .args .r) (10 ^ 12)) size;
-      H-is = c .product-up2 .ensures ∙ ap (λ b. up (s .args .h * (b + s .args .r)) (10 ^ 12)) level;
+      H-is = c .error-up .ensures ∙ ap (λ b. up (s .args .h * (b + s .args .r)) (10 ^ 12)) level;
     }
 
-fits : (c : tie.After-product-up2) → Within (entry (c .before .before .before .before .before)) (c .before .before .product-nearest .result) (c .before .product-up .result) (c .product-up2 .result)
+fits : (c : tie.After-error-up) → Within (entry (c .before .before .before .before .before)) (c .before .before .product-nearest .result) (c .before .product-up .result) (c .error-up .result)
 fits c =
     let s = c .before .before .before .before .before in
     within (entry s) (cell s) (s .pre .0 .cell-fits) (s .pre .0 .error) _ _ _ (parts c)
@@ -87,7 +87,7 @@ opposite-requires c κs = search needs
 with-part-requires : tie.Need-with-part-requires
 with-part-requires c κs = search needs
 
-part-fits : (c : tie.After-opposite) → PartFits (c .before .before .before .before .before .before .args .s) (c .before .before .before .product-nearest .result) (c .before .before .product-up .result + c .before .product-up2 .result)
+part-fits : (c : tie.After-opposite) → PartFits (c .before .before .before .before .before .before .args .s) (c .before .before .before .product-nearest .result) (c .before .before .product-up .result + c .before .error-up .result)
 part-fits c =
     let w = fits (c .before) in
     let p = c .before .before .before .before .before .before .pre .0 in
@@ -112,8 +112,8 @@ add-small-spec =
     magnitude-requires-2
     product-nearest-requires
     product-up-requires
-    add-product-up
-    product-up-requires-2
+    add-error-up
+    error-up-requires
     add-bound
     opposite-requires
     with-part-requires

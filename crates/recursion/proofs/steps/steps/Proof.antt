@@ -1,34 +1,43 @@
 -- The places are listed, and the list has room for them.
-use Prim.Native.Nat.{ℕ, _≤_}
+use Prim.Native.Nat.{ℕ}
 use native.Mathlib.Omega.{arith}
 use borrow.Author.Needs.{needs}
-use lib.ListN.{length, length-replicate}
-use mathlib.Core.Bool.{true, false, true≢false}
-use mathlib.Core.Path.{sym}
+use lib.ListN.{length-replicate}
 use Rattle.recursion.proofs.steps.steps.Statement.{statement}
 use Rattle.recursion.proofs.steps.steps.Tie as tie
 
--- there are no more places than the list has room for
-room : (p : tie.After-list-places) → p .list-places .result .count ≤ length (p .list-places .last .1 .1 .1 .0)
-room p =
-    let s = p .before .before .before .before in
-    omega (arith, p .list-places .ensures .0 .few, s .pre .0 .horizon, p .list-places .kept .1 .1 .1 .0, length-replicate {A = ℕ} 4095 0)
+slice-aggregate-list-places : tie.Need-slice-aggregate-list-places
+slice-aggregate-list-places c = search needs
+
+list-places-requires : tie.Need-list-places-requires
+list-places-requires c κs = search needs
+
+slice-aggregate-fill-cells : tie.Need-slice-aggregate-fill-cells
+slice-aggregate-fill-cells c = search needs
 
 fill-cells-requires : tie.Need-fill-cells-requires
 fill-cells-requires c κs =
-    let p = c .before .before .before .before .before in
-    let s = p .before .before .before .before in
-    (s .pre .0, (s .pre .1, record { listed = p .list-places .ensures .0; room = room p; all-small = λ e. p .list-places .ensures .1 (c .before .before .before .if1 .taken) }))
+    let s = c .before .before .before .before .before .before .before .before in
+    let p = c .before .before .before .before .list-places in
+    (s .pre .0, (s .pre .1, record { listed = p .ensures .0; room = omega (arith, p .ensures .0 .few, s .pre .0 .horizon, p .kept .1 .1 .1 .0, length-replicate {A = ℕ} 4095 0); all-small = p .ensures .1 }))
 
-fill-cells-requires-2 : tie.Need-fill-cells-requires-2
-fill-cells-requires-2 c κs =
-    let p = c .before .before .before .before .before in
-    let s = p .before .before .before .before in
-    (s .pre .0, (s .pre .1, record { listed = p .list-places .ensures .0; room = room p; all-small = λ e. absurd (true≢false (sym e)) }))
+same-length : tie.Need-same-length
+same-length c = search needs
+
+same-length-2 : tie.Need-same-length-2
+same-length-2 c = search needs
+
+returns : tie.Need-returns
+returns c = search needs
 
 pub steps-spec : {M : Type 1} → statement M
 steps-spec =
     tie.close
-    (tie.spec (λ c. search needs) (λ c κs. search needs) (λ c. search needs) fill-cells-requires
-    (λ c. search needs) (λ c. search needs) (λ c. search needs) (λ c. search needs) fill-cells-requires-2
-    (λ c. search needs) (λ c. search needs) (λ c. search needs))
+    (tie.spec
+    slice-aggregate-list-places
+    list-places-requires
+    slice-aggregate-fill-cells
+    fill-cells-requires
+    same-length
+    same-length-2
+    returns)
