@@ -1,5 +1,5 @@
--- The refusals 7 to 10 from the numbers that they test: above a limit the refusal (valued-load, valued-order, valued-short,
--- valued-wide), within all of them acceptance (valued-accepted).
+-- The first of a table that meets a condition (first-none-of, first-some-of), and what is left of the refusals 7 to 10 where 7 to 9 have
+-- passed (valued-rest).
 use mathlib.Core.Path.{_≡_, refl, _∙_, ap}
 use mathlib.Core.Bool.{Bool, true, false}
 use mathlib.Core.List.{List}
@@ -9,8 +9,8 @@ use native.Mathlib.Omega.{arith}
 use borrow.Author.Tests.{lt-ltb, le-ltb}
 use Rattle.fund.specs.declared.Fund.{Fund}
 use Rattle.fund.specs.declared.Life.{Life}
-use Rattle.fund.specs.declared.Refusal.the-variants.{Load, Order, Short, Wide}
-use Rattle.fund.specs.declared.Verdict.the-variants.{Accepted, Refused}
+use Rattle.fund.specs.declared.Refusal.the-variants.{Wide}
+use Rattle.fund.specs.declared.Verdict.the-variants.{Accepted}
 use Rattle.fund.specs.Base.{if_then_else_, table}
 use Rattle.fund.specs.Limits.{most-load, most-truncation, most-bound}
 use Rattle.fund.specs.Transform.{load, truncation}
@@ -42,25 +42,11 @@ module _ {A : Type 0} (met : A → Bool) where
       ∙ ap some (let e : suc at + x ≡ at + suc x = omega arith in e)
 
 -- ---- the refusals
-module _ (fund : Fund) (ms : List Life) (n : Lengths) (cells : List Cell) where
-  pub valued-load : most-load < load (fund .frequency) ms → valued fund ms n cells ≡ Refused Load 0
-  unfolding valued refuse at0
-  valued-load h = rw (lt-ltb _ _ h)
-
-  module _ (l : load (fund .frequency) ms ≤ most-load) where
-    pub valued-order : most-truncation < truncation (fund .order) ms → valued fund ms n cells ≡ Refused Order 0
-    unfolding valued refuse at0
-    valued-order h = rw (le-ltb _ _ l, lt-ltb _ _ h)
-
-    module _ (t : truncation (fund .order) ms ≤ most-truncation) where
-      pub valued-short : short n (fund .horizon) ≡ true → valued fund ms n cells ≡ Refused Short 0
-      unfolding valued refuse at0
-      valued-short h = rw (le-ltb _ _ l, le-ltb _ _ t, h)
-
-      module _ (s : short n (fund .horizon) ≡ false) where
-        pub valued-rest : valued fund ms n cells ≡ refuse Wide (first wide 0 cells) Accepted
-        unfolding valued refuse at0
-        valued-rest = rw (le-ltb _ _ l, le-ltb _ _ t, s)
+-- what is left of 7 to 10 where 7, 8 and 9 have passed
+pub valued-rest : (fund : Fund) (ms : List Life) (n : Lengths) (cells : List Cell) → load (fund .frequency) ms ≤ most-load → truncation (fund .order) ms ≤ most-truncation → short n (fund .horizon) ≡ false →
+    valued fund ms n cells ≡ refuse Wide (first wide 0 cells) Accepted
+unfolding valued refuse at0
+valued-rest fund ms n cells l t s = rw (le-ltb _ _ l, le-ltb _ _ t, s)
 
 pub narrow-cell : (y : Cell) → y .R ≤ most-bound → wide y ≡ false
 unfolding wide
