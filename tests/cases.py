@@ -16,8 +16,7 @@ A stream is all cases in two files of one folder, for a program that reads them
 one after the other.  stdin has for each case its length as six decimal digits,
 a space, its level as thirteen decimal digits and a line feed, then its bytes.
 stdout has each listing, then `line=` and the part of the file that is handed
-back, `quantile=` and the place as four decimal digits or `none`, and an empty
-line.  The last cases of a stream are those of quantile_funds.py.
+back, then the line that the program `level` prints, and an empty line.  The last cases of a stream are those of quantile_funds.py.
 
 The programs `listing` and `overlong` of CRATES are one program, run on a full fund
 and on a file that is longer than what is read; `level` is asked at the level in its
@@ -103,12 +102,18 @@ def check(directory):
     return 0 if count and not bad else 1
 
 
-def answer_of(data, level):
+def level_line(data, level):
+    """The line of the answer at a level, as the program `level` prints it."""
     answer = pricing.price(data, level=level)
+    if answer.number:
+        return listing_of(data)
+    return b"quantile=none\n" if answer.quantile is None else b"quantile=%d\n" % answer.quantile
+
+
+def answer_of(data, level):
+    answer = pricing.price(data)
     part = data[answer.start:answer.start + answer.length]
-    quantile = b"none" if answer.quantile is None else b"%04d" % answer.quantile
-    return (pricing.listing(answer).encode("ascii") + b"line=" + part
-            + b"\nquantile=" + quantile + b"\n\n")
+    return listing_of(data) + b"line=" + part + b"\n" + level_line(data, level) + b"\n"
 
 
 def stream_of(pairs):
@@ -149,14 +154,6 @@ def check_stream(directory):
     same = stream_of(pairs) == stored
     print(f"{len(pairs)} cases, " + ("none differs" if same else "some differ"))
     return 0 if pairs and same else 1
-
-
-def level_line(data, level):
-    """What the program `level` prints."""
-    answer = pricing.price(data, level=level)
-    if answer.number:
-        return listing_of(data)
-    return b"quantile=none\n" if answer.quantile is None else b"quantile=%d\n" % answer.quantile
 
 
 def programs():

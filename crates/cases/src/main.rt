@@ -1,12 +1,9 @@
 // Prices the files on standard input, one after the other: for each its length as six digits, a space, a level as thirteen digits and a
-// line feed, then its bytes. Writes each listing, the line that the host is handed, the answer at the level, and an empty line.
-use fund::Fund;
-use fund::Quantile;
+// line feed, then its bytes. Writes each listing, the line that the host is handed, the line of the answer at the level, and an empty
+// line.
 use libc::STDIN_FILENO;
 use libc::STDOUT_FILENO;
 use printing::MOST_BYTES;
-
-const CELLS: usize = Fund::MOST_HORIZON as usize + 1;
 
 const HEAD: usize = 21;
 
@@ -43,61 +40,31 @@ fn write_listing(file: &[u8]) -> bool {
     io::write_all(STDOUT_FILENO, &text[..size])
 }
 
-// Writes the part that is handed back.
-fn write_part(part: &[u8]) -> bool {
+// Slices of one cell do for the line: the refusals that have one come before short.
+fn write_line(file: &[u8]) -> bool {
+    let mut transform = [0i64; 1];
+    let mut h = [0u64; 1];
+    let mut f = [0i64; 1];
+    let mut r = [0u64; 1];
+    let mut sums = [0i64; 1];
+    let priced = pricing::price(file, 0, &mut transform, &mut h, &mut f, &mut r, &mut sums);
     if !io::write_all(STDOUT_FILENO, b"line=") {
         return false;
     }
-    if !io::write_all(STDOUT_FILENO, part) {
+    if !io::write_all(STDOUT_FILENO, pricing::line(file, priced)) {
         return false;
     }
     io::write_all(STDOUT_FILENO, b"\n")
 }
 
-fn digit(n: u64) -> u8 {
-    b'0' + (n % 10) as u8
-}
-
-// Writes the answer at a level; a place has at most four digits.
-fn write_quantile(quantile: Quantile) -> bool {
-    let Quantile::At(x) = quantile else {
-        return io::write_all(STDOUT_FILENO, b"quantile=none\n\n");
-    };
-    if !io::write_all(STDOUT_FILENO, b"quantile=") {
+// Writes the line of the answer at a level, and an empty line.
+fn write_level(file: &[u8], level: u64) -> bool {
+    let mut text = [0u8; text::LEVEL_ROOM];
+    let size = printing::print_level(file, level, &mut text);
+    if !io::write_all(STDOUT_FILENO, &text[..size]) {
         return false;
     }
-    let digits = [
-        digit(x / 1000),
-        digit(x / 100),
-        digit(x / 10),
-        digit(x),
-        b'\n',
-        b'\n',
-    ];
-    io::write_all(STDOUT_FILENO, &digits)
-}
-
-// Writes the line that the host is handed and the answer at a level.
-fn write_answer(file: &[u8], level: u64) -> bool {
-    let mut transform = [0i64; CELLS];
-    let mut h = [0u64; CELLS];
-    let mut f = [0i64; CELLS];
-    let mut r = [0u64; CELLS];
-    let mut sums = [0i64; CELLS];
-    let priced = pricing::price(
-        file,
-        level,
-        &mut transform,
-        &mut h,
-        &mut f,
-        &mut r,
-        &mut sums,
-    );
-    if !write_part(pricing::line(file, priced)) {
-        return false;
-    }
-    let quantile = priced.quantile;
-    write_quantile(quantile)
+    io::write_all(STDOUT_FILENO, b"\n")
 }
 
 // The next file; whether there was one.
@@ -117,7 +84,10 @@ fn next_file(file: &mut [u8]) -> bool {
     if !write_listing(&file[..size]) {
         return false;
     }
-    write_answer(&file[..size], level)
+    if !write_line(&file[..size]) {
+        return false;
+    }
+    write_level(&file[..size], level)
 }
 
 fn main() {

@@ -11,8 +11,11 @@ slice-aggregate-read-full-2 c = sym (length-take-le _ _ (search needs))
 slice-aggregate-write-listing : tie.Need-slice-aggregate-write-listing
 slice-aggregate-write-listing c = sym (length-take-le _ _ (search needs))
 
-slice-aggregate-write-answer : tie.Need-slice-aggregate-write-answer
-slice-aggregate-write-answer c = sym (length-take-le _ _ (search needs))
+slice-aggregate-write-line : tie.Need-slice-aggregate-write-line
+slice-aggregate-write-line c = sym (length-take-le _ _ (search needs))
+
+slice-aggregate-write-level : tie.Need-slice-aggregate-write-level
+slice-aggregate-write-level c = sym (length-take-le _ _ (search needs))
 
 pub next-file-spec : {M : Type 1} → statement M
 next-file-spec =
@@ -22,5 +25,6 @@ next-file-spec =
     (λ c. search needs) (λ c. search needs) (λ c κs. search needs) (λ c. search needs)
     (λ c. search needs) slice-aggregate-read-full-2 (λ c κs. search needs) (λ c. search needs)
     (λ c. search needs) (λ c. search needs) slice-aggregate-write-listing (λ c κs. search needs)
-    (λ c. search needs) (λ c. search needs) (λ c. search needs) slice-aggregate-write-answer
-    (λ c κs. search needs) (λ c. search needs) (λ c. search needs))
+    (λ c. search needs) (λ c. search needs) (λ c. search needs) slice-aggregate-write-line
+    (λ c κs. search needs) (λ c. search needs) (λ c. search needs) (λ c. search needs)
+    slice-aggregate-write-level (λ c κs. search needs) (λ c. search needs) (λ c. search needs))
