@@ -1,3 +1,3 @@
 pub mod Texts
-mod Digits
+pub mod Digits
 mod Fields

@@ -5,7 +5,7 @@ use native.Mathlib.Numerals.{add-one}
 use native.Mathlib.Omega.{arith}
 use lib.ListN.{length, getD, drop}
 use Rattle.fund.specs.Spelling.{digits, valueFrom, value as valueOf}
-use Rattle.reader.proofs.Numbers.{digits-next, digits-below, digits-above, digits-end, value-next, value-end}
+use Rattle.spelling.proofs.Digits.{digits-next, digits-below, digits-above, digits-end, value-next, value-end}
 use Rattle.level.specs.declared.Argument.the-variants.{Level}
 use Rattle.level.proofs.Spelling.{level-none, level-misspelled, level-wide, level-value, value-least}
 use Rattle.level.proofs.level_of.Statement.{statement}
