@@ -482,12 +482,13 @@ def stream_checks():
     return [("stream: the files and levels are read back", cases.pairs_of(given) == pairs),
             ("stream: the same seed gives the same", cases.stream_pairs(60, 3) == pairs),
             ("stream: levels of up to thirteen digits", max(level for _, level in pairs) < 10 ** 13),
-            ("stream: a quantile for each", wanted.count(b"\nquantile=") == len(pairs)),
+            ("stream: a quantile for each that is accepted",
+             wanted.count(b"\nquantile=") == sum(pricing.price(data).number == 0 for data, _ in pairs)),
             ("stream: the first answer",
              cases.answer_of(document_funds.FIRST_FILE, 900000000001)
-             == document_funds.FIRST_LISTING.encode("ascii") + b"line=\nquantile=0001\n\n"),
+             == document_funds.FIRST_LISTING.encode("ascii") + b"line=\nquantile=1\n\n"),
             ("stream: a refusal", cases.answer_of(document_funds.HALF.data(), 0)
-             == b"refused=6,8\nline=member=40,1,1,0\nquantile=none\n\n")]
+             == b"refused=6,8\nline=member=40,1,1,0\nrefused=6,8\n\n")]
 
 
 def row_checks():
