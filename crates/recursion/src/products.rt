@@ -48,7 +48,7 @@ fn product_up(a: u64, b: u64) -> u64
     (a * b + (rounding::UNIT - 1)) / rounding::UNIT
 }
 
-// The same for an H(k): most are 0, and form no product.
+// The same for an H(k): where it is 0, no product is formed.
 fn error_up(a: u64, b: u64) -> u64
     requires { ⌜ a * b ≤ 18000003 * 10 ^ 12 ⌝ }
     ensures { λ r. ⌜ r ≡ up (a * b) (10 ^ 12) ⌝ }
