@@ -14,6 +14,7 @@ import cases
 import generate
 import pricing
 import quantile_funds
+import rate_funds
 
 FIGURES = "number place start length truncation mean premium within horizon reached quantile".split()
 
@@ -60,6 +61,7 @@ def calls(count, seed):
         yield case, tuple(rng.choice((longest, rng.randint(0, longest))) for _ in range(5))
     known = generate.limit_funds() + generate.damaged_files() + generate.large_funds(seed, 20)
     known += quantile_funds.cases(quantile_funds.ROWS + quantile_funds.MORE_ROWS)
+    known += rate_funds.cases() + generate.gap_funds(seed, 300)
     for case in known + list(heavy_funds(rng, 60)):
         yield case, case.lengths
 

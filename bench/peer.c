@@ -181,9 +181,13 @@ static int read_fund(struct reader *r, struct fund *fund) {
 
 // Refusals 5 and 6; `at` is the member.
 static int fold(struct fund *fund, size_t *at) {
+    // a row holds from its age until the next row's
     const struct rate *row[MOST_AGE + 1] = {0};
     for (size_t k = 0; k < fund->rate_rows; k++)
         row[fund->rate[k].age] = &fund->rate[k];
+    for (size_t age = 1; age <= MOST_AGE; age++)
+        if (!row[age])
+            row[age] = row[age - 1];
     for (*at = 0; *at < fund->member_rows; ++*at) {
         struct member *m = &fund->member[*at];
         const struct rate *rate = row[m->age];

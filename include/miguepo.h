@@ -34,7 +34,7 @@ enum miguepo_number {
     MIGUEPO_RANGE = 2,      /* a number, a row count, the age order, q + i or the end count breaks its limit; at a line */
     MIGUEPO_EDITION = 3,    /* the two editions differ */
     MIGUEPO_DEDUCTIBLE = 4, /* the deductible is above the horizon and one */
-    MIGUEPO_UNMATCHED = 5,  /* a member's age has no rate row; at a line */
+    MIGUEPO_UNMATCHED = 5,  /* a member's age is below the first rate row's, or there is none; at a line */
     MIGUEPO_HALF = 6,       /* a group 1 member's q + i is at least a half; at a line */
     MIGUEPO_LOAD = 7,       /* the load is above 8 x 10^12 units */
     MIGUEPO_ORDER = 8,      /* the truncation figure is above 10^8 units */

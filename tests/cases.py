@@ -16,7 +16,9 @@ A stream is all cases in two files of one folder, for a program that reads them
 one after the other.  stdin has for each case its length as six decimal digits,
 a space, its level as thirteen decimal digits and a line feed, then its bytes.
 stdout has each listing, then `line=` and the part of the file that is handed
-back, then the line that the program `level` prints, and an empty line.  The last cases of a stream are those of quantile_funds.py.
+back, then the line that the program `level` prints, and an empty line.  The last cases
+of a stream are those of quantile_funds.py and rate_funds.py, and funds with rates for
+some ages only.
 
 The programs `listing` and `overlong` of CRATES are one program, run on a full fund
 and on a file that is longer than what is read; `level` is asked at the level in its
@@ -32,11 +34,13 @@ import document_funds
 import generate
 import pricing
 import quantile_funds
+import rate_funds
 
 
 LONGEST = 65536      # what the program that reads a stream has room for
 MOST_LEVEL = 9999999999999      # thirteen digits
 HEAD = 21            # bytes before each file of a stream
+GAPS = 40            # funds with rates for some ages only
 
 
 def listing_of(data):
@@ -135,7 +139,7 @@ def pairs_of(stream):
 def stream_pairs(count, seed):
     rng = random.Random(seed)
     return [(case.data, generate.level_of(case, rng, pricing.price(case.data), MOST_LEVEL))
-            for case in chosen(count, seed) + quantile_funds.cases()
+            for case in chosen(count, seed) + quantile_funds.cases() + rate_funds.cases() + generate.gap_funds(seed, GAPS)
             if len(case.data) <= LONGEST]
 
 

@@ -55,6 +55,8 @@ FUNDS = {
               (40, 1, 0, 8), (35, 2, 0, 0))),
     "horizon 0, both groups": fund(0, 1, 1000, (QUARTER, TENTHS),
                                    ((40, 1, 1, 1), (30, 2, 1, 1))),
+    "rates for some ages, both groups, lambda 1/4":
+        fund(4, 2, 1000, (QUARTER, TENTHS), ((39, 2, 1, 0), (49, 1, 2, 1), (120, 1, 1, 3))),
 }
 
 

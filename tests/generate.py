@@ -204,6 +204,31 @@ def small_funds(seed, count):
     return cases
 
 
+def near_row(rng, ages):
+    """An age at a row, beside one, or anywhere."""
+    age = rng.choice((*ages, rng.choice(ages) - 1, rng.choice(ages) + 1, rng.randint(0, pricing.AGE_HIGH)))
+    return min(max(age, 0), pricing.AGE_HIGH)
+
+
+def gap_text(rng):
+    """A small fund whose members have any age, also where no row has it."""
+    text = random_text(rng, horizon=rng.randint(0, 8))
+    ages = [row[0] for row in text.rate_rows]
+    rows = [(near_row(rng, ages), *row[1:]) for row in text.member_rows]
+    # one fund in two has its first row at the least age of its members
+    if rows and rng.randrange(2):
+        least = min(row[0] for row in rows)
+        later = [row for row in text.rate_rows if row[0] > least]
+        text = replace(text, rate_rows=((least, *text.rate_rows[0][1:]), *later))
+    return replace(text, member_rows=tuple(rows))
+
+
+def gap_funds(seed, count):
+    """Funds with rates for some ages only; some members are below the first row."""
+    rng = random.Random(seed)
+    return [Case(f"gaps-{index}", gap_text(rng).data()) for index in range(count)]
+
+
 def large_funds(seed, count):
     """Many members and longer horizons; too large for the exact calculation."""
     rng = random.Random(seed)
@@ -597,7 +622,7 @@ def precedence_damage():
 def later_refusals():
     """Numbers 3 to 8 and 10, alone and where several conditions are met."""
     half = ((30, 250000, 250000), (40, 499999, 0), (50, 500000, 500000))
-    one, two, none = (30, 1, 1, 1), (50, 2, 1, 1), (31, 2, 0, 0)
+    one, two, none = (30, 1, 1, 1), (50, 2, 1, 1), (29, 2, 0, 0)
 
     def made(**changes):
         return replace(GOOD, **{"rate_rows": half, "frequency": 4000, "order": 12,
@@ -609,9 +634,9 @@ def later_refusals():
     yield "deductible-4", made(deductible=7, member_rows=(none,)), refused(4)
     yield "deductible-4-top", made(horizon=4094, deductible=4096), refused(4)
     yield ("unmatched-5-after-half", made(member_rows=(one, none)),
-           refused(5, 11, b"member=31,2,0,0"))
-    yield ("unmatched-5-first-of-two", made(member_rows=(two, none, (120, 1, 1, 1))),
-           refused(5, 11, b"member=31,2,0,0"))
+           refused(5, 11, b"member=29,2,0,0"))
+    yield ("unmatched-5-first-of-two", made(member_rows=(two, none, (0, 1, 1, 1))),
+           refused(5, 11, b"member=29,2,0,0"))
     yield ("unmatched-5-frequency-0", made(frequency=0, member_rows=((0, 2, 5, 5),)),
            refused(5, 10, b"member=0,2,5,5"))
     yield ("unmatched-5-no-rates", made(rate_rows=(), member_rows=((0, 1, 0, 0),)),

@@ -3,7 +3,7 @@
     python3 tests/library.py N SEED
 
 Builds the library (rt, cc) and prices N files by both: whole funds, funds at
-each limit, cut and damaged ones, each with a level.  The five result slices have
+each limit, funds with rates for some ages, cut and damaged ones, each with a level.  The five result slices have
 lengths from 0 on and are filled with other numbers before the call; behind each
 stand cells that must stay as they are.  Every figure, the place, the line, the
 quantile and every cell are compared.
@@ -19,6 +19,7 @@ import document_funds
 import generate
 import pricing
 import quantile_funds
+import rate_funds
 
 ROOT = Path(__file__).resolve().parent.parent
 BEHIND = 3               # cells behind each slice
@@ -89,13 +90,14 @@ def cases(count, seed):
     rng = random.Random(seed)
     known = quantile_funds.cases(quantile_funds.ROWS + quantile_funds.MORE_ROWS)
     known += [generate.Case(name, text.data()) for name, text in document_funds.FUNDS.items()]
-    known += generate.limit_funds() + generate.damaged_files()
+    known += rate_funds.cases() + generate.limit_funds() + generate.damaged_files()
     for case in known[:count]:
         yield case.data, case.lengths, generate.level_of(case, rng, pricing.price(case.data))
     rest = max(0, count - len(known))
-    small = generate.small_funds(seed, rest * 3 // 4)
-    damaged = generate.random_damage(seed, rest - rest * 3 // 4)
-    for case in small + damaged:
+    small = generate.small_funds(seed, rest // 2)
+    gaps = generate.gap_funds(seed, rest // 4)
+    damaged = generate.random_damage(seed, rest - len(small) - len(gaps))
+    for case in small + gaps + damaged:
         answer = pricing.price(case.data)
         yield case.data, random_lengths(rng, answer.horizon), generate.level_of(case, rng, answer)
 

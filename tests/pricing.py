@@ -229,14 +229,24 @@ def fold(member, q, i):
                   q if member.d else 0, i if member.e else 0)
 
 
+def rate_in_force(rate_rows, age):
+    """A row holds from its age until the next row's age; None below the first row."""
+    in_force = None
+    for row_age, q, i in rate_rows:
+        if row_age > age:
+            break
+        in_force = q, i
+    return in_force
+
+
 def match_and_fold(fund):
     """Every member with its folded rates, in file order; refusal 5."""
-    rows = {age: (q, i) for age, q, i in fund.rate_rows}
     members = []
     for member in fund.member_rows:
-        if member.age not in rows:
+        rate = rate_in_force(fund.rate_rows, member.age)
+        if rate is None:
             raise member.line.refusal(UNMATCHED)
-        members.append(fold(member, *rows[member.age]))
+        members.append(fold(member, *rate))
     return members
 
 

@@ -23,6 +23,7 @@ import formulas
 import generate
 import pricing
 import quantile_funds
+import rate_funds
 
 SHORT_SLICES = (26, 25, 27, 25, 28)     # the small funds have X up to 24
 
@@ -370,6 +371,32 @@ def level_0_at_0(F, level):
     return right_quantile(F, level) if level else 0
 
 
+def row_of_a_lower_age(rate_rows, age):
+    """A row that holds only above its age."""
+    return right_rate_in_force([row for row in rate_rows if row[0] < age], age)
+
+
+def next_row(rate_rows, age):
+    """A row that holds up to its age."""
+    return min(((row[0], row[1:]) for row in rate_rows if row[0] >= age), default=(0, None))[1]
+
+
+def first_row(rate_rows, age):
+    return right_rate_in_force(rate_rows[:1], age)
+
+
+def until_the_last_row(rate_rows, age):
+    return right_rate_in_force(rate_rows, age) if rate_rows and age <= rate_rows[-1][0] else None
+
+
+def from_age_0(rate_rows, age):
+    return right_rate_in_force(rate_rows, max(age, rate_rows[0][0])) if rate_rows else None
+
+
+def none_is_zero(rate_rows, age):
+    return right_rate_in_force(rate_rows, age) or (0, 0)
+
+
 def half_before_folding(member, q, i):
     if member.group == 1 and q + i >= pricing.HALF:
         raise member.line.refusal(pricing.TOO_HALF)
@@ -385,6 +412,7 @@ right_refused = pricing.refused
 right_check_short = pricing.check_short
 right_running_sums = pricing.running_sums
 right_quantile = pricing.quantile
+right_rate_in_force = pricing.rate_in_force
 
 MUTATIONS = (
     ("negative halves up", "nearest", negative_halves_up),
@@ -415,6 +443,13 @@ MUTATIONS = (
     ("running sums without f(x)", "running_sums", sums_without_own),
     ("the slice for F not counted under short", "check_short", first_four_only),
     ("a quantile after a refusal", "refused", quantile_left),
+    ("a rate for the row's own age only", "rate_in_force", rate_funds.by_age_alone),
+    ("a rate not yet at the row's age", "rate_in_force", row_of_a_lower_age),
+    ("the rate of the next row", "rate_in_force", next_row),
+    ("the rate of the first row", "rate_in_force", first_row),
+    ("no rate above the last row", "rate_in_force", until_the_last_row),
+    ("the first row's rate below its age", "rate_in_force", from_age_0),
+    ("rates of 0 where none is in force", "rate_in_force", none_is_zero),
 )
 
 
@@ -431,6 +466,7 @@ def noticed(small, limits, damaged):
         "expected": failures(expected_checks(limits + damaged)),
         "answers": failures(answer_checks(limits)),
         "quantiles": failures(quantile_funds.checks()),
+        "rates": failures(rate_funds.checks()),
     }
 
 
@@ -546,6 +582,9 @@ def sections():
     yield "answers", answer_checks(small + limits + damaged + changed + any_bytes)
     yield "second reader", reading_checks(limits + damaged + changed + any_bytes)
     yield "quantiles", quantile_funds.checks() + answer_checks(quantile_funds.cases())
+    gaps = with_slices(generate.gap_funds(2, 240), SHORT_SLICES)
+    yield "rates for some ages", (rate_funds.checks() + answer_checks(rate_funds.cases() + gaps)
+                                  + distance_checks(rate_funds.cases() + gaps) + formula_checks(gaps[::4]))
     yield "larger funds", large_checks(generate.large_funds(9, 6))
     yield "stored cases", case_tool_checks() + stream_checks()
     yield "exact rows", row_checks()

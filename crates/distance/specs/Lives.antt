@@ -17,7 +17,7 @@ use Rattle.fund.specs.declared.Member.{Member as MemberRow}
 use Rattle.fund.specs.declared.Life.{Life}
 use Rattle.fund.specs.Base.{if_then_else_}
 use Rattle.fund.specs.Reading.{FundFile}
-use Rattle.fund.specs.Folding.{rateAt, folded, life, lives, claim, stay, single}
+use Rattle.fund.specs.Folding.{rateInForce, folded, life, lives, claim, stay, single}
 use Rattle.fund.specs.Transform.{unit, w, lambda}
 use Rattle.fund.specs.Exact.{weightAt}
 use Rattle.laws.specs.Accepted.{All, Limited}
@@ -59,7 +59,7 @@ all-folded file = go (file .members)
   where
     go : (l : List MemberRow) → All FoldedLife (map (life (file .rates)) l)
     go [] = tt
-    go (m ∷ rest) = (folded-life (rateAt (file .rates) (m .age)) m, go rest)
+    go (m ∷ rest) = (folded-life (rateInForce (file .rates) (m .age)) m, go rest)
 
 -- a group 1 life that is accepted
 pub limited-folded : (m : Life) → Limited m → FoldedLife m → single m ≡ true → Folded (m .q) (m .i) (stay m) 1000000 (m .d) (m .e)

@@ -1,23 +1,26 @@
--- From member rows to lives: the rate at an age, and folding.
+-- From member rows to lives: the rate in force at an age, and folding.
 use mathlib.Core.Bool.{Bool}
 use mathlib.Core.List.{List, [], _∷_, map}
 use mathlib.Core.Option.{Option, none, some}
 use Prim.Native.Nat.{ℕ, _+_, _-_}
-use lib.Dec.{eqb}
+use lib.Dec.{eqb, leb}
 use Rattle.fund.specs.declared.Rate.{Rate}
 use Rattle.fund.specs.declared.Member.{Member}
 use Rattle.fund.specs.declared.Life.{Life}
 use Rattle.fund.specs.Base.{if_then_else_}
 use Rattle.fund.specs.Reading.{FundFile}
 
--- The rate row of an age.
-unfoldable pub rateAt : List Rate → ℕ → Option Rate
-rateAt [] age = none
-rateAt (r ∷ rs) age =
-    let after = rateAt rs age in
-    if eqb (r .age) age then some r else after
+-- Document 02, §2: "A rate row now holds from its age until the next row's age." The row in force at an age is the last whose age is not
+-- above it.
+unfoldable pub rateInForce : List Rate → ℕ → Option Rate
+rateInForce [] age = none
+rateInForce (r ∷ rs) age =
+    elim (rateInForce rs age) [
+      | some later ↦ some later
+      | none ↦ if leb (r .age) age then some r else none
+    ]
 
--- "If d = 0, q counts as 0; if e = 0, i counts as 0." Where no row has the age, both are 0.
+-- "If d = 0, q counts as 0; if e = 0, i counts as 0." Where no rate is in force, both are 0.
 unfoldable pub folded : Option Rate → Member → Life
 folded none m = record { group = m .group; q = 0; i = 0; d = m .d; e = m .e }
 folded (some r) m =
@@ -30,7 +33,7 @@ folded (some r) m =
     }
 
 unfoldable pub life : List Rate → Member → Life
-life rates m = folded (rateAt rates (m .age)) m
+life rates m = folded (rateInForce rates (m .age)) m
 
 unfoldable pub lives : FundFile → List Life
 lives file = map (life (file .rates)) (file .members)

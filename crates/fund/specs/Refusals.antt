@@ -16,7 +16,7 @@ use Rattle.fund.specs.declared.Verdict.the-variants.{Accepted, Refused}
 use Rattle.fund.specs.Limits.{half-rate, most-load, most-truncation, most-bound}
 use Rattle.fund.specs.Base.{if_then_else_}
 use Rattle.fund.specs.Reading.{FundFile, headerLines}
-use Rattle.fund.specs.Folding.{rateAt, lives, claim, single}
+use Rattle.fund.specs.Folding.{rateInForce, lives, claim, single}
 use Rattle.fund.specs.Transform.{load, truncation}
 use Rattle.fund.specs.Recursion.{Cell}
 
@@ -48,9 +48,9 @@ first met at (a ∷ rest) =
     let after = first met (suc at) rest in
     if met a then some at else after
 
--- 5: "a member's age has no rate row"
+-- 5: document 02, §2: "left only for an age below the first row, or an empty rate table", where no rate is in force.
 unfoldable pub unmatched : List Rate → Member → Bool
-unmatched rates m = elim (rateAt rates (m .age)) [ none ↦ true | some r ↦ false ]
+unmatched rates m = elim (rateInForce rates (m .age)) [ none ↦ true | some r ↦ false ]
 
 -- 6: "group 1, q + i at least 500,000 after folding"
 unfoldable pub half : Life → Bool

@@ -1,5 +1,6 @@
 -- Document 01's starred funds: each file with what the program prints for it, and the bounds R(0), R(1), .. that the
--- document states, whether or not the fund is accepted.
+-- document states, whether or not the fund is accepted. Then rows for wrong turns that these funds would not show, and rows for rates that are
+-- printed for some ages only.
 use mathlib.Core.List.{List, [], _∷_, _++_, map}
 use Prim.Native.Nat.{ℕ}
 use Prim.Native.String.{String}
@@ -21,6 +22,17 @@ file horizon order deductible rows = text ("rates=2030" ∷ "members=2030" ∷ h
 
 abbrev pub oneMember : List String
 oneMember = "rate=40,100000,0" ∷ "member=40,1,1,0" ∷ "end=1" ∷ []
+
+abbrev pub oneMemberListing : List String
+oneMemberListing =
+    "truncation=42866942"
+    ∷ "mean=100000000000"
+    ∷ "cell=0,900000000000,85733885"
+    ∷ "cell=1,100000000000,85733887"
+    ∷ "cell=2,0,85733888"
+    ∷ "premium=0"
+    ∷ "within=171467773"
+    ∷ []
 
 -- Eight group 2 members with q = 1,000,000, i = 0, d = 1, and what follows them.
 unfoldable pub eight : List String → List String
@@ -49,16 +61,7 @@ starred =
     -- The fund of the listing; order 2: refused 8.
     record {
       file = file "horizon=2" "order=3" "deductible=2" oneMember;
-      listing =
-          text
-          ("truncation=42866942"
-          ∷ "mean=100000000000"
-          ∷ "cell=0,900000000000,85733885"
-          ∷ "cell=1,100000000000,85733887"
-          ∷ "cell=2,0,85733888"
-          ∷ "premium=0"
-          ∷ "within=171467773"
-          ∷ []);
+      listing = text oneMemberListing;
       bounds = 1 ∷ 3 ∷ 4 ∷ [];
     }
     ∷ record { file = file "horizon=2" "order=2" "deductible=2" oneMember; listing = text ("refused=8,0" ∷ []); bounds = [] }
@@ -158,5 +161,36 @@ wrongTurns =
       file = file "horizon=4" "order=1" "deductible=1" ("rate=40,1000000,0" ∷ "member=40,2,2,0" ∷ "member=40,2,2,0" ∷ "member=40,2,2,0" ∷ "end=3" ∷ []);
       listing = text ("truncation=0" ∷ "mean=6000000000000" ∷ "cell=0,49787068368,135" ∷ "cell=1,0,1" ∷ "cell=2,149361205104,406" ∷ "cell=3,0,3" ∷ "cell=4,224041807656,610" ∷ "premium=5049787068368" ∷ "within=135" ∷ []);
       bounds = 135 ∷ 1 ∷ 406 ∷ 3 ∷ 610 ∷ [];
+    }
+    ∷ []
+
+-- Document 02, §2: the first fund with other rate rows and another age, whose rate in force is that of the first fund.
+unfoldable pub inForce : List String → StarredRow
+inForce rows = record { file = file "horizon=2" "order=3" "deductible=2" rows; listing = text oneMemberListing; bounds = 1 ∷ 3 ∷ 4 ∷ [] }
+
+unfoldable pub someAges : List StarredRow
+someAges =
+    -- A row holds from its age, and no longer the row before it; until the next row's age; the last row to 120, also where it stands at 120.
+    inForce ("rate=30,0,0" ∷ "rate=40,100000,0" ∷ "rate=50,0,0" ∷ "member=40,1,1,0" ∷ "end=1" ∷ [])
+    ∷ inForce ("rate=30,0,0" ∷ "rate=40,100000,0" ∷ "rate=50,0,0" ∷ "member=49,1,1,0" ∷ "end=1" ∷ [])
+    ∷ inForce ("rate=30,0,0" ∷ "rate=40,100000,0" ∷ "member=120,1,1,0" ∷ "end=1" ∷ [])
+    ∷ inForce ("rate=119,0,0" ∷ "rate=120,100000,0" ∷ "member=120,1,1,0" ∷ "end=1" ∷ [])
+    ∷ inForce ("rate=0,100000,0" ∷ "rate=120,0,0" ∷ "member=119,1,1,0" ∷ "end=1" ∷ [])
+    -- Unmatched: an age below the first row, an empty table.
+    ∷ record {
+      file = file "horizon=2" "order=3" "deductible=2" ("rate=40,100000,0" ∷ "member=40,1,1,0" ∷ "member=39,1,1,0" ∷ "end=2" ∷ []);
+      listing = text ("refused=5,9" ∷ []);
+      bounds = [];
+    }
+    ∷ record {
+      file = file "horizon=2" "order=3" "deductible=2" ("member=120,1,1,0" ∷ "end=1" ∷ []);
+      listing = text ("refused=5,7" ∷ []);
+      bounds = [];
+    }
+    -- Half by the rate in force.
+    ∷ record {
+      file = file "horizon=2" "order=3" "deductible=2" ("rate=30,500000,0" ∷ "rate=50,100000,0" ∷ "member=49,1,1,0" ∷ "end=1" ∷ []);
+      listing = text ("refused=6,9" ∷ []);
+      bounds = [];
     }
     ∷ []

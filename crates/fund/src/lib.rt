@@ -17,7 +17,7 @@ pub struct Fund {
     pub deductible: u64,
 }
 
-// A rate line: the death rate q and the disability rate i at an age, in millionths.
+// A rate line: the death rate q and the disability rate i from an age on, until the next row's age, in millionths.
 pub struct Rate {
     pub age: u64,
     pub q: u64,
@@ -32,7 +32,7 @@ pub struct Member {
     pub e: u64,
 }
 
-// A member with the folded rates of its age.
+// A member with the folded rates in force at its age.
 pub struct Life {
     pub group: u64,
     pub q: u64,

@@ -10,3 +10,9 @@ pub mod Slices
 pub mod Tells
 pub mod Numbers
 pub mod Rows
+pub mod InForce
+pub mod SameRates
+pub mod OwnRows
+pub mod Texts
+pub mod FewerRows
+pub mod LeftOut

@@ -1,5 +1,5 @@
 -- What holds of every fund that is read: the header's figures are in their ranges, and so are all rate rows and member rows and
--- their numbers (read-ranges).
+-- their numbers; the ages of the rate rows rise (read-ranges).
 use mathlib.Core.Path.{_≡_, refl, sym, _∙_, ap, subst}
 use mathlib.Core.Bool.{Bool, true, false, _&&_}
 use mathlib.Core.List.{List, [], _∷_, _++_, map, append-nil, append-assoc}
@@ -20,6 +20,7 @@ use Rattle.fund.specs.Lines.{Line, lines}
 use Rattle.fund.specs.Spelling.{value, fields, allNumbers, numbers, behind, spelled}
 use Rattle.fund.specs.Reading.{FundFile, Reading, read, stopped, between, NumberRange, inRanges, HeaderLine, headerLines, headerOf, Row, rateRow, memberRow, endRow, otherRow, rowOf, rising, rateInRange, memberInRange, noMember, atEnd, readRows, readHeader, reading}
 use Rattle.laws.specs.Accepted.{All}
+use Rattle.laws.specs.InForce.{Rising}
 
 pub record RateOk (r : Rate) : Type 0 where
   pub age : r .age ≤ most-age
@@ -36,6 +37,7 @@ pub record MemberOk (m : Member) : Type 0 where
 
 pub record RowsOk (rs : List Rate) (ms : List Member) : Type 0 where
   pub rates : All RateOk rs
+  pub rates-rise : Rising rs
   pub members : All MemberOk ms
   pub few-rates : length rs ≤ most-rates
   pub few-members : length ms ≤ most-members
@@ -53,7 +55,20 @@ all-snoc : {A : Type 0} (P : A → Type 0) (l : List A) (a : A) → All P l → 
 all-snoc P [] a h k = (k, tt)
 all-snoc P (b ∷ l) a h k = (h .0, all-snoc P l a (h .1) k)
 
-rate-ok : (before : List Rate) (r : Rate) → rateInRange before r ≡ true → (length before < most-rates) × RateOk r
+-- above the row before, and so above all rows before
+pub above-all : (before : List Rate) (age : ℕ) → Rising before → rising before age ≡ true → All (λ (s : Rate). s .age < age) before
+unfolding rising
+above-all [] age k e = tt
+above-all (r ∷ []) age k e = (ltb-true (r .age) age e, tt)
+above-all (r ∷ s ∷ rs) age k e =
+    let later = above-all (s ∷ rs) age (k .1) e in
+    (omega (arith, k .0 .0, later .0), later)
+
+pub rising-more : (rs : List Rate) (r : Rate) → Rising rs → All (λ (s : Rate). s .age < r .age) rs → Rising (rs ++ (r ∷ []))
+rising-more [] r k h = (tt, tt)
+rising-more (s ∷ rs) r k h = (all-snoc (λ t. s .age < t .age) rs r (k .0) (h .0), rising-more rs r (k .1) (h .1))
+
+rate-ok : (before : List Rate) (r : Rate) → rateInRange before r ≡ true → (length before < most-rates) × ((rising before (r .age) ≡ true) × RateOk r)
 unfolding rateInRange
 rate-ok before r e =
     let h5 = and-true _ (leb (r .q + r .i) most-rate) e in
@@ -62,8 +77,11 @@ rate-ok before r e =
     let h2 = and-true _ (rising before (r .age)) (h3 .0) in
     let h1 = and-true (ltb (length before) most-rates) (leb (r .age) most-age) (h2 .0) in (
       ltb-true _ _ (h1 .0),
-      record { age = leb-true _ _ (h1 .1); q = leb-true _ _ (h3 .1); i = leb-true _ _ (h4 .1); both = leb-true _ _ (h5 .1) },
+      (h2 .1, record { age = leb-true _ _ (h1 .1); q = leb-true _ _ (h3 .1); i = leb-true _ _ (h4 .1); both = leb-true _ _ (h5 .1) }),
     )
+
+pub rate-rises : (before : List Rate) (r : Rate) → rateInRange before r ≡ true → rising before (r .age) ≡ true
+rate-rises before r e = rate-ok before r e .1 .0
 
 member-ok : (before : List Member) (m : Member) → memberInRange before m ≡ true → (length before < most-members) × MemberOk m
 unfolding memberInRange
@@ -82,7 +100,7 @@ pub record Reads (header : Fund) (fund : FundFile) : Type 0 where
   pub header-is : fund .header ≡ header
   pub rows : RowsOk (fund .rates) (fund .members)
 
-never : (why : Refusal) (n : ℕ) (fund : FundFile) → stopped why n ≡ read fund → ⊥
+pub never : (why : Refusal) (n : ℕ) (fund : FundFile) → stopped why n ≡ read fund → ⊥
 never why n fund e = let z : _≡_ {A = ℕ} 0 1 = cc in omega arith
 
 more-rates : (rates : List Rate) (members : List Member) (r : Rate) → RowsOk rates members → rateInRange rates r ≡ true → RowsOk (rates ++ (r ∷ [])) members
@@ -90,7 +108,8 @@ more-rates rates members r k e =
     let h = rate-ok rates r e in
     let l : length rates < most-rates = h .0 in
     record {
-      rates = all-snoc RateOk rates r (k .rates) (h .1);
+      rates = all-snoc RateOk rates r (k .rates) (h .1 .1);
+      rates-rise = rising-more rates r (k .rates-rise) (above-all rates (r .age) (k .rates-rise) (h .1 .0));
       members = k .members;
       few-rates = omega (arith, length-append rates (r ∷ []));
       few-members = k .few-members;
@@ -102,6 +121,7 @@ more-members rates members m k e =
     let l : length members < most-members = h .0 in
     record {
       rates = k .rates;
+      rates-rise = k .rates-rise;
       members = all-snoc MemberOk members m (k .members) (h .1);
       few-rates = k .few-rates;
       few-members = omega (arith, length-append members (m ∷ []));
@@ -117,9 +137,14 @@ ended n header rates members [] fund k e =
 ended n header rates members (l ∷ ls) fund k e = absurd (never Form n fund e)
 
 -- reading stops unless a test passes
-pass : (b : Bool) (why : Refusal) (n : ℕ) (next : Reading) (fund : FundFile) → elim b [ false ↦ stopped why n | true ↦ next ] ≡ read fund → (b ≡ true) × (next ≡ read fund)
+pub pass : (b : Bool) (why : Refusal) (n : ℕ) (next : Reading) (fund : FundFile) → elim b [ false ↦ stopped why n | true ↦ next ] ≡ read fund → (b ≡ true) × (next ≡ read fund)
 pass true why n next fund e = (refl, e)
 pass false why n next fund e = absurd (never why n fund e)
+
+-- what follows a test that reading must pass
+pub on-pass : (t : Bool) (stop x y : Reading) → (t ≡ true → x ≡ y) → _≡_ {A = Reading} (elim t [ false ↦ stop | true ↦ x ]) (elim t [ false ↦ stop | true ↦ y ])
+on-pass true stop x y h = h refl
+on-pass false stop x y h = refl
 
 pub rows-ranges : (ls : List Line) (n : ℕ) (header : Fund) (rates : List Rate) (members : List Member) (fund : FundFile) → RowsOk rates members →
     readRows n header rates members ls ≡ read fund → Reads header fund
@@ -203,7 +228,7 @@ pub record ReadsHeader (hs : List HeaderLine) (ns : List ℕ) (fund : FundFile) 
 header-ranges : (hs : List HeaderLine) (n : ℕ) (ns : List ℕ) (ls : List Line) (fund : FundFile) → readHeader hs n ns ls ≡ read fund → ReadsHeader hs ns fund
 unfolding readHeader
 header-ranges [] n ns ls fund e =
-    record { values = []; values-within = tt; reads = rw append-nil (rows-ranges ls n (headerOf ns) [] [] fund (record { rates = tt; members = tt; few-rates = omega arith; few-members = omega arith }) e) }
+    record { values = []; values-within = tt; reads = rw append-nil (rows-ranges ls n (headerOf ns) [] [] fund (record { rates = tt; rates-rise = tt; members = tt; few-rates = omega arith; few-members = omega arith }) e) }
 header-ranges (h ∷ hs) n ns [] fund e = absurd (never Form n fund e)
 header-ranges (h ∷ hs) n ns (l ∷ ls) fund e = go (spelled (h .key) (length (h .ranges)) l) refl e (λ ms. header-ranges hs (suc n) ms ls fund)
   where

@@ -1,5 +1,5 @@
--- Where the matching stands: the lives of the first k members are there, with the place of the first of refusal 6, and the member k
--- has no rate among the first j rows.
+-- Where the matching stands: the lives of the first k members are there, with the place of the first of refusal 6, and the rate in force
+-- at the member k's age is that among the first j rows.
 use mathlib.Core.Path.{_≡_, refl, sym, _∙_, ap}
 use mathlib.Core.Bool.{true, false}
 use mathlib.Core.List.{List, [], _∷_, _++_, map, map-append}
@@ -17,13 +17,13 @@ use Rattle.fund.specs.declared.Refusal.the-variants.{Unmatched, Half}
 use Rattle.fund.specs.declared.Verdict.the-variants.{Accepted, Refused}
 use Rattle.fund.specs.Base.{if_then_else_}
 use Rattle.fund.specs.Limits.{most-members}
-use Rattle.fund.specs.Folding.{rateAt, folded, life}
+use Rattle.fund.specs.Folding.{rateInForce, folded, life}
 use Rattle.fund.specs.Refusals.{first, unmatched, half, refuse}
 use Rattle.laws.specs.Rows.{blankRate, blankMember, blankLife, rows-length, rows-put}
 use Rattle.matching.specs.declared.table.Matched.{Matched}
 use Rattle.matching.specs.Matching.{lifeTable, withLives}
 use Rattle.matching.specs.Lives.{byMember}
-use Rattle.matching.proofs.Searching.{first-here, first-later, first-none, placed, placed-above, first-placed, rate-here, rate-later, rate-none}
+use Rattle.matching.proofs.Searching.{first-here, first-later, first-none, placed, placed-above, first-placed, rate-here, rate-before}
 
 pub record LivesSoFar (rates : List Rate) (rated : ℕ) (members : List Member) (enrolled line : ℕ) (lives : List Life) (p k j : ℕ) : Type 0 where
   pub members-within : k ≤ enrolled
@@ -31,10 +31,10 @@ pub record LivesSoFar (rates : List Rate) (rated : ℕ) (members : List Member) 
   pub lives-are : lives ≡ lifeTable (map (life (take rated rates)) (take k members))
   pub half-at : first half line (map (life (take rated rates)) (take k members)) ≡ placed p
   pub all-matched : first (unmatched (take rated rates)) line (take enrolled members) ≡ first (unmatched (take rated rates)) (line + k) (drop k (take enrolled members))
-  pub no-rate-yet : rateAt (take rated rates) (getD members k blankMember .age) ≡ rateAt (drop j (take rated rates)) (getD members k blankMember .age)
+  pub rate-among : rateInForce (take rated rates) (getD members k blankMember .age) ≡ rateInForce (take j rates) (getD members k blankMember .age)
 
 module _ (rates : List Rate) (rated : ℕ) (members : List Member) (enrolled line : ℕ) where
-  pub start : LivesSoFar rates rated members enrolled line (lifeTable []) 0 0 0
+  pub start : LivesSoFar rates rated members enrolled line (lifeTable []) 0 0 rated
   unfolding first
   start =
       let z : line ≡ line + 0 = omega arith in
@@ -44,7 +44,7 @@ module _ (rates : List Rate) (rated : ℕ) (members : List Member) (enrolled lin
         lives-are = refl;
         half-at = refl;
         all-matched = ap (λ n. first (unmatched (take rated rates)) n (take enrolled members)) z;
-        no-rate-yet = refl;
+        rate-among = refl;
       }
 
   module _ (few-rates : rated ≤ length rates) (few-members : enrolled ≤ length members) (long : length members ≡ most-members) (lives : List Life) (p k j : ℕ) (s : LivesSoFar rates rated members enrolled line lives p k j) where
@@ -58,30 +58,37 @@ module _ (rates : List Rate) (rated : ℕ) (members : List Member) (enrolled lin
         ∙ rows-length blankLife most-members (map (life (take rated rates)) (take k members)) (omega (arith, so-far, s .members-within))
 
     module _ (member-left : k < enrolled) where
-      -- all rate rows were compared with the member k
-      pub no-rate : rated ≤ j → (r : Matched) → r ≡ withLives [] (Refused Unmatched (line + k)) → r ≡ byMember (take rated rates) (take enrolled members) line
-      unfolding byMember unmatched refuse withLives
+      -- every rate row is above the member k's age
+      pub no-rate : j ≡ 0 → (r : Matched) → r ≡ withLives [] (Refused Unmatched (line + k)) → r ≡ byMember (take rated rates) (take enrolled members) line
+      unfolding byMember unmatched refuse withLives rateInForce
       no-rate h r e =
-          let n : rateAt (take rated rates) (getD members k blankMember .age) ≡ none = s .no-rate-yet ∙ rate-none rates rated few-rates (getD members k blankMember .age) j h in
+          let n : rateInForce (take rated rates) (getD members k blankMember .age) ≡ none = s .rate-among ∙ rw h in
           let u : unmatched (take rated rates) (getD members k blankMember) ≡ true = rw (n, unmatched) in
           e ∙ rw (s .all-matched ∙ first-here members enrolled few-members blankMember (unmatched (take rated rates)) line k member-left u)
 
-      module _ (rate-left : j < rated) where
-        pub other-rate : (getD rates j blankRate .age ≡ getD members k blankMember .age → ⊥) → LivesSoFar rates rated members enrolled line lives p k (j + 1)
-        other-rate d =
+      -- the row before j is above the member k's age, or in force there
+      module _ (i : ℕ) (row-left : j ≡ i + 1) where
+        last-among : rateInForce (take rated rates) (getD members k blankMember .age) ≡ rateInForce (take (i + 1) rates) (getD members k blankMember .age)
+        last-among = s .rate-among ∙ rw row-left
+
+        room : i < length rates
+        room = omega (arith, s .rates-within)
+
+        pub earlier-rate : getD members k blankMember .age < getD rates i blankRate .age → LivesSoFar rates rated members enrolled line lives p k i
+        earlier-rate d =
             record {
               members-within = s .members-within;
-              rates-within = omega arith;
+              rates-within = omega (arith, s .rates-within);
               lives-are = s .lives-are;
               half-at = s .half-at;
               all-matched = s .all-matched;
-              no-rate-yet = s .no-rate-yet ∙ rate-later rates rated few-rates (getD members k blankMember .age) j rate-left d;
+              rate-among = last-among ∙ rate-before rates (getD members k blankMember .age) i room d;
             }
 
-        pub its-rate : 0 < line → (x : Life) (p′ : ℕ) → getD rates j blankRate .age ≡ getD members k blankMember .age → x ≡ folded (some (getD rates j blankRate)) (getD members k blankMember) → p′ ≡ (if eqb p 0 then (if half x then line + k else 0) else p) → LivesSoFar rates rated members enrolled line (set lives k x) p′ (k + 1) 0
+        pub its-rate : 0 < line → (x : Life) (p′ : ℕ) → getD rates i blankRate .age ≤ getD members k blankMember .age → x ≡ folded (some (getD rates i blankRate)) (getD members k blankMember) → p′ ≡ (if eqb p 0 then (if half x then line + k else 0) else p) → LivesSoFar rates rated members enrolled line (set lives k x) p′ (k + 1) rated
         unfolding life unmatched lifeTable
         its-rate above x p′ e f g =
-            let found : rateAt (take rated rates) (getD members k blankMember .age) ≡ some (getD rates j blankRate) = s .no-rate-yet ∙ rate-here rates rated few-rates (getD members k blankMember .age) j rate-left e in
+            let found : rateInForce (take rated rates) (getD members k blankMember .age) ≡ some (getD rates i blankRate) = last-among ∙ rate-here rates (getD members k blankMember .age) i room e in
             let u : unmatched (take rated rates) (getD members k blankMember) ≡ false = rw (found, unmatched) in
             let is : x ≡ life (take rated rates) (getD members k blankMember) = f ∙ rw found in
             let more : map (life (take rated rates)) (take (k + 1) members) ≡ map (life (take rated rates)) (take k members) ++ (x ∷ []) =
@@ -100,7 +107,7 @@ module _ (rates : List Rate) (rated : ℕ) (members : List Member) (enrolled lin
                   ∙ ap (λ n. placed (if eqb p 0 then (if half x then line + n else 0) else p)) so-far
                   ∙ ap placed (sym g);
               all-matched = s .all-matched ∙ first-later members enrolled few-members blankMember (unmatched (take rated rates)) line k member-left u;
-              no-rate-yet = refl;
+              rate-among = refl;
             }
 
     module _ (all-members : enrolled ≤ k) where

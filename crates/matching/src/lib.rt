@@ -1,4 +1,4 @@
-// Members matched with the rates of their ages: the refusals 3 to 6, and the life of each member.
+// Members matched with the rates in force at their ages: the refusals 3 to 6, and the life of each member.
 mod half;
 mod lives;
 mod table;

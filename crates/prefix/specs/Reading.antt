@@ -19,13 +19,9 @@ use Rattle.fund.specs.Lines.{Line}
 use Rattle.fund.specs.Spelling.{spelled}
 use Rattle.fund.specs.Reading.{FundFile, Reading, stopped, inRanges, HeaderLine, headerOf, Row, rateRow, memberRow, endRow, otherRow, rowOf, rateInRange, memberInRange, noMember, atEnd, readRows, readHeader}
 use Rattle.laws.specs.Accepted.{All}
+use Rattle.laws.specs.Ranges.{on-pass}
 use Rattle.prefix.specs.Lines.{Cut, over, spent, same, inside}
 use Rattle.prefix.specs.Spelling.{most-line, Unspelled, open-line, long-line}
-
--- what follows a test that reading must pass
-on-pass : (t : Bool) (stop x y : Reading) → (t ≡ true → x ≡ y) → _≡_ {A = Reading} (elim t [ false ↦ stop | true ↦ x ]) (elim t [ false ↦ stop | true ↦ y ])
-on-pass true stop x y h = h refl
-on-pass false stop x y h = refl
 
 -- by the length of a line
 by-length : {A : Type 0} (l : Line) → (length (l .text) < most-line → A) → (Unspelled l → A) → A

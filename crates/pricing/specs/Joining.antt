@@ -1,7 +1,7 @@
 -- What joins the steps of a pricing call: a fund that is read and matched has lives in their ranges (lives-in); refusals 3 to 6
 -- come before what follows them (matched-first); and the answer of a call from the answers of its steps (answer-stopped,
 -- answer-matched, answer-valued).
-use mathlib.Core.Path.{_≡_, refl, _∙_, ap, subst}
+use mathlib.Core.Path.{_≡_, refl, _∙_, ap}
 use mathlib.Core.Bool.{Bool, true, false}
 use mathlib.Core.List.{List, [], _∷_, map}
 use mathlib.Core.Option.{Option, none, some}
@@ -17,23 +17,15 @@ use Rattle.fund.specs.declared.Verdict.the-variants.{Accepted, Refused}
 use Rattle.fund.specs.Base.{if_then_else_}
 use Rattle.fund.specs.Limits.{most-rate}
 use Rattle.fund.specs.Reading.{FundFile, read, stopped, reading}
-use Rattle.fund.specs.Folding.{rateAt, folded, life, lives}
+use Rattle.fund.specs.Folding.{rateInForce, folded, life, lives}
 use Rattle.fund.specs.Refusals.{Lengths, refuse, valued, matched, verdict}
 use Rattle.fund.specs.Answer.{refused, fundCells, answerOf, answerTo, answer}
 use Rattle.laws.specs.Accepted.{All, Limited, not-half, all-map, refuse-accepted, first-none}
+use Rattle.laws.specs.InForce.{in-force-all}
 use Rattle.laws.specs.Ranges.{RateOk, MemberOk, FundOk}
 use Rattle.widths.specs.Lives.{InRange}
 
 -- ---- lives in their ranges
-rate-found : (rates : List Rate) (age : ℕ) (r : Rate) → All RateOk rates → rateAt rates age ≡ some r → RateOk r
-unfolding rateAt
-rate-found [] age r k e = let z : _≡_ {A = ℕ} 0 1 = cc in absurd (omega arith)
-rate-found (s ∷ rest) age r k e = go (eqb (s .age) age) e (rate-found rest age r (k .1))
-  where
-    go : (b : Bool) → (if b then some s else rateAt rest age) ≡ some r → (rateAt rest age ≡ some r → RateOk r) → RateOk r
-    go true h later = let z : s ≡ r = cc in subst RateOk z (k .0)
-    go false h later = later h
-
 folded-in : (o : Option Rate) (m : Member) → ((r : Rate) → o ≡ some r → RateOk r) → MemberOk m → Limited (folded o m) → InRange (folded o m)
 unfolding folded
 folded-in none m k ok c =
@@ -69,7 +61,7 @@ members-in : (rates : List Rate) (ms : List Member) → All RateOk rates → All
 unfolding life
 members-in rates [] k ok c = tt
 members-in rates (m ∷ ms) k ok c =
-    (folded-in (rateAt rates (m .age)) m (λ r e. rate-found rates (m .age) r k e) (ok .0) (c .0), members-in rates ms k (ok .1) (c .1))
+    (folded-in (rateInForce rates (m .age)) m (λ r e. in-force-all RateOk rates (m .age) r k e) (ok .0) (c .0), members-in rates ms k (ok .1) (c .1))
 
 pub lives-in : (file : FundFile) → FundOk file → matched file Accepted ≡ Accepted → All InRange (lives file)
 unfolding matched lives

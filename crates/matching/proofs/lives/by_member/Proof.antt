@@ -1,4 +1,4 @@
--- `matching::lives::by_member`: one law for each way through the loop. A turn takes a member, or a rate row of the member.
+-- `matching::lives::by_member`: one law for each way through the loop. A turn takes a member, or a rate row that is above its age.
 use mathlib.Core.Path.{_≡_}
 use Prim.Native.Nat.{suc, _+_, _-_, _*_, _≤_}
 use native.Mathlib.Omega.{arith}
@@ -7,7 +7,7 @@ use lib.ListN.{length}
 use Rattle.fund.specs.Limits.{most-rates, most-members}
 use Rattle.fund.specs.Answer.{lent}
 use Rattle.matching.specs.Matching.{lifeTable}
-use Rattle.matching.proofs.SoFar.{LivesSoFar, start, lives-long, no-rate, other-rate, its-rate, half-found, all-lives}
+use Rattle.matching.proofs.SoFar.{LivesSoFar, start, lives-long, no-rate, earlier-rate, its-rate, half-found, all-lives}
 use Rattle.matching.proofs.lives.by_member.Statement.{statement}
 use Rattle.matching.proofs.lives.by_member.Tie as tie
 
@@ -15,7 +15,7 @@ abbrev Inv-loop : tie.InvT-loop
 Inv-loop rated enrolled line rates members lives₀ half-at₀ k₀ j₀ lives half-at k j = LivesSoFar rates rated members enrolled line lives half-at k j
 
 abbrev μ-loop : tie.MeasureT-loop
-μ-loop rated enrolled line rates members lives₀ half-at₀ k₀ j₀ lives half-at k j = (enrolled - k) * suc most-rates + (rated - j)
+μ-loop rated enrolled line rates members lives₀ half-at₀ k₀ j₀ lives half-at k j = (enrolled - k) * suc most-rates + j
 
 no-life-requires : tie.Need-no-life-requires Inv-loop μ-loop
 no-life-requires c κs = search needs
@@ -46,6 +46,9 @@ mul-m c = search needs
 
 array-copy-out-m : tie.Need-array-copy-out-m Inv-loop μ-loop
 array-copy-out-m c = search needs
+
+sub-r : tie.Need-sub-r Inv-loop μ-loop
+sub-r c = search needs
 
 mul-r : tie.Need-mul-r Inv-loop μ-loop
 mul-r c = search needs
@@ -87,10 +90,10 @@ loop-again c =
     let few-rates : a .rated ≤ length (a .t1) = omega arith in
     let few-members : a .enrolled ≤ length (a .t3) = omega arith in
     let long : length (a .t3) ≡ most-members = omega arith in
-    its-rate (a .t1) (a .rated) (a .t3) (a .enrolled) (a .line) few-rates few-members long _ (l .loop .half-at) (l .loop .k) (l .loop .j) (l .loop .inv) (omega arith) (omega arith) (omega arith) _ _ (c .before .before .if2 .taken) (c .before .folded .ensures) (c .first-place .ensures)
+    its-rate (a .t1) (a .rated) (a .t3) (a .enrolled) (a .line) few-rates few-members long _ (l .loop .half-at) (l .loop .k) (l .loop .j) (l .loop .inv) (omega arith) (l .loop .j - 1) (omega arith) (omega arith) _ _ (omega arith) (c .before .folded .ensures) (c .first-place .ensures)
 
-add-j : tie.Need-add-j Inv-loop μ-loop
-add-j c = search needs
+sub-j : tie.Need-sub-j Inv-loop μ-loop
+sub-j c = search needs
 
 loop-less-2 : tie.Need-loop-less-2 Inv-loop μ-loop
 loop-less-2 c = omega arith
@@ -102,7 +105,7 @@ loop-again-2 c =
     let few-rates : a .rated ≤ length (a .t1) = omega arith in
     let few-members : a .enrolled ≤ length (a .t3) = omega arith in
     let long : length (a .t3) ≡ most-members = omega arith in
-    other-rate (a .t1) (a .rated) (a .t3) (a .enrolled) (a .line) few-rates few-members long _ (l .loop .half-at) (l .loop .k) (l .loop .j) (l .loop .inv) (omega arith) (omega arith) (c .if2 .left)
+    earlier-rate (a .t1) (a .rated) (a .t3) (a .enrolled) (a .line) few-rates few-members long _ (l .loop .half-at) (l .loop .k) (l .loop .j) (l .loop .inv) (omega arith) (l .loop .j - 1) (omega arith) (omega arith)
 
 without-lives-requires-2 : tie.Need-without-lives-requires-2 Inv-loop μ-loop
 without-lives-requires-2 c κs = search needs
@@ -138,6 +141,7 @@ by-member-spec =
     returns
     mul-m
     array-copy-out-m
+    sub-r
     mul-r
     array-copy-out-r
     folded-requires
@@ -148,7 +152,7 @@ by-member-spec =
     add-k
     loop-less
     loop-again
-    add-j
+    sub-j
     loop-less-2
     loop-again-2
     without-lives-requires-2

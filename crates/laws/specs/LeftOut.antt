@@ -1,0 +1,89 @@
+-- Document 02, §2: the new edition "leaves out ages whose rates equal those of the age before". A rate row that is equal, but for its age, to
+-- the row in force before it can be left out: at every age the rates in force are alike (still-alike), and the answer is the same but for
+-- places (row-left-out); the file without that line is such a file (line-left-out).
+use mathlib.Core.Path.{_≡_, refl, sym, _∙_, ap}
+use mathlib.Core.Bool.{Bool, true, false}
+use mathlib.Core.List.{List, [], _∷_, _++_}
+use mathlib.Core.Option.{Option, none, some}
+use Prim.Native.Nat.{ℕ, suc, _+_, _≤_, _<_}
+use native.Mathlib.Omega.{arith}
+use borrow.Author.Tests.{le-leb, leb-true}
+use lib.Dec.{leb}
+use lib.ListN.{length, length-append}
+use Rattle.fund.specs.declared.Fund.{Fund}
+use Rattle.fund.specs.declared.Rate.{Rate}
+use Rattle.fund.specs.declared.Member.{Member}
+use Rattle.fund.specs.Base.{if_then_else_}
+use Rattle.fund.specs.Reading.{FundFile, headerLines, read, reading}
+use Rattle.fund.specs.Folding.{rateInForce, lives}
+use Rattle.fund.specs.Refusals.{Lengths}
+use Rattle.fund.specs.Answer.{answer}
+use Rattle.laws.specs.Accepted.{All, all-map}
+use Rattle.laws.specs.InForce.{latest, orRow, in-force-append, Rising}
+use Rattle.laws.specs.Ranges.{read-ranges}
+use Rattle.laws.specs.Texts.{withoutLine}
+use Rattle.laws.specs.FewerRows.{drop-middle, read-without}
+use Rattle.laws.specs.SameRates.{Alike, alike-refl, alike-sym, AlikeFor, SameButPlaces, same-answers, lives-same}
+
+-- from the last row's age on the same row is in force
+in-force-on : (rs : List Rate) (age older : ℕ) → All (λ (r : Rate). r .age ≤ age) rs → age ≤ older → rateInForce rs older ≡ rateInForce rs age
+unfolding rateInForce
+in-force-on [] age older k h = refl
+in-force-on (r ∷ rs) age older k h =
+    ap (orRow r (leb (r .age) older)) (in-force-on rs age older (k .1) h)
+    ∙ ap (λ b. orRow r b (rateInForce rs age)) (le-leb (r .age) older (omega (arith, k .0)) ∙ sym (le-leb (r .age) age (k .0)))
+
+all-middle : (P : Rate → Type 0) (before after : List Rate) (r : Rate) → All P (before ++ (r ∷ after)) → P r
+all-middle P [] after r k = k .0
+all-middle P (s ∷ before) after r k = all-middle P before after r (k .1)
+
+before-below : (before after : List Rate) (r : Rate) → Rising (before ++ (r ∷ after)) → All (λ (s : Rate). s .age < r .age) before
+before-below [] after r k = tt
+before-below (s ∷ before) after r k = (all-middle (λ (t : Rate). s .age < t .age) before after r (k .0), before-below before after r (k .1))
+
+module _ (before after : List Rate) (r : Rate) (rise : Rising (before ++ (r ∷ after))) (equal : Alike (some r) (rateInForce before (r .age))) where
+  pub still-alike : (age : ℕ) → Alike (rateInForce (before ++ (r ∷ after)) age) (rateInForce (before ++ after) age)
+  unfolding rateInForce
+  still-alike age = rw (in-force-append before (r ∷ after) age, in-force-append before after age) (go (rateInForce after age) (leb (r .age) age) refl)
+    where
+      here : Option Rate
+      here = rateInForce before age
+
+      go : (o : Option Rate) (b : Bool) → leb (r .age) age ≡ b → Alike (latest (orRow r b o) here) (latest o here)
+      go (some s) b e = (refl, refl)
+      go none false e = alike-refl here
+      go none true e =
+          let le : r .age ≤ age = leb-true (r .age) age e in
+          rw (in-force-on before (r .age) age (all-map (λ s h. omega arith) before (before-below before after r rise)) le) equal
+
+-- The file with the row, and the file without it.
+module _ (header : Fund) (before after : List Rate) (r : Rate) (members : List Member) where
+  abbrev pub whole : FundFile
+  whole = record { header = header; rates = before ++ (r ∷ after); members = members }
+
+  abbrev pub without : FundFile
+  without = record { header = header; rates = before ++ after; members = members }
+
+  module _ (file : List ℕ) (is : reading file ≡ read whole) (equal : Alike (some r) (rateInForce before (r .age))) where
+    alike : AlikeFor (rateInForce (before ++ (r ∷ after))) (rateInForce (before ++ after)) members
+    alike = go members
+      where
+        go : (ms : List Member) → AlikeFor (rateInForce (before ++ (r ∷ after))) (rateInForce (before ++ after)) ms
+        go [] = tt
+        go (m ∷ ms) = (still-alike before after r (read-ranges file whole is .rows .rates-rise) equal (m .age), go ms)
+
+    one-more : length (before ++ (r ∷ after)) ≡ 1 + length (before ++ after)
+    one-more = omega (arith, length-append before (r ∷ after), length-append before after)
+
+    pub lives-left : lives whole ≡ lives without
+    lives-left = lives-same header (before ++ (r ∷ after)) (before ++ after) members 1 one-more alike
+
+    pub row-left-out : (file′ : List ℕ) (n : Lengths) → reading file′ ≡ read without → SameButPlaces 1 (answer file n) (answer file′ n)
+    row-left-out file′ n is′ = same-answers header (before ++ (r ∷ after)) (before ++ after) members 1 one-more alike file file′ n is is′
+
+    -- The line of the row is left out of the bytes: the header lines and the rows before stand in front of it.
+    pub line-left-out : (n : Lengths) → SameButPlaces 1 (answer file n) (answer (withoutLine (length headerLines + length before) file) n)
+    line-left-out n =
+        row-left-out (withoutLine (length headerLines + length before) file) n
+        (read-without file whole (length before) is (omega (arith, length-append before (r ∷ after)))
+        ∙ ap (λ rs. read (record { header = header; rates = rs; members = members })) (drop-middle before after r))

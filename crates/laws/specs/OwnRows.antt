@@ -1,0 +1,131 @@
+-- Document 02, §2: "A file with all ages gives what it gave." Where every member's age has a row of its own, the rate in force is that row's
+-- (own-in-force), and the answer is document 01's (as-before); so it is for every member of a table with a row for each age (every-age).
+use mathlib.Core.Path.{_≡_, refl, sym, _∙_, ap}
+use mathlib.Core.Bool.{Bool, true, false, not}
+use mathlib.Core.List.{List, [], _∷_, map}
+use mathlib.Core.Option.{Option, none, some}
+use Prim.Native.Nat.{ℕ, suc, _≤_, _<_}
+use native.Mathlib.Omega.{arith}
+use borrow.Author.Tests.{eqb-true, le-leb}
+use lib.Dec.{eqb, leb, ltb}
+use Rattle.fund.specs.declared.Rate.{Rate}
+use Rattle.fund.specs.declared.Member.{Member}
+use Rattle.fund.specs.declared.Life.{Life}
+use Rattle.fund.specs.declared.Refusal.the-variants.{Edition, Deductible, Unmatched, Half}
+use Rattle.fund.specs.declared.Verdict.{Verdict}
+use Rattle.fund.specs.declared.Verdict.the-variants.{Accepted, Refused}
+use Rattle.fund.specs.Base.{if_then_else_}
+use Rattle.fund.specs.Limits.{most-age}
+use Rattle.fund.specs.Reading.{FundFile, Reading, read, stopped, reading}
+use Rattle.fund.specs.Folding.{rateInForce, folded, life, lives}
+use Rattle.fund.specs.Refusals.{first, unmatched, half, Lengths, refuse, at0, firstMember, valued, matched, verdict}
+use Rattle.fund.specs.Answer.{Answer, fundCells, refused, accepted, answerOf, answerTo, answer}
+use Rattle.laws.specs.Accepted.{All, all-map}
+use Rattle.laws.specs.InForce.{Below, in-force-none, Rising}
+use Rattle.laws.specs.Ranges.{MemberOk, read-ranges}
+use Rattle.laws.specs.SameRates.{alike-refl, AlikeFor, same-lives, same-unmatched, verdictFor}
+
+-- Document 01's search: the row that has the age.
+unfoldable pub ownRow : List Rate → ℕ → Option Rate
+ownRow [] age = none
+ownRow (r ∷ rs) age = if eqb (r .age) age then some r else ownRow rs age
+
+-- The answer of a call as the definitions give it, with the search of a member's rate left open: all that asks for a rate is here.
+module _ (search : List Rate → ℕ → Option Rate) where
+  abbrev pub livesBy : FundFile → List Life
+  livesBy file = map (λ (m : Member). folded (search (file .rates) (m .age)) m) (file .members)
+
+  abbrev pub unmatchedBy : List Rate → Member → Bool
+  unmatchedBy rates m = elim (search rates (m .age)) [ none ↦ true | some r ↦ false ]
+
+  abbrev pub verdictBy : FundFile → Lengths → Verdict
+  verdictBy file n =
+      verdictFor (file .header) n (first (unmatchedBy (file .rates)) (firstMember file) (file .members)) (first half (firstMember file) (livesBy file)) (livesBy file)
+
+  abbrev pub fundAnswerBy : List ℕ → Lengths → FundFile → Verdict → Answer
+  fundAnswerBy file n fund Accepted = accepted (fund .header) (livesBy fund) n
+  fundAnswerBy file n fund (Refused why place) = refused file n (Refused why place)
+
+  abbrev pub answerBy : List ℕ → Lengths → Reading → Answer
+  answerBy file n (read fund) = fundAnswerBy file n fund (verdictBy fund n)
+  answerBy file n (stopped why place) = refused file n (Refused why place)
+
+-- With the rate in force it is today's answer.
+fund-answer-is : (file : List ℕ) (n : Lengths) (fund : FundFile) (v : Verdict) → answerOf file n fund v ≡ fundAnswerBy rateInForce file n fund v
+unfolding answerOf lives life
+fund-answer-is file n fund Accepted = refl
+fund-answer-is file n fund (Refused why place) = refl
+
+answer-by : (file : List ℕ) (n : Lengths) (r : Reading) → answerTo file n r ≡ answerBy rateInForce file n r
+unfolding answerTo verdict matched unmatched lives life
+answer-by file n (read fund) = fund-answer-is file n fund _
+answer-by file n (stopped why place) = refl
+
+pub answer-is : (file : List ℕ) (n : Lengths) → answer file n ≡ answerBy rateInForce file n (reading file)
+unfolding answer
+answer-is file n = answer-by file n (reading file)
+
+-- ---- one search and the other
+-- the age has a row of its own, or every row is above it
+abbrev pub OwnOrBelow : List Rate → ℕ → Type 0
+OwnOrBelow rates age = ownRow rates age ≡ none → Below age rates
+
+pub own-in-force : (rates : List Rate) (age : ℕ) (r : Rate) → Rising rates → ownRow rates age ≡ some r → rateInForce rates age ≡ some r
+unfolding ownRow rateInForce
+own-in-force [] age r k e = let z : _≡_ {A = ℕ} 0 1 = cc in absurd (omega arith)
+own-in-force (s ∷ rs) age r k e = go (eqb (s .age) age) refl e (own-in-force rs age r (k .1))
+  where
+    go : (b : Bool) → eqb (s .age) age ≡ b → (if b then some s else ownRow rs age) ≡ some r → (ownRow rs age ≡ some r → rateInForce rs age ≡ some r) → rateInForce (s ∷ rs) age ≡ some r
+    go true t h later =
+        let same : s .age ≡ age = eqb-true (s .age) age t in
+        let above : Below age rs = all-map (λ u g. omega arith) rs (k .0) in
+        rw (in-force-none rs age above, le-leb (s .age) age (omega arith)) h
+    go false t h later = rw (later h, rateInForce)
+
+same-rate : (rates : List Rate) (age : ℕ) → Rising rates → OwnOrBelow rates age → rateInForce rates age ≡ ownRow rates age
+same-rate rates age k h = go (ownRow rates age) refl
+  where
+    go : (o : Option Rate) → ownRow rates age ≡ o → rateInForce rates age ≡ ownRow rates age
+    go none e = in-force-none rates age (h e) ∙ sym e
+    go (some r) e = own-in-force rates age r k e ∙ sym e
+
+-- ---- the answer
+module _ (file : List ℕ) (fund : FundFile) (is : reading file ≡ read fund) where
+  rise : Rising (fund .rates)
+  rise = read-ranges file fund is .rows .rates-rise
+
+  module _ (own : All (λ (m : Member). OwnOrBelow (fund .rates) (m .age)) (fund .members)) where
+    alike : AlikeFor (rateInForce (fund .rates)) (ownRow (fund .rates)) (fund .members)
+    alike = go (fund .members) own
+      where
+        go : (ms : List Member) → All (λ (m : Member). OwnOrBelow (fund .rates) (m .age)) ms → AlikeFor (rateInForce (fund .rates)) (ownRow (fund .rates)) ms
+        go [] k = tt
+        go (m ∷ ms) k = (rw (same-rate (fund .rates) (m .age) rise (k .0)) (alike-refl (ownRow (fund .rates) (m .age))), go ms (k .1))
+
+    pub lives-as-before : lives fund ≡ livesBy ownRow fund
+    unfolding lives life
+    lives-as-before = same-lives (rateInForce (fund .rates)) (ownRow (fund .rates)) (fund .members) alike
+
+    verdict-as-before : (n : Lengths) → verdictBy rateInForce fund n ≡ verdictBy ownRow fund n
+    unfolding lives life
+    verdict-as-before n =
+        ap (λ o. verdictFor (fund .header) n o (first half (firstMember fund) (lives fund)) (lives fund))
+        (same-unmatched (rateInForce (fund .rates)) (ownRow (fund .rates)) (fund .members) alike (firstMember fund))
+        ∙ ap (λ ms. verdictFor (fund .header) n (first (unmatchedBy ownRow (fund .rates)) (firstMember fund) (fund .members)) (first half (firstMember fund) ms) ms) lives-as-before
+
+    by-verdict : (n : Lengths) (v : Verdict) → fundAnswerBy rateInForce file n fund v ≡ fundAnswerBy ownRow file n fund v
+    unfolding lives life
+    by-verdict n Accepted = ap (λ ms. accepted (fund .header) ms n) lives-as-before
+    by-verdict n (Refused why place) = refl
+
+    pub as-before : (n : Lengths) → answer file n ≡ answerBy ownRow file n (reading file)
+    as-before n =
+        answer-is file n
+        ∙ ap (answerBy rateInForce file n) is
+        ∙ by-verdict n (verdictBy rateInForce fund n)
+        ∙ ap (fundAnswerBy ownRow file n fund) (verdict-as-before n)
+        ∙ ap (answerBy ownRow file n) (sym is)
+
+  -- a table with a row for each age from its first to 120
+  pub every-age : ((age : ℕ) → age ≤ most-age → OwnOrBelow (fund .rates) age) → (n : Lengths) → answer file n ≡ answerBy ownRow file n (reading file)
+  every-age own n = as-before (all-map (λ (m : Member) (ok : MemberOk m). own (m .age) (ok .age)) (fund .members) (read-ranges file fund is .rows .members)) n
