@@ -10,15 +10,15 @@ use Rattle.fund.specs.declared.Life.{Life}
 use Rattle.fund.specs.Base.{if_then_else_}
 use Rattle.fund.specs.Reading.{FundFile}
 
--- Document 02, §2: "A rate row now holds from its age until the next row's age." The row in force at an age is the last whose age is not
--- above it.
+-- Document 02, §2: "A rate row now holds from its age until the next row's age." The rows are gone through in their order: the row that is
+-- held, if any, until a row is above the age.
+unfoldable pub heldUntil : Option Rate → List Rate → ℕ → Option Rate
+heldUntil held [] age = held
+heldUntil held (r ∷ rs) age = if leb (r .age) age then heldUntil (some r) rs age else held
+
+-- The rate in force at an age: none below the first row, and none in an empty table.
 unfoldable pub rateInForce : List Rate → ℕ → Option Rate
-rateInForce [] age = none
-rateInForce (r ∷ rs) age =
-    elim (rateInForce rs age) [
-      | some later ↦ some later
-      | none ↦ if leb (r .age) age then some r else none
-    ]
+rateInForce rates age = heldUntil none rates age
 
 -- "If d = 0, q counts as 0; if e = 0, i counts as 0." Where no rate is in force, both are 0.
 unfoldable pub folded : Option Rate → Member → Life

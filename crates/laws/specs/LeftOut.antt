@@ -3,11 +3,11 @@
 -- places (row-left-out); the file without that line is such a file (line-left-out).
 use mathlib.Core.Path.{_≡_, refl, sym, _∙_, ap}
 use mathlib.Core.Bool.{Bool, true, false}
-use mathlib.Core.List.{List, [], _∷_, _++_}
+use mathlib.Core.List.{List, [], _∷_, _++_, append-nil}
 use mathlib.Core.Option.{Option, none, some}
-use Prim.Native.Nat.{ℕ, suc, _+_, _≤_, _<_}
+use Prim.Native.Nat.{ℕ, _+_, _≤_, _<_}
 use native.Mathlib.Omega.{arith}
-use borrow.Author.Tests.{le-leb, leb-true}
+use borrow.Author.Tests.{leb-true, leb-false}
 use lib.Dec.{leb}
 use lib.ListN.{length, length-append}
 use Rattle.fund.specs.declared.Fund.{Fund}
@@ -15,23 +15,15 @@ use Rattle.fund.specs.declared.Rate.{Rate}
 use Rattle.fund.specs.declared.Member.{Member}
 use Rattle.fund.specs.Base.{if_then_else_}
 use Rattle.fund.specs.Reading.{FundFile, headerLines, read, reading}
-use Rattle.fund.specs.Folding.{rateInForce, lives}
+use Rattle.fund.specs.Folding.{heldUntil, rateInForce, lives}
 use Rattle.fund.specs.Refusals.{Lengths}
 use Rattle.fund.specs.Answer.{answer}
 use Rattle.laws.specs.Accepted.{All, all-map}
-use Rattle.laws.specs.InForce.{latest, orRow, in-force-append, Rising}
+use Rattle.laws.specs.InForce.{Below, NotAbove, Rising, held-above, lastOr, held-through}
 use Rattle.laws.specs.Ranges.{read-ranges}
 use Rattle.laws.specs.Texts.{withoutLine}
 use Rattle.laws.specs.FewerRows.{drop-middle, read-without}
-use Rattle.laws.specs.SameRates.{Alike, alike-refl, alike-sym, AlikeFor, SameButPlaces, same-answers, lives-same}
-
--- from the last row's age on the same row is in force
-in-force-on : (rs : List Rate) (age older : ℕ) → All (λ (r : Rate). r .age ≤ age) rs → age ≤ older → rateInForce rs older ≡ rateInForce rs age
-unfolding rateInForce
-in-force-on [] age older k h = refl
-in-force-on (r ∷ rs) age older k h =
-    ap (orRow r (leb (r .age) older)) (in-force-on rs age older (k .1) h)
-    ∙ ap (λ b. orRow r b (rateInForce rs age)) (le-leb (r .age) older (omega (arith, k .0)) ∙ sym (le-leb (r .age) age (k .0)))
+use Rattle.laws.specs.SameRates.{Alike, alike-refl, AlikeFor, SameButPlaces, same-answers, lives-same}
 
 all-middle : (P : Rate → Type 0) (before after : List Rate) (r : Rate) → All P (before ++ (r ∷ after)) → P r
 all-middle P [] after r k = k .0
@@ -41,20 +33,40 @@ before-below : (before after : List Rate) (r : Rate) → Rising (before ++ (r �
 before-below [] after r k = tt
 before-below (s ∷ before) after r k = (all-middle (λ (t : Rate). s .age < t .age) before after r (k .0), before-below before after r (k .1))
 
+after-above : (before after : List Rate) (r : Rate) → Rising (before ++ (r ∷ after)) → Below (r .age) after
+after-above [] after r k = k .0
+after-above (s ∷ before) after r k = after-above before after r (k .1)
+
+-- a row that comes in force hides what was held
+alike-held : (o p : Option Rate) (rs : List Rate) (age : ℕ) → Alike o p → Alike (heldUntil o rs age) (heldUntil p rs age)
+unfolding heldUntil
+alike-held o p [] age k = k
+alike-held o p (r ∷ rs) age k = go (leb (r .age) age)
+  where
+    go : (b : Bool) → Alike (if b then heldUntil (some r) rs age else o) (if b then heldUntil (some r) rs age else p)
+    go true = alike-refl (heldUntil (some r) rs age)
+    go false = k
+
 module _ (before after : List Rate) (r : Rate) (rise : Rising (before ++ (r ∷ after))) (equal : Alike (some r) (rateInForce before (r .age))) where
   pub still-alike : (age : ℕ) → Alike (rateInForce (before ++ (r ∷ after)) age) (rateInForce (before ++ after) age)
-  unfolding rateInForce
-  still-alike age = rw (in-force-append before (r ∷ after) age, in-force-append before after age) (go (rateInForce after age) (leb (r .age) age) refl)
+  unfolding rateInForce heldUntil
+  still-alike age = go (leb (r .age) age) refl
     where
-      here : Option Rate
-      here = rateInForce before age
+      not-above : (older : ℕ) → r .age ≤ older → NotAbove before older
+      not-above older le = all-map (λ s h. omega arith) before (before-below before after r rise)
 
-      go : (o : Option Rate) (b : Bool) → leb (r .age) age ≡ b → Alike (latest (orRow r b o) here) (latest o here)
-      go (some s) b e = (refl, refl)
-      go none false e = alike-refl here
-      go none true e =
+      last : Alike (some r) (lastOr none before)
+      last = rw (sym (held-through none before [] (r .age) (not-above (r .age) (omega arith))), append-nil before) equal
+
+      go : (b : Bool) → leb (r .age) age ≡ b → Alike (heldUntil none (before ++ (r ∷ after)) age) (heldUntil none (before ++ after) age)
+      go true e =
           let le : r .age ≤ age = leb-true (r .age) age e in
-          rw (in-force-on before (r .age) age (all-map (λ s h. omega arith) before (before-below before after r rise)) le) equal
+          rw (held-through none before (r ∷ after) age (not-above age le), held-through none before after age (not-above age le), e)
+          (alike-held (some r) (lastOr none before) after age last)
+      go false e =
+          let above : age < r .age = leb-false (r .age) age e in
+          let later : Below age after = all-map (λ s h. omega arith) after (after-above before after r rise) in
+          rw (held-above none before (r ∷ after) age (above, later), held-above none before after age later) (alike-refl (heldUntil none before age))
 
 -- The file with the row, and the file without it.
 module _ (header : Fund) (before after : List Rate) (r : Rate) (members : List Member) where

@@ -1,27 +1,26 @@
 -- Document 02, §2: "A file with all ages gives what it gave." Where every member's age has a row of its own, the rate in force is that row's
 -- (own-in-force), and the answer is document 01's (as-before); so it is for every member of a table with a row for each age (every-age).
-use mathlib.Core.Path.{_≡_, refl, sym, _∙_, ap}
-use mathlib.Core.Bool.{Bool, true, false, not}
+use mathlib.Core.Path.{_≡_, refl, sym, _∙_, ap, subst}
+use mathlib.Core.Bool.{Bool, true, false}
 use mathlib.Core.List.{List, [], _∷_, map}
 use mathlib.Core.Option.{Option, none, some}
-use Prim.Native.Nat.{ℕ, suc, _≤_, _<_}
+use Prim.Native.Nat.{ℕ, _≤_, _<_}
 use native.Mathlib.Omega.{arith}
 use borrow.Author.Tests.{eqb-true, le-leb}
-use lib.Dec.{eqb, leb, ltb}
+use lib.Dec.{eqb}
 use Rattle.fund.specs.declared.Rate.{Rate}
 use Rattle.fund.specs.declared.Member.{Member}
 use Rattle.fund.specs.declared.Life.{Life}
-use Rattle.fund.specs.declared.Refusal.the-variants.{Edition, Deductible, Unmatched, Half}
 use Rattle.fund.specs.declared.Verdict.{Verdict}
 use Rattle.fund.specs.declared.Verdict.the-variants.{Accepted, Refused}
 use Rattle.fund.specs.Base.{if_then_else_}
 use Rattle.fund.specs.Limits.{most-age}
 use Rattle.fund.specs.Reading.{FundFile, Reading, read, stopped, reading}
-use Rattle.fund.specs.Folding.{rateInForce, folded, life, lives}
-use Rattle.fund.specs.Refusals.{first, unmatched, half, Lengths, refuse, at0, firstMember, valued, matched, verdict}
-use Rattle.fund.specs.Answer.{Answer, fundCells, refused, accepted, answerOf, answerTo, answer}
+use Rattle.fund.specs.Folding.{heldUntil, rateInForce, folded, life, lives}
+use Rattle.fund.specs.Refusals.{first, unmatched, half, Lengths, firstMember, matched, verdict}
+use Rattle.fund.specs.Answer.{Answer, refused, accepted, answerOf, answerTo, answer}
 use Rattle.laws.specs.Accepted.{All, all-map}
-use Rattle.laws.specs.InForce.{Below, in-force-none, Rising}
+use Rattle.laws.specs.InForce.{Below, Rising, held-above, in-force-none}
 use Rattle.laws.specs.Ranges.{MemberOk, read-ranges}
 use Rattle.laws.specs.SameRates.{alike-refl, AlikeFor, same-lives, same-unmatched, verdictFor}
 
@@ -70,17 +69,32 @@ answer-is file n = answer-by file n (reading file)
 abbrev pub OwnOrBelow : List Rate → ℕ → Type 0
 OwnOrBelow rates age = ownRow rates age ≡ none → Below age rates
 
-pub own-in-force : (rates : List Rate) (age : ℕ) (r : Rate) → Rising rates → ownRow rates age ≡ some r → rateInForce rates age ≡ some r
-unfolding ownRow rateInForce
-own-in-force [] age r k e = let z : _≡_ {A = ℕ} 0 1 = cc in absurd (omega arith)
-own-in-force (s ∷ rs) age r k e = go (eqb (s .age) age) refl e (own-in-force rs age r (k .1))
+own-all : (P : Rate → Type 0) (rates : List Rate) (age : ℕ) (r : Rate) → All P rates → ownRow rates age ≡ some r → P r × (r .age ≡ age)
+unfolding ownRow
+own-all P [] age r k e = let z : _≡_ {A = ℕ} 0 1 = cc in absurd (omega arith)
+own-all P (s ∷ rs) age r k e = go (eqb (s .age) age) refl e (own-all P rs age r (k .1))
   where
-    go : (b : Bool) → eqb (s .age) age ≡ b → (if b then some s else ownRow rs age) ≡ some r → (ownRow rs age ≡ some r → rateInForce rs age ≡ some r) → rateInForce (s ∷ rs) age ≡ some r
+    go : (b : Bool) → eqb (s .age) age ≡ b → (if b then some s else ownRow rs age) ≡ some r → (ownRow rs age ≡ some r → P r × (r .age ≡ age)) → P r × (r .age ≡ age)
+    go true t h later = let z : s ≡ r = cc in subst (λ u. P u × (u .age ≡ age)) z (k .0, eqb-true (s .age) age t)
+    go false t h later = later h
+
+own-held : (held : Option Rate) (rates : List Rate) (age : ℕ) (r : Rate) → Rising rates → ownRow rates age ≡ some r → heldUntil held rates age ≡ some r
+unfolding ownRow heldUntil
+own-held held [] age r k e = let z : _≡_ {A = ℕ} 0 1 = cc in absurd (omega arith)
+own-held held (s ∷ rs) age r k e = go (eqb (s .age) age) refl e (own-held (some s) rs age r (k .1))
+  where
+    go : (b : Bool) → eqb (s .age) age ≡ b → (if b then some s else ownRow rs age) ≡ some r → (ownRow rs age ≡ some r → heldUntil (some s) rs age ≡ some r) → heldUntil held (s ∷ rs) age ≡ some r
     go true t h later =
         let same : s .age ≡ age = eqb-true (s .age) age t in
         let above : Below age rs = all-map (λ u g. omega arith) rs (k .0) in
-        rw (in-force-none rs age above, le-leb (s .age) age (omega arith)) h
-    go false t h later = rw (later h, rateInForce)
+        rw (le-leb (s .age) age (omega arith)) (held-above (some s) [] rs age above ∙ h)
+    go false t h later =
+        let own = own-all (λ (u : Rate). s .age < u .age) rs age r (k .0) h in
+        rw (le-leb (s .age) age (omega (arith, own .0, own .1))) (later h)
+
+pub own-in-force : (rates : List Rate) (age : ℕ) (r : Rate) → Rising rates → ownRow rates age ≡ some r → rateInForce rates age ≡ some r
+unfolding rateInForce
+own-in-force rates age r k e = own-held none rates age r k e
 
 same-rate : (rates : List Rate) (age : ℕ) → Rising rates → OwnOrBelow rates age → rateInForce rates age ≡ ownRow rates age
 same-rate rates age k h = go (ownRow rates age) refl

@@ -18,9 +18,9 @@ use Rattle.fund.specs.declared.Refusal.the-variants.{Edition, Deductible, Unmat
 use Rattle.fund.specs.declared.Verdict.{Verdict}
 use Rattle.fund.specs.declared.Verdict.the-variants.{Accepted, Refused}
 use Rattle.fund.specs.Base.{if_then_else_}
-use Rattle.fund.specs.Reading.{FundFile, read, reading, headerLines}
+use Rattle.fund.specs.Reading.{FundFile, read, reading}
 use Rattle.fund.specs.Folding.{rateInForce, folded, life, lives}
-use Rattle.fund.specs.Refusals.{numberOf, first, unmatched, half, wide, Lengths, refuse, at0, firstMember, valued, matched, verdict}
+use Rattle.fund.specs.Refusals.{numberOf, first, unmatched, half, Lengths, refuse, at0, firstMember, valued, matched, verdict}
 use Rattle.fund.specs.Answer.{Answer, fundCells, refused, accepted, answerOf, answerTo, answer}
 use Rattle.laws.specs.Accepted.{All}
 
@@ -34,12 +34,6 @@ Alike (some r) (some s) = (r .q ≡ s .q) × (r .i ≡ s .i)
 pub alike-refl : (o : Option Rate) → Alike o o
 alike-refl none = tt
 alike-refl (some r) = (refl, refl)
-
-pub alike-sym : (o p : Option Rate) → Alike o p → Alike p o
-alike-sym none none k = tt
-alike-sym none (some s) k = k
-alike-sym (some r) none k = k
-alike-sym (some r) (some s) k = (sym (k .0), sym (k .1))
 
 alike-folded : (o p : Option Rate) (m : Member) → Alike o p → folded o m ≡ folded p m
 unfolding folded

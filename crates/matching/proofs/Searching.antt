@@ -1,5 +1,5 @@
 -- The first n rows of a table from a place on, and the first that meets a condition; the first of a list that grows, its place kept as a
--- number; and the rate in force among the first rows.
+-- number; and the rate that is held from a row on.
 use mathlib.Core.Path.{_≡_, refl, sym, _∙_}
 use mathlib.Core.Bool.{Bool, true, false}
 use mathlib.Core.List.{List, [], _∷_, _++_}
@@ -7,16 +7,15 @@ use mathlib.Core.Option.{Option, none, some}
 use Prim.Native.Nat.{ℕ, zero, suc, _+_, _≤_, _<_}
 use native.Mathlib.Numerals.{add-one}
 use native.Mathlib.Omega.{arith}
-use borrow.Author.Tests.{le-leb, lt-leb}
-use lib.Dec.{eqb, eqb·suc-zero}
+use borrow.Author.Tests.{le-leb, lt-leb, leb-true, leb-false}
+use lib.Dec.{eqb, leb, eqb·suc-zero}
 use lib.ListN.{length, take, drop, getD, drop-of-length-le}
-use lib.Seq.{drop-cons, take-suc, length-take-le, getD-take}
+use lib.Seq.{drop-cons, length-take-le, getD-take}
 use Rattle.fund.specs.declared.Rate.{Rate}
 use Rattle.fund.specs.Base.{if_then_else_}
-use Rattle.fund.specs.Folding.{rateInForce}
+use Rattle.fund.specs.Folding.{heldUntil}
 use Rattle.fund.specs.Refusals.{first}
 use Rattle.laws.specs.Rows.{blankRate}
-use Rattle.laws.specs.InForce.{in-force-more}
 
 module _ {A : Type 0} (l : List A) (n : ℕ) (room : n ≤ length l) (blank : A) where
   pub row-at : (k : ℕ) → k < n → drop k (take n l) ≡ getD l k blank ∷ drop (suc k) (take n l)
@@ -76,10 +75,16 @@ module _ {A : Type 0} (met : A → Bool) (x : A) where
       go false f = rw f
   first-placed at (suc p) l h e = first-more at l ∙ rw (e, eqb·suc-zero p)
 
--- The rate in force among the first j + 1 rows of a table: the last of these, or that among the first j.
-module _ (l : List Rate) (age j : ℕ) (room : j < length l) where
-  pub rate-here : getD l j blankRate .age ≤ age → rateInForce (take (j + 1) l) age ≡ some (getD l j blankRate)
-  rate-here h = rw (add-one j, take-suc l j blankRate room, in-force-more, le-leb _ _ h)
+-- The rows from j on: the row j is not above the age, and is held from then on; or there is none that is not, and what is held stays.
+module _ (l : List Rate) (n : ℕ) (room : n ≤ length l) (age : ℕ) (held : Option Rate) (j : ℕ) where
+  pub row-passed : j < n → getD l j blankRate .age ≤ age → heldUntil held (drop j (take n l)) age ≡ heldUntil (some (getD l j blankRate)) (drop (j + 1) (take n l)) age
+  unfolding heldUntil
+  row-passed h e = rw (add-one j, row-at l n room blankRate j h, le-leb _ _ e)
 
-  pub rate-before : age < getD l j blankRate .age → rateInForce (take (j + 1) l) age ≡ rateInForce (take j l) age
-  rate-before h = rw (add-one j, take-suc l j blankRate room, in-force-more, lt-leb _ _ h)
+  pub row-held : (j < n → age < getD l j blankRate .age) → heldUntil held (drop j (take n l)) age ≡ held
+  unfolding heldUntil
+  row-held above = go (leb n j) refl
+    where
+      go : (b : Bool) → leb n j ≡ b → heldUntil held (drop j (take n l)) age ≡ held
+      go true e = rw (no-row-at l n room blankRate j (leb-true n j e))
+      go false e = let h = leb-false n j e in rw (row-at l n room blankRate j h, lt-leb _ _ (above h))

@@ -1,10 +1,10 @@
--- Where the matching stands: the lives of the first k members are there, with the place of the first of refusal 6, and the rate in force
--- at the member k's age is that among the first j rows.
+-- Where the matching stands: the lives of the first k members are there, with the place of the first of refusal 6, and the first
+-- j rate rows are not above the member k's age.
 use mathlib.Core.Path.{_≡_, refl, sym, _∙_, ap}
 use mathlib.Core.Bool.{true, false}
 use mathlib.Core.List.{List, [], _∷_, _++_, map, map-append}
-use mathlib.Core.Option.{none, some}
-use Prim.Native.Nat.{ℕ, _+_, _≤_, _<_}
+use mathlib.Core.Option.{Option, none, some}
+use Prim.Native.Nat.{ℕ, zero, suc, _+_, _≤_, _<_}
 use native.Mathlib.Numerals.{add-one}
 use native.Mathlib.Omega.{arith}
 use lib.Dec.{eqb}
@@ -17,113 +17,126 @@ use Rattle.fund.specs.declared.Refusal.the-variants.{Unmatched, Half}
 use Rattle.fund.specs.declared.Verdict.the-variants.{Accepted, Refused}
 use Rattle.fund.specs.Base.{if_then_else_}
 use Rattle.fund.specs.Limits.{most-members}
-use Rattle.fund.specs.Folding.{rateInForce, folded, life}
+use Rattle.fund.specs.Folding.{heldUntil, rateInForce, folded, life}
 use Rattle.fund.specs.Refusals.{first, unmatched, half, refuse}
 use Rattle.laws.specs.Rows.{blankRate, blankMember, blankLife, rows-length, rows-put}
 use Rattle.matching.specs.declared.table.Matched.{Matched}
 use Rattle.matching.specs.Matching.{lifeTable, withLives}
 use Rattle.matching.specs.Lives.{byMember}
-use Rattle.matching.proofs.Searching.{first-here, first-later, first-none, placed, placed-above, first-placed, rate-here, rate-before}
+use Rattle.matching.proofs.Searching.{first-here, first-later, first-none, placed, placed-above, first-placed, row-passed, row-held}
+
+-- The row before a place, that is held there; none at 0.
+abbrev pub rowBefore : List Rate → ℕ → Option Rate
+rowBefore rates zero = none
+rowBefore rates (suc i) = some (getD rates i blankRate)
 
 pub record LivesSoFar (rates : List Rate) (rated : ℕ) (members : List Member) (enrolled line : ℕ) (lives : List Life) (p k j : ℕ) : Type 0 where
+  pub few-rates : rated ≤ length rates
+  pub few-members : enrolled ≤ length members
+  pub long : length members ≡ most-members
   pub members-within : k ≤ enrolled
   pub rates-within : j ≤ rated
   pub lives-are : lives ≡ lifeTable (map (life (take rated rates)) (take k members))
   pub half-at : first half line (map (life (take rated rates)) (take k members)) ≡ placed p
   pub all-matched : first (unmatched (take rated rates)) line (take enrolled members) ≡ first (unmatched (take rated rates)) (line + k) (drop k (take enrolled members))
-  pub rate-among : rateInForce (take rated rates) (getD members k blankMember .age) ≡ rateInForce (take j rates) (getD members k blankMember .age)
+  pub rate-held : rateInForce (take rated rates) (getD members k blankMember .age) ≡ heldUntil (rowBefore rates j) (drop j (take rated rates)) (getD members k blankMember .age)
 
-module _ (rates : List Rate) (rated : ℕ) (members : List Member) (enrolled line : ℕ) where
-  pub start : LivesSoFar rates rated members enrolled line (lifeTable []) 0 0 rated
-  unfolding first
-  start =
-      let z : line ≡ line + 0 = omega arith in
-      record {
-        members-within = omega arith;
-        rates-within = omega arith;
-        lives-are = refl;
-        half-at = refl;
-        all-matched = ap (λ n. first (unmatched (take rated rates)) n (take enrolled members)) z;
-        rate-among = refl;
-      }
+pub start : (rates : List Rate) (rated : ℕ) (members : List Member) (enrolled line : ℕ) → rated ≤ length rates → enrolled ≤ length members → length members ≡ most-members → LivesSoFar rates rated members enrolled line (lifeTable []) 0 0 0
+unfolding first rateInForce
+start rates rated members enrolled line few-rates few-members long =
+    let z : line ≡ line + 0 = omega arith in
+    record {
+      few-rates = few-rates;
+      few-members = few-members;
+      long = long;
+      members-within = omega arith;
+      rates-within = omega arith;
+      lives-are = refl;
+      half-at = refl;
+      all-matched = ap (λ n. first (unmatched (take rated rates)) n (take enrolled members)) z;
+      rate-held = refl;
+    }
 
-  module _ (few-rates : rated ≤ length rates) (few-members : enrolled ≤ length members) (long : length members ≡ most-members) (lives : List Life) (p k j : ℕ) (s : LivesSoFar rates rated members enrolled line lives p k j) where
-    so-far : length (map (life (take rated rates)) (take k members)) ≡ k
-    so-far = length-map (take k members) (life (take rated rates)) ∙ length-take-le k members (omega (arith, s .members-within))
+module _ {rates : List Rate} {rated : ℕ} {members : List Member} {enrolled line : ℕ} {lives : List Life} {p k j : ℕ} (s : LivesSoFar rates rated members enrolled line lives p k j) where
+  so-far : length (map (life (take rated rates)) (take k members)) ≡ k
+  so-far = length-map (take k members) (life (take rated rates)) ∙ length-take-le k members (omega (arith, s .members-within))
 
-    pub lives-long : length lives ≡ most-members
-    unfolding lifeTable
-    lives-long =
-        ap length (s .lives-are)
-        ∙ rows-length blankLife most-members (map (life (take rated rates)) (take k members)) (omega (arith, so-far, s .members-within))
+  pub lives-long : length lives ≡ most-members
+  unfolding lifeTable
+  lives-long =
+      ap length (s .lives-are)
+      ∙ rows-length blankLife most-members (map (life (take rated rates)) (take k members)) (omega (arith, so-far, s .members-within))
 
-    module _ (member-left : k < enrolled) where
-      -- every rate row is above the member k's age
+  module _ (member-left : k < enrolled) where
+    -- the row j is not above the member k's age
+    pub next-rate : j < rated → getD rates j blankRate .age ≤ getD members k blankMember .age → LivesSoFar rates rated members enrolled line lives p k (j + 1)
+    next-rate h e =
+        record {
+          few-rates = s .few-rates;
+          few-members = s .few-members;
+          long = s .long;
+          members-within = s .members-within;
+          rates-within = omega arith;
+          lives-are = s .lives-are;
+          half-at = s .half-at;
+          all-matched = s .all-matched;
+          rate-held = s .rate-held ∙ row-passed rates rated (s .few-rates) (getD members k blankMember .age) (rowBefore rates j) j h e ∙ rw (add-one j);
+        }
+
+    -- the row j is above it, or there is none
+    module _ (above : j < rated → getD members k blankMember .age < getD rates j blankRate .age) where
+      in-force : rateInForce (take rated rates) (getD members k blankMember .age) ≡ rowBefore rates j
+      in-force = s .rate-held ∙ row-held rates rated (s .few-rates) (getD members k blankMember .age) (rowBefore rates j) j above
+
       pub no-rate : j ≡ 0 → (r : Matched) → r ≡ withLives [] (Refused Unmatched (line + k)) → r ≡ byMember (take rated rates) (take enrolled members) line
-      unfolding byMember unmatched refuse withLives rateInForce
-      no-rate h r e =
-          let n : rateInForce (take rated rates) (getD members k blankMember .age) ≡ none = s .rate-among ∙ rw h in
+      unfolding byMember unmatched refuse withLives
+      no-rate z r e =
+          let n : rateInForce (take rated rates) (getD members k blankMember .age) ≡ none = in-force ∙ rw z in
           let u : unmatched (take rated rates) (getD members k blankMember) ≡ true = rw (n, unmatched) in
-          e ∙ rw (s .all-matched ∙ first-here members enrolled few-members blankMember (unmatched (take rated rates)) line k member-left u)
+          e ∙ rw (s .all-matched ∙ first-here members enrolled (s .few-members) blankMember (unmatched (take rated rates)) line k member-left u)
 
-      -- the row before j is above the member k's age, or in force there
-      module _ (i : ℕ) (row-left : j ≡ i + 1) where
-        last-among : rateInForce (take rated rates) (getD members k blankMember .age) ≡ rateInForce (take (i + 1) rates) (getD members k blankMember .age)
-        last-among = s .rate-among ∙ rw row-left
+      pub its-rate : 0 < line → (i : ℕ) → j ≡ i + 1 → (x : Life) (p′ : ℕ) → x ≡ folded (some (getD rates i blankRate)) (getD members k blankMember) → p′ ≡ (if eqb p 0 then (if half x then line + k else 0) else p) → LivesSoFar rates rated members enrolled line (set lives k x) p′ (k + 1) 0
+      unfolding life unmatched lifeTable rateInForce
+      its-rate counted i z x p′ f g =
+          let found : rateInForce (take rated rates) (getD members k blankMember .age) ≡ some (getD rates i blankRate) = in-force ∙ rw (z, add-one i) in
+          let u : unmatched (take rated rates) (getD members k blankMember) ≡ false = rw (found, unmatched) in
+          let is : x ≡ life (take rated rates) (getD members k blankMember) = f ∙ rw found in
+          let more : map (life (take rated rates)) (take (k + 1) members) ≡ map (life (take rated rates)) (take k members) ++ (x ∷ []) =
+          rw (add-one k, take-suc members k blankMember (omega arith), map-append, is) in
+          record {
+            few-rates = s .few-rates;
+            few-members = s .few-members;
+            long = s .long;
+            members-within = omega arith;
+            rates-within = omega arith;
+            lives-are =
+                ap (λ l. set l k x) (s .lives-are)
+                ∙ ap (λ n. set (lifeTable (map (life (take rated rates)) (take k members))) n x) (sym so-far)
+                ∙ rows-put blankLife x most-members (map (life (take rated rates)) (take k members)) (omega (arith, so-far))
+                ∙ ap lifeTable (sym more);
+            half-at =
+                ap (first half line) more
+                ∙ first-placed half x line p (map (life (take rated rates)) (take k members)) counted (s .half-at)
+                ∙ ap (λ n. placed (if eqb p 0 then (if half x then line + n else 0) else p)) so-far
+                ∙ ap placed (sym g);
+            all-matched = s .all-matched ∙ first-later members enrolled (s .few-members) blankMember (unmatched (take rated rates)) line k member-left u;
+            rate-held = refl;
+          }
 
-        room : i < length rates
-        room = omega (arith, s .rates-within)
+  module _ (all-members : enrolled ≤ k) where
+    none-five : first (unmatched (take rated rates)) line (take enrolled members) ≡ none
+    none-five = s .all-matched ∙ first-none members enrolled (s .few-members) blankMember (unmatched (take rated rates)) line k all-members
 
-        pub earlier-rate : getD members k blankMember .age < getD rates i blankRate .age → LivesSoFar rates rated members enrolled line lives p k i
-        earlier-rate d =
-            record {
-              members-within = s .members-within;
-              rates-within = omega (arith, s .rates-within);
-              lives-are = s .lives-are;
-              half-at = s .half-at;
-              all-matched = s .all-matched;
-              rate-among = last-among ∙ rate-before rates (getD members k blankMember .age) i room d;
-            }
+    all : k ≡ enrolled
+    all = omega (arith, s .members-within)
 
-        pub its-rate : 0 < line → (x : Life) (p′ : ℕ) → getD rates i blankRate .age ≤ getD members k blankMember .age → x ≡ folded (some (getD rates i blankRate)) (getD members k blankMember) → p′ ≡ (if eqb p 0 then (if half x then line + k else 0) else p) → LivesSoFar rates rated members enrolled line (set lives k x) p′ (k + 1) rated
-        unfolding life unmatched lifeTable
-        its-rate above x p′ e f g =
-            let found : rateInForce (take rated rates) (getD members k blankMember .age) ≡ some (getD rates i blankRate) = last-among ∙ rate-here rates (getD members k blankMember .age) i room e in
-            let u : unmatched (take rated rates) (getD members k blankMember) ≡ false = rw (found, unmatched) in
-            let is : x ≡ life (take rated rates) (getD members k blankMember) = f ∙ rw found in
-            let more : map (life (take rated rates)) (take (k + 1) members) ≡ map (life (take rated rates)) (take k members) ++ (x ∷ []) =
-            rw (add-one k, take-suc members k blankMember (omega arith), map-append, is) in
-            record {
-              members-within = omega arith;
-              rates-within = omega arith;
-              lives-are =
-                  ap (λ l. set l k x) (s .lives-are)
-                  ∙ ap (λ n. set (lifeTable (map (life (take rated rates)) (take k members))) n x) (sym so-far)
-                  ∙ rows-put blankLife x most-members (map (life (take rated rates)) (take k members)) (omega (arith, so-far))
-                  ∙ ap lifeTable (sym more);
-              half-at =
-                  ap (first half line) more
-                  ∙ first-placed half x line p (map (life (take rated rates)) (take k members)) above (s .half-at)
-                  ∙ ap (λ n. placed (if eqb p 0 then (if half x then line + n else 0) else p)) so-far
-                  ∙ ap placed (sym g);
-              all-matched = s .all-matched ∙ first-later members enrolled few-members blankMember (unmatched (take rated rates)) line k member-left u;
-              rate-among = refl;
-            }
+    by-six : first half line (map (life (take rated rates)) (take enrolled members)) ≡ placed p
+    by-six = rw all at (s .half-at)
 
-    module _ (all-members : enrolled ≤ k) where
-      none-five : first (unmatched (take rated rates)) line (take enrolled members) ≡ none
-      none-five = s .all-matched ∙ first-none members enrolled few-members blankMember (unmatched (take rated rates)) line k all-members
+    pub half-found : (p ≡ 0 → ⊥) → (r : Matched) → r ≡ withLives [] (Refused Half p) → r ≡ byMember (take rated rates) (take enrolled members) line
+    unfolding byMember refuse withLives
+    half-found d r e = e ∙ sym (rw (none-five, by-six, placed-above p (omega arith)))
 
-      all : k ≡ enrolled
-      all = omega (arith, s .members-within)
-
-      by-six : first half line (map (life (take rated rates)) (take enrolled members)) ≡ placed p
-      by-six = rw all at (s .half-at)
-
-      pub half-found : (p ≡ 0 → ⊥) → (r : Matched) → r ≡ withLives [] (Refused Half p) → r ≡ byMember (take rated rates) (take enrolled members) line
-      unfolding byMember refuse withLives
-      half-found d r e = e ∙ sym (rw (none-five, by-six, placed-above p (omega arith)))
-
-      pub all-lives : p ≡ 0 → record { verdict = Accepted; lives = lives } ≡ byMember (take rated rates) (take enrolled members) line
-      unfolding byMember refuse withLives
-      all-lives z = rw (none-five, by-six, z, s .lives-are, all)
+    pub all-lives : p ≡ 0 → record { verdict = Accepted; lives = lives } ≡ byMember (take rated rates) (take enrolled members) line
+    unfolding byMember refuse withLives
+    all-lives z = rw (none-five, by-six, z, s .lives-are, all)

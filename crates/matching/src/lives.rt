@@ -40,9 +40,9 @@ fn folded(r: Rate, m: Member) -> Life
     }
 }
 
-// 5, then 6, each over all members, or the lives. The row in force at the member k's age is the last that is not above it: of the rows
-// before j, from the last down, since the later ones are above it. `line` is the line of the first member, and `half_at` the place of the
-// first life of 6, 0 while there is none.
+// 5, then 6, each over all members, or the lives. The first j rows are not above the member k's age: the last of these is in force where the
+// row j is above it, or there is none. `line` is the line of the first member, and `half_at` the place of the first life of 6, 0 while
+// there is none.
 pub(crate) fn by_member(
     rates: [Rate; Fund::RATE_ROWS],
     rated: usize,
@@ -57,22 +57,25 @@ pub(crate) fn by_member(
     let mut lives = [none; Fund::MEMBER_ROWS];
     let mut half_at: u64 = 0;
     let mut k: usize = 0;
-    let mut j: usize = rated;
+    let mut j: usize = 0;
     while k < enrolled {
+        let m = members[k];
+        if j < rated {
+            let next = rates[j];
+            if next.age <= m.age {
+                j += 1;
+                continue;
+            }
+        }
         if j == 0 {
             return table::without_lives(Refusal::Unmatched, line + k as u64);
         }
-        let m = members[k];
         let r = rates[j - 1];
-        if r.age <= m.age {
-            let life = folded(r, m);
-            half_at = half::first_place(half_at, life, line + k as u64);
-            lives[k] = life;
-            k += 1;
-            j = rated;
-            continue;
-        }
-        j -= 1;
+        let life = folded(r, m);
+        half_at = half::first_place(half_at, life, line + k as u64);
+        lives[k] = life;
+        k += 1;
+        j = 0;
     }
     if half_at != 0 {
         return table::without_lives(Refusal::Half, half_at);
