@@ -1,12 +1,12 @@
 -- A file without one of its rate lines is read, as the fund without that row (read-without).
 use mathlib.Core.Path.{_≡_, refl, sym, _∙_, ap, subst}
-use mathlib.Core.Bool.{Bool, true, false}
+use mathlib.Core.Bool.{true, false, true≢false}
 use mathlib.Core.List.{List, [], _∷_, _++_, append-nil, append-assoc}
 use mathlib.Core.Option.{Option, none, some}
 use Prim.Native.Nat.{ℕ, zero, suc, _+_, _<_}
 use native.Mathlib.Omega.{arith}
 use borrow.Author.Tests.{ltb-true, lt-ltb}
-use lib.Dec.{eqb, leb, ltb}
+use lib.Dec.{leb, ltb}
 use lib.ListN.{length, length-append}
 use Rattle.fund.specs.declared.Fund.{Fund}
 use Rattle.fund.specs.declared.Rate.{Rate}
@@ -15,10 +15,11 @@ use Rattle.fund.specs.declared.Refusal.the-variants.{Form, Range}
 use Rattle.fund.specs.Limits.{most-rates, most-age, most-rate}
 use Rattle.fund.specs.Lines.{Line}
 use Rattle.fund.specs.Spelling.{spelled}
-use Rattle.fund.specs.Reading.{FundFile, Reading, read, stopped, inRanges, HeaderLine, headerLines, headerOf, Row, rateRow, memberRow, endRow, otherRow, rowOf, rising, rateInRange, memberInRange, noMember, atEnd, readRows, readHeader, reading}
+use Rattle.fund.specs.Reading.{FundFile, read, inRanges, HeaderLine, headerLines, headerOf, rising, rateInRange, noMember, readRows, readHeader, reading}
 use Rattle.laws.specs.Accepted.{All}
 use Rattle.laws.specs.InForce.{Rising}
-use Rattle.laws.specs.Ranges.{and-true, never, pass, above-all, rising-more, rate-rises}
+use Rattle.laws.specs.Passing.{never, pass, Passed, rateLine, memberLine, endLine, passed, on-rate, on-member, on-end}
+use Rattle.laws.specs.Ranges.{and-true, above-all, rise-more}
 use Rattle.laws.specs.Texts.{texts, reading-texts, withoutLine, dropAt, texts-without}
 
 -- A fund without the rate row of a place, counted from 0.
@@ -53,94 +54,67 @@ still-in-range rs ss r x k e =
     let rises : rising (rs ++ ss) (x .age) ≡ true = all-above (rs ++ ss) (x .age) (all-without (λ (s : Rate). s .age < x .age) rs ss r (above-all (rs ++ (r ∷ ss)) (x .age) k (h2 .1))) in
     rw (fits, h1 .1, rises, h3 .1, h4 .1, h5 .1)
 
--- ---- what reading passes
-passed : (why : _) (n : ℕ) (b : Bool) (next : Reading) → b ≡ true → elim b [ false ↦ stopped why n | true ↦ next ] ≡ next
-passed why n b next e = rw e
-
-end-read : (n : ℕ) (file fund : FundFile) (ls : List Line) → atEnd n file ls ≡ read fund → (file ≡ fund) × (ls ≡ [])
-unfolding atEnd
-end-read n file fund [] e = (cc, refl)
-end-read n file fund (l ∷ ls) e = absurd (never Form n fund e)
+-- ---- the rows
+some-member : (ms : List Member) (m : Member) → noMember (ms ++ (m ∷ [])) ≡ false
+unfolding noMember
+some-member [] m = refl
+some-member (x ∷ ms) m = refl
 
 -- The rows that are read with one row less before them.
 rows-fewer : (ls : List Line) (n n′ : ℕ) (header : Fund) (rs ss : List Rate) (r : Rate) (members : List Member) (fund : FundFile) → Rising (rs ++ (r ∷ ss)) →
     readRows n header (rs ++ (r ∷ ss)) members ls ≡ read fund → readRows n′ header (rs ++ ss) members ls ≡ read (fewer (length rs) fund)
-unfolding readRows atEnd
+unfolding readRows
 rows-fewer [] n n′ header rs ss r members fund k e = absurd (never Form n fund e)
-rows-fewer (l ∷ ls) n n′ header rs ss r members fund k e = go (rowOf l) refl e (λ ts ms. rows-fewer ls (suc n) (suc n′) header rs ts r ms fund)
+rows-fewer (l ∷ ls) n n′ header rs ss r members fund k e = go (passed n header (rs ++ (r ∷ ss)) members l ls fund e) (λ ts ms. rows-fewer ls (suc n) (suc n′) header rs ts r ms fund)
   where
-    go : (row : Row) → rowOf l ≡ row → readRows n header (rs ++ (r ∷ ss)) members (l ∷ ls) ≡ read fund →
+    go : Passed n header (rs ++ (r ∷ ss)) members l ls fund →
         ((ts : List Rate) (ms : List Member) → Rising (rs ++ (r ∷ ts)) → readRows (suc n) header (rs ++ (r ∷ ts)) ms ls ≡ read fund → readRows (suc n′) header (rs ++ ts) ms ls ≡ read (fewer (length rs) fund)) →
         readRows n′ header (rs ++ ss) members (l ∷ ls) ≡ read (fewer (length rs) fund)
-    go (rateRow x) s h ih =
-        let h1 = pass (noMember members) Form n _ fund (rw (s, readRows) at h) in
-        let h2 = pass (rateInRange (rs ++ (r ∷ ss)) x) Range n (readRows (suc n) header ((rs ++ (r ∷ ss)) ++ (x ∷ [])) members ls) fund (h1 .1) in
-        let more : (rs ++ (r ∷ ss)) ++ (x ∷ []) ≡ rs ++ (r ∷ (ss ++ (x ∷ []))) = append-assoc rs (r ∷ ss) (x ∷ []) in
-        let rise = rising-more (rs ++ (r ∷ ss)) x k (above-all (rs ++ (r ∷ ss)) (x .age) k (rate-rises (rs ++ (r ∷ ss)) x (h2 .0))) in
-        rw (s, readRows) (rw (h1 .0, still-in-range rs ss r x k (h2 .0), append-assoc rs ss (x ∷ []))
-        (ih (ss ++ (x ∷ [])) members (subst Rising more rise) (ap (λ ts. readRows (suc n) header ts members ls) (sym more) ∙ h2 .1)))
-    go (memberRow m) s h ih =
-        let h2 = pass (memberInRange members m) Range n (readRows (suc n) header (rs ++ (r ∷ ss)) (members ++ (m ∷ [])) ls) fund (rw (s, readRows) at h) in
-        rw (s, readRows) (rw (h2 .0) (ih ss (members ++ (m ∷ [])) k (h2 .1)))
-    go (endRow c) s h ih =
-        let h2 = pass (eqb c (length members)) Range n (atEnd (suc n) (record { header = header; rates = rs ++ (r ∷ ss); members = members }) ls) fund (rw (s, readRows) at h) in
-        let z = end-read (suc n) (record { header = header; rates = rs ++ (r ∷ ss); members = members }) fund ls (h2 .1) in
-        rw (s, readRows) (rw (h2 .0, z .1, atEnd) (rw (sym (z .0), drop-middle rs ss r)))
-    go otherRow s h ih = absurd (never Form n fund (rw (s, readRows) at h))
+    go (rateLine x s a b w) ih =
+        let more = append-assoc rs (r ∷ ss) (x ∷ []) in
+        on-rate n′ header (rs ++ ss) members l ls x s a (still-in-range rs ss r x k b)
+        ∙ ap (λ ts. readRows (suc n′) header ts members ls) (append-assoc rs ss (x ∷ []))
+        ∙ ih (ss ++ (x ∷ [])) members (subst Rising more (rise-more (rs ++ (r ∷ ss)) x k b)) (ap (λ ts. readRows (suc n) header ts members ls) (sym more) ∙ w)
+    go (memberLine m s b w) ih = on-member n′ header (rs ++ ss) members l ls m s b ∙ ih ss (members ++ (m ∷ [])) k w
+    go (endLine c s b z w) ih =
+        on-end n′ header (rs ++ ss) members l ls c s b z
+        ∙ ap (λ ts. read (record { header = header; rates = ts; members = members })) (sym (drop-middle rs ss r))
+        ∙ ap (λ f. read (fewer (length rs) f)) w
 
 -- Behind a member line no rate line is read.
 rows-rates : (ls : List Line) (n : ℕ) (header : Fund) (rates : List Rate) (members : List Member) (fund : FundFile) → noMember members ≡ false →
     readRows n header rates members ls ≡ read fund → fund .rates ≡ rates
-unfolding readRows noMember
+unfolding readRows
 rows-rates [] n header rates members fund k e = absurd (never Form n fund e)
-rows-rates (l ∷ ls) n header rates members fund k e = go (rowOf l) refl e (λ m. rows-rates ls (suc n) header rates (members ++ (m ∷ [])) fund)
+rows-rates (l ∷ ls) n header rates members fund k e = go (passed n header rates members l ls fund e) (λ m. rows-rates ls (suc n) header rates (members ++ (m ∷ [])) fund (some-member members m))
   where
-    some-member : (ms : List Member) (m : Member) → noMember (ms ++ (m ∷ [])) ≡ false
-    some-member [] m = refl
-    some-member (x ∷ ms) m = refl
-
-    go : (row : Row) → rowOf l ≡ row → readRows n header rates members (l ∷ ls) ≡ read fund →
-        ((m : Member) → noMember (members ++ (m ∷ [])) ≡ false → readRows (suc n) header rates (members ++ (m ∷ [])) ls ≡ read fund → fund .rates ≡ rates) → fund .rates ≡ rates
-    go (rateRow x) s h ih = absurd (never Form n fund (rw (s, readRows, k) at h))
-    go (memberRow m) s h ih =
-        let h2 = pass (memberInRange members m) Range n (readRows (suc n) header rates (members ++ (m ∷ [])) ls) fund (rw (s, readRows) at h) in
-        ih m (some-member members m) (h2 .1)
-    go (endRow c) s h ih =
-        let h2 = pass (eqb c (length members)) Range n (atEnd (suc n) (record { header = header; rates = rates; members = members }) ls) fund (rw (s, readRows) at h) in
-        ap (λ (f : FundFile). f .rates) (sym (end-read (suc n) (record { header = header; rates = rates; members = members }) fund ls (h2 .1) .0))
-    go otherRow s h ih = absurd (never Form n fund (rw (s, readRows) at h))
+    go : Passed n header rates members l ls fund → ((m : Member) → readRows (suc n) header rates (members ++ (m ∷ [])) ls ≡ read fund → fund .rates ≡ rates) → fund .rates ≡ rates
+    go (rateLine x s a b w) ih = absurd (true≢false (sym a ∙ k))
+    go (memberLine m s b w) ih = ih m w
+    go (endLine c s b z w) ih = ap (λ (f : FundFile). f .rates) (sym w)
 
 -- The row j of those that follow is left out.
 rows-left : (ls : List Line) (j n : ℕ) (header : Fund) (rates : List Rate) (fund : FundFile) → Rising rates → length rates + j < length (fund .rates) →
     readRows n header rates [] ls ≡ read fund → readRows n header rates [] (dropAt j ls) ≡ read (fewer (length rates + j) fund)
-unfolding readRows noMember
+unfolding readRows
 rows-left [] j n header rates fund k few e = absurd (never Form n fund e)
-rows-left (l ∷ ls) j n header rates fund k few e = go j (rowOf l) refl few e (λ i rs. rows-left ls i (suc n) header rs fund)
+rows-left (l ∷ ls) j n header rates fund k few e = go j few (passed n header rates [] l ls fund e) (λ i rs. rows-left ls i (suc n) header rs fund)
   where
-    go : (j : ℕ) (row : Row) → rowOf l ≡ row → length rates + j < length (fund .rates) → readRows n header rates [] (l ∷ ls) ≡ read fund →
+    go : (j : ℕ) → length rates + j < length (fund .rates) → Passed n header rates [] l ls fund →
         ((i : ℕ) (rs : List Rate) → Rising rs → length rs + i < length (fund .rates) → readRows (suc n) header rs [] ls ≡ read fund → readRows (suc n) header rs [] (dropAt i ls) ≡ read (fewer (length rs + i) fund)) →
         readRows n header rates [] (dropAt j (l ∷ ls)) ≡ read (fewer (length rates + j) fund)
-    go zero (rateRow x) s few h ih =
-        let h2 = pass (rateInRange rates x) Range n (readRows (suc n) header (rates ++ (x ∷ [])) [] ls) fund (rw (s, readRows) at h) in
-        let rise = rising-more rates x k (above-all rates (x .age) k (rate-rises rates x (h2 .0))) in
-        let z : length rates + 0 ≡ length rates = omega arith in
-        let f = rows-fewer ls (suc n) n header rates [] x [] fund rise (h2 .1) in
-        rw z (ap (λ rs. readRows n header rs [] ls) (sym (append-nil rates)) ∙ f)
-    go (suc i) (rateRow x) s few h ih =
-        let h2 = pass (rateInRange rates x) Range n (readRows (suc n) header (rates ++ (x ∷ [])) [] ls) fund (rw (s, readRows) at h) in
-        let rise = rising-more rates x k (above-all rates (x .age) k (rate-rises rates x (h2 .0))) in
+    go zero few (rateLine x s a b w) ih =
+        let z : length rates ≡ length rates + 0 = omega arith in
+        ap (λ rs. readRows n header rs [] ls) (sym (append-nil rates))
+        ∙ rows-fewer ls (suc n) n header rates [] x [] fund (rise-more rates x k b) w
+        ∙ ap (λ i. read (fewer i fund)) z
+    go (suc i) few (rateLine x s a b w) ih =
         let z : length (rates ++ (x ∷ [])) + i ≡ length rates + suc i = omega (arith, length-append rates (x ∷ [])) in
-        rw (s, readRows) (rw (h2 .0, sym z) (ih i (rates ++ (x ∷ [])) rise (omega (arith, z)) (h2 .1)))
-    go j (memberRow m) s few h ih =
-        let h2 = pass (memberInRange [] m) Range n (readRows (suc n) header rates (m ∷ []) ls) fund (rw (s, readRows) at h) in
-        let z = rows-rates ls (suc n) header rates (m ∷ []) fund refl (h2 .1) in
-        absurd (omega (arith, ap length z))
-    go j (endRow c) s few h ih =
-        let h2 = pass (eqb c 0) Range n (atEnd (suc n) (record { header = header; rates = rates; members = [] }) ls) fund (rw (s, readRows) at h) in
-        let z = end-read (suc n) (record { header = header; rates = rates; members = [] }) fund ls (h2 .1) in
-        absurd (omega (arith, ap (λ (f : FundFile). length (f .rates)) (z .0)))
-    go j otherRow s few h ih = absurd (never Form n fund (rw (s, readRows) at h))
+        on-rate n header rates [] l (dropAt i ls) x s a b ∙ ih i (rates ++ (x ∷ [])) (rise-more rates x k b) (omega (arith, z)) w ∙ ap (λ i. read (fewer i fund)) z
+    go j few (memberLine m s b w) ih = absurd (omega (arith, ap length (rows-rates ls (suc n) header rates (m ∷ []) fund (some-member [] m) w)))
+    go j few (endLine c s b z w) ih = absurd (omega (arith, ap (λ (f : FundFile). length (f .rates)) w))
 
+-- ---- the header
 header-left : (hs : List HeaderLine) (j n : ℕ) (ns : List ℕ) (ls : List Line) (fund : FundFile) → j < length (fund .rates) →
     readHeader hs n ns ls ≡ read fund → readHeader hs n ns (dropAt (length hs + j) ls) ≡ read (fewer j fund)
 unfolding readHeader

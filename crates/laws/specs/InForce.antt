@@ -1,5 +1,5 @@
--- The rate in force: it is one of the rows (in-force-all); there is none just in an empty table and for an age below the first row
--- (unmatched-just). Where ages rise, a row holds from its age until the next row's (row-holds), and none is in force just below every row.
+-- The rate in force: it is one of the rows (in-force-all); behind rows that are not above the age a row holds from its age until the next
+-- row's (row-holds); there is none, and a member is unmatched, just in an empty table and for an age below the first row (unmatched-just).
 use mathlib.Core.Path.{_≡_, refl, _∙_, ap, subst}
 use mathlib.Core.Bool.{Bool, true, false}
 use mathlib.Core.List.{List, [], _∷_, _++_}
@@ -16,7 +16,7 @@ use Rattle.fund.specs.Refusals.{unmatched}
 use Rattle.laws.specs.Accepted.{All}
 use Rattle.laws.specs.Tells.{Tells}
 
--- every row is above an age, or none is
+-- an age is below every row's, or not below any
 abbrev pub Below : ℕ → List Rate → Type 0
 Below age rs = All (λ (r : Rate). age < r .age) rs
 

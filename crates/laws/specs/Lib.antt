@@ -11,6 +11,7 @@ pub mod Tells
 pub mod Numbers
 pub mod Rows
 pub mod InForce
+pub mod Passing
 pub mod SameRates
 pub mod OwnRows
 pub mod Texts

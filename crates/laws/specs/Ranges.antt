@@ -12,15 +12,15 @@ use lib.ListN.{length, length-append, length-map}
 use Rattle.fund.specs.declared.Fund.{Fund}
 use Rattle.fund.specs.declared.Rate.{Rate}
 use Rattle.fund.specs.declared.Member.{Member}
-use Rattle.fund.specs.declared.Refusal.{Refusal}
 use Rattle.fund.specs.declared.Refusal.the-variants.{Form, Range}
 use Rattle.fund.specs.Limits.{least-edition, most-edition, most-horizon, least-order, most-order, most-frequency, most-deductible, most-rates, most-age, most-rate, most-members, least-group, most-group, most-amount}
 use Rattle.fund.specs.Base.{if_then_else_}
 use Rattle.fund.specs.Lines.{Line, lines}
 use Rattle.fund.specs.Spelling.{value, fields, allNumbers, numbers, behind, spelled}
-use Rattle.fund.specs.Reading.{FundFile, Reading, read, stopped, between, NumberRange, inRanges, HeaderLine, headerLines, headerOf, Row, rateRow, memberRow, endRow, otherRow, rowOf, rising, rateInRange, memberInRange, noMember, atEnd, readRows, readHeader, reading}
+use Rattle.fund.specs.Reading.{FundFile, read, between, NumberRange, inRanges, HeaderLine, headerLines, headerOf, rising, rateInRange, memberInRange, readRows, readHeader, reading}
 use Rattle.laws.specs.Accepted.{All}
 use Rattle.laws.specs.InForce.{Rising}
+use Rattle.laws.specs.Passing.{never, pass, Passed, rateLine, memberLine, endLine, passed}
 
 pub record RateOk (r : Rate) : Type 0 where
   pub age : r .age ≤ most-age
@@ -64,7 +64,7 @@ above-all (r ∷ s ∷ rs) age k e =
     let later = above-all (s ∷ rs) age (k .1) e in
     (omega (arith, k .0 .0, later .0), later)
 
-pub rising-more : (rs : List Rate) (r : Rate) → Rising rs → All (λ (s : Rate). s .age < r .age) rs → Rising (rs ++ (r ∷ []))
+rising-more : (rs : List Rate) (r : Rate) → Rising rs → All (λ (s : Rate). s .age < r .age) rs → Rising (rs ++ (r ∷ []))
 rising-more [] r k h = (tt, tt)
 rising-more (s ∷ rs) r k h = (all-snoc (λ t. s .age < t .age) rs r (k .0) (h .0), rising-more rs r (k .1) (h .1))
 
@@ -80,8 +80,8 @@ rate-ok before r e =
       (h2 .1, record { age = leb-true _ _ (h1 .1); q = leb-true _ _ (h3 .1); i = leb-true _ _ (h4 .1); both = leb-true _ _ (h5 .1) }),
     )
 
-pub rate-rises : (before : List Rate) (r : Rate) → rateInRange before r ≡ true → rising before (r .age) ≡ true
-rate-rises before r e = rate-ok before r e .1 .0
+pub rise-more : (rs : List Rate) (r : Rate) → Rising rs → rateInRange rs r ≡ true → Rising (rs ++ (r ∷ []))
+rise-more rs r k e = rising-more rs r k (above-all rs (r .age) k (rate-ok rs r e .1 .0))
 
 member-ok : (before : List Member) (m : Member) → memberInRange before m ≡ true → (length before < most-members) × MemberOk m
 unfolding memberInRange
@@ -100,16 +100,13 @@ pub record Reads (header : Fund) (fund : FundFile) : Type 0 where
   pub header-is : fund .header ≡ header
   pub rows : RowsOk (fund .rates) (fund .members)
 
-pub never : (why : Refusal) (n : ℕ) (fund : FundFile) → stopped why n ≡ read fund → ⊥
-never why n fund e = let z : _≡_ {A = ℕ} 0 1 = cc in omega arith
-
 more-rates : (rates : List Rate) (members : List Member) (r : Rate) → RowsOk rates members → rateInRange rates r ≡ true → RowsOk (rates ++ (r ∷ [])) members
 more-rates rates members r k e =
     let h = rate-ok rates r e in
     let l : length rates < most-rates = h .0 in
     record {
       rates = all-snoc RateOk rates r (k .rates) (h .1 .1);
-      rates-rise = rising-more rates r (k .rates-rise) (above-all rates (r .age) (k .rates-rise) (h .1 .0));
+      rates-rise = rise-more rates r (k .rates-rise) e;
       members = k .members;
       few-rates = omega (arith, length-append rates (r ∷ []));
       few-members = k .few-members;
@@ -127,44 +124,16 @@ more-members rates members m k e =
       few-members = omega (arith, length-append members (m ∷ []));
     }
 
-ended : (n : ℕ) (header : Fund) (rates : List Rate) (members : List Member) (ls : List Line) (fund : FundFile) → RowsOk rates members →
-    atEnd n (record { header = header; rates = rates; members = members }) ls ≡ read fund → Reads header fund
-unfolding atEnd
-ended n header rates members [] fund k e =
-    let file : FundFile = record { header = header; rates = rates; members = members } in
-    let z : file ≡ fund = cc in
-    subst (λ f. Reads header f) z (record { header-is = refl; rows = k })
-ended n header rates members (l ∷ ls) fund k e = absurd (never Form n fund e)
-
--- reading stops unless a test passes
-pub pass : (b : Bool) (why : Refusal) (n : ℕ) (next : Reading) (fund : FundFile) → elim b [ false ↦ stopped why n | true ↦ next ] ≡ read fund → (b ≡ true) × (next ≡ read fund)
-pass true why n next fund e = (refl, e)
-pass false why n next fund e = absurd (never why n fund e)
-
--- what follows a test that reading must pass
-pub on-pass : (t : Bool) (stop x y : Reading) → (t ≡ true → x ≡ y) → _≡_ {A = Reading} (elim t [ false ↦ stop | true ↦ x ]) (elim t [ false ↦ stop | true ↦ y ])
-on-pass true stop x y h = h refl
-on-pass false stop x y h = refl
-
 pub rows-ranges : (ls : List Line) (n : ℕ) (header : Fund) (rates : List Rate) (members : List Member) (fund : FundFile) → RowsOk rates members →
     readRows n header rates members ls ≡ read fund → Reads header fund
 unfolding readRows
 rows-ranges [] n header rates members fund k e = absurd (never Form n fund e)
-rows-ranges (l ∷ ls) n header rates members fund k e = go (rowOf l) refl e (λ rs ms. rows-ranges ls (suc n) header rs ms fund)
+rows-ranges (l ∷ ls) n header rates members fund k e = go (passed n header rates members l ls fund e) (λ rs ms. rows-ranges ls (suc n) header rs ms fund)
   where
-    go : (row : Row) → rowOf l ≡ row → readRows n header rates members (l ∷ ls) ≡ read fund →
-        ((rs : List Rate) (ms : List Member) → RowsOk rs ms → readRows (suc n) header rs ms ls ≡ read fund → Reads header fund) → Reads header fund
-    go (rateRow r) s h ih =
-        let h1 = pass (noMember members) Form n _ fund (rw (s, readRows) at h) in
-        let h2 = pass (rateInRange rates r) Range n (readRows (suc n) header (rates ++ (r ∷ [])) members ls) fund (h1 .1) in
-        ih (rates ++ (r ∷ [])) members (more-rates rates members r k (h2 .0)) (h2 .1)
-    go (memberRow m) s h ih =
-        let h2 = pass (memberInRange members m) Range n (readRows (suc n) header rates (members ++ (m ∷ [])) ls) fund (rw (s, readRows) at h) in
-        ih rates (members ++ (m ∷ [])) (more-members rates members m k (h2 .0)) (h2 .1)
-    go (endRow c) s h ih =
-        let h2 = pass (eqb c (length members)) Range n (atEnd (suc n) (record { header = header; rates = rates; members = members }) ls) fund (rw (s, readRows) at h) in
-        ended (suc n) header rates members ls fund k (h2 .1)
-    go otherRow s h ih = absurd (never Form n fund (rw (s, readRows) at h))
+    go : Passed n header rates members l ls fund → ((rs : List Rate) (ms : List Member) → RowsOk rs ms → readRows (suc n) header rs ms ls ≡ read fund → Reads header fund) → Reads header fund
+    go (rateLine r s a b w) ih = ih (rates ++ (r ∷ [])) members (more-rates rates members r k b) w
+    go (memberLine m s b w) ih = ih rates (members ++ (m ∷ [])) (more-members rates members m k b) w
+    go (endLine c s b z w) ih = subst (λ f. Reads header f) w (record { header-is = refl; rows = k })
 
 -- ---- the header
 numbers-length : (count : ℕ) (text v : List ℕ) → numbers count text ≡ some v → length v ≡ count

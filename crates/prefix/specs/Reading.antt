@@ -19,7 +19,7 @@ use Rattle.fund.specs.Lines.{Line}
 use Rattle.fund.specs.Spelling.{spelled}
 use Rattle.fund.specs.Reading.{FundFile, stopped, inRanges, HeaderLine, headerOf, Row, rateRow, memberRow, endRow, otherRow, rowOf, rateInRange, memberInRange, noMember, atEnd, readRows, readHeader}
 use Rattle.laws.specs.Accepted.{All}
-use Rattle.laws.specs.Ranges.{on-pass}
+use Rattle.laws.specs.Passing.{on-pass}
 use Rattle.prefix.specs.Lines.{Cut, over, spent, same, inside}
 use Rattle.prefix.specs.Spelling.{most-line, Unspelled, open-line, long-line}
 
