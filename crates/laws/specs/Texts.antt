@@ -1,12 +1,13 @@
 -- Reading asks for the texts of the lines and not for the places where they start (reading-texts). A file without one of its lines has the
--- other lines' texts (texts-without).
+-- other lines' texts (texts-without), those behind it one place earlier (text-behind).
 use mathlib.Core.Path.{_≡_, refl, sym, _∙_, ap}
 use mathlib.Core.Bool.{Bool, true, false}
 use mathlib.Core.List.{List, [], _∷_, _++_, map}
 use mathlib.Core.Option.{Option, none, some}
-use Prim.Native.Nat.{ℕ, zero, suc}
+use Prim.Native.Nat.{ℕ, zero, suc, _≤_}
+use native.Mathlib.Omega.{arith}
 use lib.Dec.{eqb}
-use lib.ListN.{length}
+use lib.ListN.{length, getD}
 use Rattle.fund.specs.declared.Fund.{Fund}
 use Rattle.fund.specs.declared.Rate.{Rate}
 use Rattle.fund.specs.declared.Member.{Member}
@@ -133,3 +134,31 @@ texts-without (suc k) (b ∷ bs) = go (eqb b 10) (texts-without k bs) (texts-wit
         ≡ dropAt (suc k) (if t then record { start = 0; text = []; ended = true } ∷ texts bs else begun 0 b (texts bs))
     go true e f = ap (λ ls. record { start = 0; text = []; ended = true } ∷ ls) e
     go false e f = ap (begun 0 b) f ∙ begun-later k b (texts bs)
+
+-- ---- the lines behind a line that is left out
+-- The text of the line of a place, counted from 0.
+abbrev pub textAt : List ℕ → ℕ → List ℕ
+textAt file p = getD (map (λ (l : Line). l .text) (lines file)) p []
+
+texts-only : (ls : List Line) → map (λ (l : Line). l .text) (map bare ls) ≡ map (λ (l : Line). l .text) ls
+texts-only [] = refl
+texts-only (l ∷ ls) = ap (λ ts. l .text ∷ ts) (texts-only ls)
+
+text-at : (file : List ℕ) (p : ℕ) → textAt file p ≡ getD (map (λ (l : Line). l .text) (texts file)) p []
+unfolding lines
+text-at file p =
+    ap (λ ts. getD ts p []) (sym (texts-only (linesFrom 0 file)))
+    ∙ ap (λ ls. getD (map (λ (l : Line). l .text) ls) p []) (texts-are 0 file)
+
+drop-behind : (k p : ℕ) (ls : List Line) → k ≤ p → getD (map (λ (l : Line). l .text) (dropAt k ls)) p [] ≡ getD (map (λ (l : Line). l .text) ls) (suc p) []
+drop-behind k p [] h = refl
+drop-behind zero p (l ∷ ls) h = refl
+drop-behind (suc k) zero (l ∷ ls) h = absurd (omega arith)
+drop-behind (suc k) (suc p) (l ∷ ls) h = drop-behind k p ls (omega arith)
+
+pub text-behind : (k p : ℕ) (file : List ℕ) → k ≤ p → textAt (withoutLine k file) p ≡ textAt file (suc p)
+text-behind k p file h =
+    text-at (withoutLine k file) p
+    ∙ ap (λ ls. getD (map (λ (l : Line). l .text) ls) p []) (texts-without k file)
+    ∙ drop-behind k p (texts file) h
+    ∙ sym (text-at file (suc p))
