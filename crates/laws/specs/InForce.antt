@@ -1,5 +1,6 @@
 -- The rate in force: it is one of the rows (in-force-all); behind rows that are not above the age a row holds from its age until the next
--- row's (row-holds); there is none, and a member is unmatched, just in an empty table and for an age below the first row (unmatched-just).
+-- row's (row-holds), so that where ages rise the last row that is not above the age is in force (last-holds); there is none, and a member is
+-- unmatched, just in an empty table and for an age below the first row (unmatched-just).
 use mathlib.Core.Path.{_≡_, refl, _∙_, ap, subst}
 use mathlib.Core.Bool.{Bool, true, false}
 use mathlib.Core.List.{List, [], _∷_, _++_}
@@ -13,7 +14,7 @@ use Rattle.fund.specs.declared.Member.{Member}
 use Rattle.fund.specs.Base.{if_then_else_}
 use Rattle.fund.specs.Folding.{heldUntil, rateInForce}
 use Rattle.fund.specs.Refusals.{unmatched}
-use Rattle.laws.specs.Accepted.{All}
+use Rattle.laws.specs.Accepted.{All, all-map}
 use Rattle.laws.specs.Tells.{Tells}
 
 -- an age is below every row's, or not below any
@@ -66,6 +67,19 @@ pub row-holds : (before after : List Rate) (r : Rate) (age : ℕ) → NotAbove b
 unfolding rateInForce heldUntil
 row-holds before after r age b h k =
     held-through none before (r ∷ after) age b ∙ rw (le-leb (r .age) age h) (held-above (some r) [] after age k)
+
+all-middle : (P : Rate → Type 0) (before after : List Rate) (r : Rate) → All P (before ++ (r ∷ after)) → P r
+all-middle P [] after r k = k .0
+all-middle P (s ∷ before) after r k = all-middle P before after r (k .1)
+
+-- where ages rise, the rows before a row are below it
+pub before-below : (before after : List Rate) (r : Rate) → Rising (before ++ (r ∷ after)) → All (λ (s : Rate). s .age < r .age) before
+before-below [] after r k = tt
+before-below (s ∷ before) after r k = (all-middle (λ (t : Rate). s .age < t .age) before after r (k .0), before-below before after r (k .1))
+
+-- so in a file the last row that is not above an age is in force
+pub last-holds : (before after : List Rate) (r : Rate) (age : ℕ) → Rising (before ++ (r ∷ after)) → r .age ≤ age → Below age after → rateInForce (before ++ (r ∷ after)) age ≡ some r
+last-holds before after r age k h above = row-holds before after r age (all-map (λ s below. omega arith) before (before-below before after r k)) h above
 
 -- ---- none
 pub in-force-none : (rs : List Rate) (age : ℕ) → Below age rs → rateInForce rs age ≡ none

@@ -18,20 +18,12 @@ use Rattle.fund.specs.Reading.{FundFile, headerLines, read, reading}
 use Rattle.fund.specs.Folding.{heldUntil, rateInForce, lives}
 use Rattle.fund.specs.Refusals.{Lengths}
 use Rattle.fund.specs.Answer.{answer}
-use Rattle.laws.specs.Accepted.{All, all-map}
-use Rattle.laws.specs.InForce.{Below, NotAbove, Rising, held-above, lastOr, held-through}
+use Rattle.laws.specs.Accepted.{all-map}
+use Rattle.laws.specs.InForce.{Below, NotAbove, Rising, held-above, lastOr, held-through, before-below}
 use Rattle.laws.specs.Ranges.{read-ranges}
 use Rattle.laws.specs.Texts.{withoutLine}
 use Rattle.laws.specs.FewerRows.{drop-middle, read-without}
 use Rattle.laws.specs.SameRates.{Alike, alike-refl, AlikeFor, SameButPlaces, same-answers, lives-same}
-
-all-middle : (P : Rate → Type 0) (before after : List Rate) (r : Rate) → All P (before ++ (r ∷ after)) → P r
-all-middle P [] after r k = k .0
-all-middle P (s ∷ before) after r k = all-middle P before after r (k .1)
-
-before-below : (before after : List Rate) (r : Rate) → Rising (before ++ (r ∷ after)) → All (λ (s : Rate). s .age < r .age) before
-before-below [] after r k = tt
-before-below (s ∷ before) after r k = (all-middle (λ (t : Rate). s .age < t .age) before after r (k .0), before-below before after r (k .1))
 
 after-above : (before after : List Rate) (r : Rate) → Rising (before ++ (r ∷ after)) → Below (r .age) after
 after-above [] after r k = k .0
