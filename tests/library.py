@@ -3,10 +3,10 @@
     python3 tests/library.py N SEED
 
 Builds the library (rt, cc) and prices N files by both: whole funds, funds at
-each limit, funds with rates for some ages, cut and damaged ones, each with a level.  The five result slices have
-lengths from 0 on and are filled with other numbers before the call; behind each
-stand cells that must stay as they are.  Every figure, the place, the line, the
-quantile and every cell are compared.
+each limit, funds with rates for some ages, cut and damaged ones, each with a level.
+The five result slices have lengths from 0 on and are filled with other numbers
+before the call; behind each stand cells that must stay as they are.  Every
+figure, the place, the line, the quantile and every cell are compared.
 """
 
 import ctypes

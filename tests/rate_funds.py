@@ -6,6 +6,7 @@ gives the rows as cases, checks() pairs (name, holds).  Run as a program, it
 prints them.
 """
 
+import random
 from dataclasses import replace
 
 import generate
@@ -16,9 +17,9 @@ LOW, HIGH, NONE = (20000, 10000), (50000, 30000), (0, 0)
 HALF = (300000, 200000)
 
 
-def fund(rates, members, **changes):
+def fund(rates, members):
     return Text(horizon=6, order=12, deductible=3, rate_rows=tuple((age, *rate) for age, rate in rates),
-                member_rows=tuple((age, group, 1, 2) for age, group in members), **changes)
+                member_rows=tuple((age, group, 1, 2) for age, group in members))
 
 
 TWO_ROWS = ((30, LOW), (50, HIGH))
@@ -107,7 +108,7 @@ def row_checks():
 
 def written_out_checks():
     """Rows written out and left out again give the same answer, over the rows above and generated funds."""
-    rng = generate.random.Random(2)
+    rng = random.Random(2)
     texts = [(name, text) for name, text, _ in ROWS] + [(f"gaps {k}", generate.gap_text(rng)) for k in range(60)]
     for name, text in texts:
         full = every_age(text)

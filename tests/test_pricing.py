@@ -376,7 +376,7 @@ def row_of_a_lower_age(rate_rows, age):
     return right_rate_in_force([row for row in rate_rows if row[0] < age], age)
 
 
-def next_row(rate_rows, age):
+def rate_of_next_row(rate_rows, age):
     """A row that holds up to its age."""
     return min(((row[0], row[1:]) for row in rate_rows if row[0] >= age), default=(0, None))[1]
 
@@ -445,7 +445,7 @@ MUTATIONS = (
     ("a quantile after a refusal", "refused", quantile_left),
     ("a rate for the row's own age only", "rate_in_force", rate_funds.by_age_alone),
     ("a rate not yet at the row's age", "rate_in_force", row_of_a_lower_age),
-    ("the rate of the next row", "rate_in_force", next_row),
+    ("the rate of the next row", "rate_in_force", rate_of_next_row),
     ("the rate of the first row", "rate_in_force", first_row),
     ("no rate above the last row", "rate_in_force", until_the_last_row),
     ("the first row's rate below its age", "rate_in_force", from_age_0),

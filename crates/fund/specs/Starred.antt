@@ -164,7 +164,7 @@ wrongTurns =
     }
     ∷ []
 
--- Document 02, §2: the first fund with other rate rows and another age, whose rate in force is that of the first fund.
+-- Document 02, §2: the first fund with other rate rows, and a member of some age whose rate in force is that of the first fund.
 unfoldable pub inForce : List String → StarredRow
 inForce rows = record { file = file "horizon=2" "order=3" "deductible=2" rows; listing = text oneMemberListing; bounds = 1 ∷ 3 ∷ 4 ∷ [] }
 

@@ -18,7 +18,7 @@ use Rattle.fund.specs.Spelling.{spelled}
 use Rattle.fund.specs.Reading.{FundFile, read, inRanges, HeaderLine, headerLines, headerOf, rising, rateInRange, noMember, readRows, readHeader, reading}
 use Rattle.laws.specs.Accepted.{All}
 use Rattle.laws.specs.InForce.{Rising}
-use Rattle.laws.specs.Passing.{never, pass, Passed, rateLine, memberLine, endLine, passed, on-rate, on-member, on-end}
+use Rattle.laws.specs.Passing.{never, pass, PassedLine, rateLine, memberLine, endLine, passed-line, on-rate, on-member, on-end}
 use Rattle.laws.specs.Ranges.{and-true, above-all, rise-more}
 use Rattle.laws.specs.Texts.{texts, reading-texts, withoutLine, dropAt, texts-without}
 
@@ -31,11 +31,11 @@ drop-middle [] after a = refl
 drop-middle (b ∷ before) after a = ap (λ l. b ∷ l) (drop-middle before after a)
 
 -- ---- a row in its range is so with a row less before it
-all-above : (before : List Rate) (age : ℕ) → All (λ (s : Rate). s .age < age) before → rising before age ≡ true
+rising-above : (before : List Rate) (age : ℕ) → All (λ (s : Rate). s .age < age) before → rising before age ≡ true
 unfolding rising
-all-above [] age k = refl
-all-above (r ∷ []) age k = lt-ltb (r .age) age (k .0)
-all-above (r ∷ s ∷ rs) age k = all-above (s ∷ rs) age (k .1)
+rising-above [] age k = refl
+rising-above (r ∷ []) age k = lt-ltb (r .age) age (k .0)
+rising-above (r ∷ s ∷ rs) age k = rising-above (s ∷ rs) age (k .1)
 
 all-without : (P : Rate → Type 0) (rs ss : List Rate) (r : Rate) → All P (rs ++ (r ∷ ss)) → All P (rs ++ ss)
 all-without P [] ss r k = k .1
@@ -51,7 +51,7 @@ still-in-range rs ss r x k e =
     let h1 = and-true (ltb (length (rs ++ (r ∷ ss))) most-rates) (leb (x .age) most-age) (h2 .0) in
     let few : length (rs ++ (r ∷ ss)) < most-rates = ltb-true _ _ (h1 .0) in
     let fits : ltb (length (rs ++ ss)) most-rates ≡ true = lt-ltb (length (rs ++ ss)) most-rates (omega (arith, length-append rs ss, length-append rs (r ∷ ss))) in
-    let rises : rising (rs ++ ss) (x .age) ≡ true = all-above (rs ++ ss) (x .age) (all-without (λ (s : Rate). s .age < x .age) rs ss r (above-all (rs ++ (r ∷ ss)) (x .age) k (h2 .1))) in
+    let rises : rising (rs ++ ss) (x .age) ≡ true = rising-above (rs ++ ss) (x .age) (all-without (λ (s : Rate). s .age < x .age) rs ss r (above-all (rs ++ (r ∷ ss)) (x .age) k (h2 .1))) in
     rw (fits, h1 .1, rises, h3 .1, h4 .1, h5 .1)
 
 -- ---- the rows
@@ -65,9 +65,9 @@ rows-fewer : (ls : List Line) (n n′ : ℕ) (header : Fund) (rs ss : List Rate)
     readRows n header (rs ++ (r ∷ ss)) members ls ≡ read fund → readRows n′ header (rs ++ ss) members ls ≡ read (fewer (length rs) fund)
 unfolding readRows
 rows-fewer [] n n′ header rs ss r members fund k e = absurd (never Form n fund e)
-rows-fewer (l ∷ ls) n n′ header rs ss r members fund k e = go (passed n header (rs ++ (r ∷ ss)) members l ls fund e) (λ ts ms. rows-fewer ls (suc n) (suc n′) header rs ts r ms fund)
+rows-fewer (l ∷ ls) n n′ header rs ss r members fund k e = go (passed-line n header (rs ++ (r ∷ ss)) members l ls fund e) (λ ts ms. rows-fewer ls (suc n) (suc n′) header rs ts r ms fund)
   where
-    go : Passed n header (rs ++ (r ∷ ss)) members l ls fund →
+    go : PassedLine n header (rs ++ (r ∷ ss)) members l ls fund →
         ((ts : List Rate) (ms : List Member) → Rising (rs ++ (r ∷ ts)) → readRows (suc n) header (rs ++ (r ∷ ts)) ms ls ≡ read fund → readRows (suc n′) header (rs ++ ts) ms ls ≡ read (fewer (length rs) fund)) →
         readRows n′ header (rs ++ ss) members (l ∷ ls) ≡ read (fewer (length rs) fund)
     go (rateLine x s a b w) ih =
@@ -86,9 +86,9 @@ rows-rates : (ls : List Line) (n : ℕ) (header : Fund) (rates : List Rate) (mem
     readRows n header rates members ls ≡ read fund → fund .rates ≡ rates
 unfolding readRows
 rows-rates [] n header rates members fund k e = absurd (never Form n fund e)
-rows-rates (l ∷ ls) n header rates members fund k e = go (passed n header rates members l ls fund e) (λ m. rows-rates ls (suc n) header rates (members ++ (m ∷ [])) fund (some-member members m))
+rows-rates (l ∷ ls) n header rates members fund k e = go (passed-line n header rates members l ls fund e) (λ m. rows-rates ls (suc n) header rates (members ++ (m ∷ [])) fund (some-member members m))
   where
-    go : Passed n header rates members l ls fund → ((m : Member) → readRows (suc n) header rates (members ++ (m ∷ [])) ls ≡ read fund → fund .rates ≡ rates) → fund .rates ≡ rates
+    go : PassedLine n header rates members l ls fund → ((m : Member) → readRows (suc n) header rates (members ++ (m ∷ [])) ls ≡ read fund → fund .rates ≡ rates) → fund .rates ≡ rates
     go (rateLine x s a b w) ih = absurd (true≢false (sym a ∙ k))
     go (memberLine m s b w) ih = ih m w
     go (endLine c s b z w) ih = ap (λ (f : FundFile). f .rates) (sym w)
@@ -98,9 +98,9 @@ rows-left : (ls : List Line) (j n : ℕ) (header : Fund) (rates : List Rate) (fu
     readRows n header rates [] ls ≡ read fund → readRows n header rates [] (dropAt j ls) ≡ read (fewer (length rates + j) fund)
 unfolding readRows
 rows-left [] j n header rates fund k few e = absurd (never Form n fund e)
-rows-left (l ∷ ls) j n header rates fund k few e = go j few (passed n header rates [] l ls fund e) (λ i rs. rows-left ls i (suc n) header rs fund)
+rows-left (l ∷ ls) j n header rates fund k few e = go j few (passed-line n header rates [] l ls fund e) (λ i rs. rows-left ls i (suc n) header rs fund)
   where
-    go : (j : ℕ) → length rates + j < length (fund .rates) → Passed n header rates [] l ls fund →
+    go : (j : ℕ) → length rates + j < length (fund .rates) → PassedLine n header rates [] l ls fund →
         ((i : ℕ) (rs : List Rate) → Rising rs → length rs + i < length (fund .rates) → readRows (suc n) header rs [] ls ≡ read fund → readRows (suc n) header rs [] (dropAt i ls) ≡ read (fewer (length rs + i) fund)) →
         readRows n header rates [] (dropAt j (l ∷ ls)) ≡ read (fewer (length rates + j) fund)
     go zero few (rateLine x s a b w) ih =

@@ -100,24 +100,24 @@ some-held r (s ∷ rs) age e = go (leb (s .age) age) e (some-held s rs age)
     go true w later = later w
     go false w later = let z : _≡_ {A = ℕ} 0 1 = cc in omega arith
 
-none-first : (rs : List Rate) (age : ℕ) → rateInForce rs age ≡ none → BelowFirst age rs
+none-below-first : (rs : List Rate) (age : ℕ) → rateInForce rs age ≡ none → BelowFirst age rs
 unfolding rateInForce heldUntil
-none-first [] age e = tt
-none-first (r ∷ rs) age e = go (leb (r .age) age) refl e
+none-below-first [] age e = tt
+none-below-first (r ∷ rs) age e = go (leb (r .age) age) refl e
   where
     go : (b : Bool) → leb (r .age) age ≡ b → (if b then heldUntil (some r) rs age else none) ≡ none → age < r .age
     go true h w = absurd (some-held r rs age w)
     go false h w = leb-false (r .age) age h
 
-first-none : (rs : List Rate) (age : ℕ) → BelowFirst age rs → rateInForce rs age ≡ none
+below-first-none : (rs : List Rate) (age : ℕ) → BelowFirst age rs → rateInForce rs age ≡ none
 unfolding rateInForce heldUntil
-first-none [] age k = refl
-first-none (r ∷ rs) age k = rw (lt-leb (r .age) age k)
+below-first-none [] age k = refl
+below-first-none (r ∷ rs) age k = rw (lt-leb (r .age) age k)
 
 pub unmatched-just : (rs : List Rate) (m : Member) → Tells (unmatched rs m) (BelowFirst (m .age) rs)
 unfolding unmatched
-unmatched-just rs m = record { yes = λ e. go (rateInForce rs (m .age)) refl e; no = λ k. rw (first-none rs (m .age) k, unmatched) }
+unmatched-just rs m = record { yes = λ e. go (rateInForce rs (m .age)) refl e; no = λ k. rw (below-first-none rs (m .age) k, unmatched) }
   where
     go : (o : Option Rate) → rateInForce rs (m .age) ≡ o → elim o [ none ↦ true | some r ↦ false ] ≡ true → BelowFirst (m .age) rs
-    go none h w = none-first rs (m .age) h
+    go none h w = none-below-first rs (m .age) h
     go (some r) h w = let z : _≡_ {A = ℕ} 0 1 = cc in absurd (omega arith)

@@ -1,4 +1,4 @@
--- What a line is that reading passes: a rate row or a member row in its range, or the last line (passed); and how reading goes on behind it
+-- What a line is that reading passes: a rate row or a member row in its range, or the last line (passed-line); and how reading goes on behind it
 -- (on-rate, on-member, on-end).
 use mathlib.Core.Path.{_≡_, refl}
 use mathlib.Core.Bool.{Bool, true, false}
@@ -29,24 +29,24 @@ on-pass true stop x y h = h refl
 on-pass false stop x y h = refl
 
 module _ (n : ℕ) (header : Fund) (rates : List Rate) (members : List Member) where
-  abbrev pub fileOf : FundFile
-  fileOf = record { header = header; rates = rates; members = members }
+  abbrev pub fundSoFar : FundFile
+  fundSoFar = record { header = header; rates = rates; members = members }
 
-  pub data Passed (l : Line) (ls : List Line) (fund : FundFile) : Type 0 where
-    rateLine : (r : Rate) → rowOf l ≡ rateRow r → noMember members ≡ true → rateInRange rates r ≡ true → readRows (suc n) header (rates ++ (r ∷ [])) members ls ≡ read fund → Passed l ls fund
-    memberLine : (m : Member) → rowOf l ≡ memberRow m → memberInRange members m ≡ true → readRows (suc n) header rates (members ++ (m ∷ [])) ls ≡ read fund → Passed l ls fund
-    endLine : (k : ℕ) → rowOf l ≡ endRow k → eqb k (length members) ≡ true → ls ≡ [] → fileOf ≡ fund → Passed l ls fund
+  pub data PassedLine (l : Line) (ls : List Line) (fund : FundFile) : Type 0 where
+    rateLine : (r : Rate) → rowOf l ≡ rateRow r → noMember members ≡ true → rateInRange rates r ≡ true → readRows (suc n) header (rates ++ (r ∷ [])) members ls ≡ read fund → PassedLine l ls fund
+    memberLine : (m : Member) → rowOf l ≡ memberRow m → memberInRange members m ≡ true → readRows (suc n) header rates (members ++ (m ∷ [])) ls ≡ read fund → PassedLine l ls fund
+    endLine : (k : ℕ) → rowOf l ≡ endRow k → eqb k (length members) ≡ true → ls ≡ [] → fundSoFar ≡ fund → PassedLine l ls fund
 
-  ended : (ls : List Line) (fund : FundFile) → atEnd (suc n) fileOf ls ≡ read fund → (ls ≡ []) × (fileOf ≡ fund)
+  ended : (ls : List Line) (fund : FundFile) → atEnd (suc n) fundSoFar ls ≡ read fund → (ls ≡ []) × (fundSoFar ≡ fund)
   unfolding atEnd
   ended [] fund e = (refl, cc)
   ended (l ∷ ls) fund e = absurd (never Form (suc n) fund e)
 
-  pub passed : (l : Line) (ls : List Line) (fund : FundFile) → readRows n header rates members (l ∷ ls) ≡ read fund → Passed l ls fund
+  pub passed-line : (l : Line) (ls : List Line) (fund : FundFile) → readRows n header rates members (l ∷ ls) ≡ read fund → PassedLine l ls fund
   unfolding readRows
-  passed l ls fund e = go (rowOf l) refl e
+  passed-line l ls fund e = go (rowOf l) refl e
     where
-      go : (row : Row) → rowOf l ≡ row → readRows n header rates members (l ∷ ls) ≡ read fund → Passed l ls fund
+      go : (row : Row) → rowOf l ≡ row → readRows n header rates members (l ∷ ls) ≡ read fund → PassedLine l ls fund
       go (rateRow r) s h =
           let h1 = pass (noMember members) Form n _ fund (rw (s, readRows) at h) in
           let h2 = pass (rateInRange rates r) Range n _ fund (h1 .1) in
@@ -67,6 +67,6 @@ module _ (n : ℕ) (header : Fund) (rates : List Rate) (members : List Member) w
     unfolding readRows
     on-member m s b = rw (s, readRows) (rw b)
 
-    pub on-end : (k : ℕ) → rowOf l ≡ endRow k → eqb k (length members) ≡ true → ls ≡ [] → readRows n header rates members (l ∷ ls) ≡ read fileOf
+    pub on-end : (k : ℕ) → rowOf l ≡ endRow k → eqb k (length members) ≡ true → ls ≡ [] → readRows n header rates members (l ∷ ls) ≡ read fundSoFar
     unfolding readRows atEnd
     on-end k s b z = rw (s, readRows) (rw (b, z))

@@ -20,7 +20,7 @@ use Rattle.fund.specs.Spelling.{value, fields, allNumbers, numbers, behind, spe
 use Rattle.fund.specs.Reading.{FundFile, read, between, NumberRange, inRanges, HeaderLine, headerLines, headerOf, rising, rateInRange, memberInRange, readRows, readHeader, reading}
 use Rattle.laws.specs.Accepted.{All}
 use Rattle.laws.specs.InForce.{Rising}
-use Rattle.laws.specs.Passing.{never, pass, Passed, rateLine, memberLine, endLine, passed}
+use Rattle.laws.specs.Passing.{never, pass, PassedLine, rateLine, memberLine, endLine, passed-line}
 
 pub record RateOk (r : Rate) : Type 0 where
   pub age : r .age ≤ most-age
@@ -128,9 +128,9 @@ pub rows-ranges : (ls : List Line) (n : ℕ) (header : Fund) (rates : List Rate)
     readRows n header rates members ls ≡ read fund → Reads header fund
 unfolding readRows
 rows-ranges [] n header rates members fund k e = absurd (never Form n fund e)
-rows-ranges (l ∷ ls) n header rates members fund k e = go (passed n header rates members l ls fund e) (λ rs ms. rows-ranges ls (suc n) header rs ms fund)
+rows-ranges (l ∷ ls) n header rates members fund k e = go (passed-line n header rates members l ls fund e) (λ rs ms. rows-ranges ls (suc n) header rs ms fund)
   where
-    go : Passed n header rates members l ls fund → ((rs : List Rate) (ms : List Member) → RowsOk rs ms → readRows (suc n) header rs ms ls ≡ read fund → Reads header fund) → Reads header fund
+    go : PassedLine n header rates members l ls fund → ((rs : List Rate) (ms : List Member) → RowsOk rs ms → readRows (suc n) header rs ms ls ≡ read fund → Reads header fund) → Reads header fund
     go (rateLine r s a b w) ih = ih (rates ++ (r ∷ [])) members (more-rates rates members r k b) w
     go (memberLine m s b w) ih = ih rates (members ++ (m ∷ [])) (more-members rates members m k b) w
     go (endLine c s b z w) ih = subst (λ f. Reads header f) w (record { header-is = refl; rows = k })
