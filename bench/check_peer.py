@@ -1,7 +1,7 @@
 """Compares the peer with the independent calculation: python3 bench/check_peer.py LIBRARY N SEED
 
-LIBRARY is peer.c built with `cc -shared -fPIC`. Every answer is compared whole: number, place, line, figures, quantile and all
-cells.
+LIBRARY is peer.c built with `cc -shared -fPIC`. Every answer is compared whole: number, place, line, figures, gross premium,
+quantile and all cells.
 """
 
 import ctypes
@@ -15,8 +15,9 @@ import generate
 import pricing
 import quantile_funds
 import rate_funds
+import tariff_funds
 
-FIGURES = "number place start length truncation mean premium within horizon reached quantile".split()
+FIGURES = "number place start length truncation mean premium within gross horizon reached quantile".split()
 
 
 class Priced(ctypes.Structure):
@@ -36,8 +37,8 @@ def peer_answer(peer, data, lengths, level):
 def expected_answer(data, lengths, level):
     a = pricing.price(data, lengths, level)
     quantile = (0, 0) if a.quantile is None else (1, a.quantile)
-    return [a.number, a.place, a.start, a.length, a.truncation, a.mean, a.premium, a.bound, a.horizon,
-            *quantile, a.D, a.H, a.f, a.R, a.F]
+    return [a.number, a.place, a.start, a.length, a.truncation, a.mean, a.premium, a.bound, a.gross,
+            a.horizon, *quantile, a.D, a.H, a.f, a.R, a.F]
 
 
 def heavy_funds(rng, count):
@@ -48,6 +49,7 @@ def heavy_funds(rng, count):
         members = [(rng.choice((20, 30)), 2, rng.choice(amounts), 0) for _ in range(rng.randint(1, 3))]
         members += [(40, 1, d, d) for d in [rng.choice((1, 2, horizon // 12))] * rng.choice((0, 1, 900))]
         text = generate.Text(horizon=horizon, order=12, frequency=rng.choice((1000, 1000, 700)), deductible=horizon,
+                             worth=generate.random_worth(rng),
                              rate_rows=((20, 500000, 0), (30, rng.randint(1, 1000000), 0), (40, 700, 900)),
                              member_rows=tuple(members))
         yield generate.Case(f"heavy-{index}", text.data())
@@ -62,6 +64,7 @@ def calls(count, seed):
     known = generate.limit_funds() + generate.damaged_files() + generate.large_funds(seed, 20)
     known += quantile_funds.cases(quantile_funds.ROWS + quantile_funds.MORE_ROWS)
     known += rate_funds.cases() + generate.gap_funds(seed, 300)
+    known += tariff_funds.cases() + generate.step_funds(seed, 100)
     for case in known + list(heavy_funds(rng, 60)):
         yield case, case.lengths
 

@@ -13,7 +13,7 @@ typedef unsigned __int128 wide;
 #define UNIT 1000000000000ull
 #define FIVES 244140625ull // 5^12
 
-enum { MOST_HORIZON = 4095, MOST_ORDER = 12, MOST_RATES = 121, MOST_MEMBERS = 1000, MOST_AGE = 120 };
+enum { MOST_HORIZON = 4095, MOST_ORDER = 12, MOST_RATES = 121, MOST_MEMBERS = 1000, MOST_AGE = 120, HEADER_LINES = 7 };
 enum { FORM = 1, RANGE, EDITION, DEDUCTIBLE, UNMATCHED, HALF, LOAD, ORDER, SHORT, WIDE };
 
 struct rate {
@@ -27,7 +27,7 @@ struct member {
 };
 
 struct fund {
-    uint64_t rates, members, horizon, order, frequency, deductible;
+    uint64_t rates, members, horizon, order, frequency, deductible, worth;
     size_t rate_rows, member_rows;
     struct rate rate[MOST_RATES];
     struct member member[MOST_MEMBERS];
@@ -172,7 +172,8 @@ static int read_fund(struct reader *r, struct fund *fund) {
         (why = read_number(r, "horizon=", 0, MOST_HORIZON, &fund->horizon)) ||
         (why = read_number(r, "order=", 1, MOST_ORDER, &fund->order)) ||
         (why = read_number(r, "frequency=", 0, 5000, &fund->frequency)) ||
-        (why = read_number(r, "deductible=", 0, 4096, &fund->deductible)))
+        (why = read_number(r, "deductible=", 0, 4096, &fund->deductible)) ||
+        (why = read_number(r, "worth=", 1, 9999999, &fund->worth)))
         return why;
     return read_rows(r, fund);
 }
@@ -368,6 +369,20 @@ static void premium(const struct fund *fund, const int64_t *f, const uint64_t *R
     }
 }
 
+// The loading of the pool's tariff, in thousandths.
+static uint64_t loading(uint64_t deductible) {
+    return deductible < 100 ? 1500 : deductible < 300 ? 1700 : deductible < 600 ? 1900 : 2100;
+}
+
+// The gross premium in centimes: divided once by 10^15 and taken up.
+static uint64_t gross(const struct fund *fund, int64_t premium, uint64_t within) {
+    const wide divisor = (wide)1000 * UNIT;
+    int64_t sum = premium + (int64_t)within;
+    if (sum < 0)
+        return 0;
+    return (uint64_t)(((wide)(uint64_t)sum * fund->worth * loading(fund->deductible) + (divisor - 1)) / divisor);
+}
+
 // The running sums of f, and the first place where they are at least the level.
 static void running_sums(uint64_t horizon, uint64_t level, const int64_t *f, int64_t *F, struct priced *out) {
     int64_t sum = 0;
@@ -403,6 +418,7 @@ static int value(const struct fund *fund, uint64_t level, int64_t *D, size_t nD,
     out->mean = mean_of(fund);
     out->horizon = horizon;
     premium(fund, f, R, out);
+    out->gross = gross(fund, out->premium, out->within);
     running_sums(horizon, level, f, F, out);
     return 0;
 }
@@ -433,7 +449,7 @@ int peer_price(const unsigned char *file, size_t length, uint64_t level, int64_t
     } else if ((why = fold(&fund, &at))) {
         r.next = fund.member[at].start;
         take(&r);
-        out->place = 7 + fund.rate_rows + at;
+        out->place = HEADER_LINES + 1 + fund.rate_rows + at;
     } else {
         why = value(&fund, level, D, nD, H, nH, f, nf, R, nR, F, nF, out);
         if (why)

@@ -1,4 +1,5 @@
-// The answer of a pricing call: document 01's number and place, the line handed back, the figures in units, and the quantile.
+// The answer of a pricing call: document 01's number and place, the line handed back, the figures in units, the gross premium
+// in centimes, and the quantile.
 #include <stddef.h>
 #include <stdint.h>
 
@@ -8,6 +9,7 @@ struct priced {
     uint64_t truncation, mean;
     int64_t premium;
     uint64_t within;
+    uint64_t gross;
     uint64_t horizon; // of an accepted fund, for the listing
     uint64_t reached; // 1 where the level is at most 10^12 and some F(x) up to the horizon is at least the level, else 0
     uint64_t quantile; // the first such x, or 0

@@ -12,6 +12,7 @@ static inline struct priced priced_of(const struct miguepo_result *got) {
         .mean = got->mean,
         .premium = got->premium,
         .within = got->within,
+        .gross = got->gross,
         .horizon = got->horizon,
         .reached = got->reached,
         .quantile = got->quantile,

@@ -90,16 +90,16 @@ def main():
     premiums = []
     for deductible in range(horizon + 2):
         priced, _ = listing(with_deductible(data, deductible))
-        premiums.append((deductible, int(priced["premium"]) / UNIT, int(priced["within"]) / UNIT))
+        premiums.append((deductible, int(priced["premium"]) / UNIT, int(priced["within"]) / UNIT, int(priced["gross"])))
     lower = Diagram(HEIGHT, "Stop-loss premium by deductible, and its bound", "deductible", horizon + 1, -12, 2)
-    lower.line([(m, p) for m, p, w in premiums], "#1f5f8b", "premium", 0)
-    lower.line([(m, w) for m, p, w in premiums], "#c0392b", "bound on its distance from the exact one", 1)
+    lower.line([(m, p) for m, p, w, g in premiums], "#1f5f8b", "premium", 0)
+    lower.line([(m, w) for m, p, w, g in premiums], "#c0392b", "bound on its distance from the exact one", 1)
     parts = upper.parts + lower.parts
     PICTURE.write_text(f'<svg xmlns="http://www.w3.org/2000/svg" width="{WIDTH}" height="{2 * HEIGHT}" viewBox="0 0 {WIDTH} {2 * HEIGHT}">\n<rect width="100%" height="100%" fill="white"/>\n' + "\n".join(parts) + "\n</svg>\n")
     for m in (0, 30, 60, 90, 120, 180):
-        print("deductible {}: premium {:.12f}, within {:.12f}".format(*premiums[m]))
+        print("deductible {}: premium {:.12f}, within {:.12f}, gross {}".format(*premiums[m]))
     print("the bound exceeds the probability from", next(x for x, f, bound in cells if x > 100 and f < bound), "on")
-    print("the bound exceeds the premium from", next(m for m, p, w in premiums if p < w), "on")
+    print("the bound exceeds the premium from", next(m for m, p, w, g in premiums if p < w), "on")
 
 
 main()

@@ -1,5 +1,6 @@
-/* Prices a fund file: prints the premium with its bound, or the refusal and the line at fault. With a level, in units of 10^-12,
- * the place of the quantile too: the smallest total x with F(x) at least the level, or none up to the horizon.
+/* Prices a fund file: prints the premium with its bound and the gross premium in centimes, or the refusal and the line at fault.
+ * With a level, in units of 10^-12, the place of the quantile too: the smallest total x with F(x) at least the level, or none up
+ * to the horizon.
  *
  *     price FILE [LEVEL]
  */
@@ -71,7 +72,7 @@ int main(int count, char **words)
     }
     print_units("premium ", fund.premium < 0, fund.premium < 0 ? 0 - (uint64_t)fund.premium : (uint64_t)fund.premium);
     print_units(", within ", 0, fund.within);
-    printf("\n");
+    printf("\ngross %" PRIu64 " centimes\n", fund.gross);
     if (count == 3 && fund.reached)
         printf("quantile %" PRIu64 "\n", fund.quantile);
     else if (count == 3)

@@ -1,5 +1,6 @@
-// Prices a fund file: prints the premium with its bound, or the refusal and the line at fault. With a level, in units of 10^-12,
-// the place of the quantile too: the smallest total x with F(x) at least the level, or none up to the horizon.
+// Prices a fund file: prints the premium with its bound and the gross premium in centimes, or the refusal and the line at fault.
+// With a level, in units of 10^-12, the place of the quantile too: the smallest total x with F(x) at least the level, or none up
+// to the horizon.
 //
 //     price FILE [LEVEL]
 
@@ -21,6 +22,7 @@ struct Fund {
     mean: u64,
     premium: i64,
     within: u64,
+    gross: u64,
     reached: u64,
     quantile: u64,
 }
@@ -94,6 +96,7 @@ fn main() {
     let fund = price(&file, level.unwrap_or(0), &mut d, &mut h, &mut f, &mut r, &mut sums);
     if fund.number == 0 {
         println!("premium {}, within {}", decimal(fund.premium < 0, fund.premium.unsigned_abs()), decimal(false, fund.within));
+        println!("gross {} centimes", fund.gross);
         if level.is_some() {
             println!("quantile {}", fund.quantile().map_or("none".to_string(), |place| place.to_string()));
         }

@@ -2,7 +2,8 @@
  * and on the premium.
  *
  * One call prices one fund file and finds its quantile at a level. The level and
- * all figures but places, sizes and the horizon are in units of 10^-12.
+ * all figures but places, sizes, the horizon and the gross premium are in units of
+ * 10^-12.
  *
  * The call takes every sequence of bytes, every level and result slices of every
  * length, and always returns. It keeps no state, allocates nothing, needs less
@@ -59,6 +60,7 @@ struct miguepo_result {
     uint64_t mean;       /* the mean of the year's total claims */
     int64_t premium;     /* the stop-loss premium */
     uint64_t within;     /* the premium's bound: the exact premium differs from the premium by at most this */
+    uint64_t gross;      /* the gross premium, in whole centimes: the worth of the premium and its bound, loaded and taken up */
     uint64_t reached;    /* 1 where the level is reached up to the horizon, 0 where it is not: there is no quantile */
     uint64_t quantile;   /* the place of the quantile, the smallest x with F(x) at least the level; 0 where there is none */
 };
@@ -75,7 +77,8 @@ struct miguepo_result {
  * r[x] + 2 E. F(x) is f(0) + .. + f(x). F may fall, since f may be slightly
  * negative; the quantile is the first x from 0 to X with F(x) at least the level.
  * A level above MIGUEPO_MOST_LEVEL is not reached, whatever F is; the fund is
- * priced all the same.
+ * priced all the same. The gross premium is never below the exact premium's loaded
+ * worth.
  * Refused (1 to 10): the horizon, every figure, reached, the quantile and every
  * cell of the five slices are 0.
  */

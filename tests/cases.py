@@ -17,8 +17,8 @@ one after the other.  stdin has for each case its length as six decimal digits,
 a space, its level as thirteen decimal digits and a line feed, then its bytes.
 stdout has each listing, then `line=` and the part of the file that is handed
 back, then the line that the program `level` prints, and an empty line.  The last cases
-of a stream are those of quantile_funds.py and rate_funds.py, and funds with rates for
-some ages only.
+of a stream are those of quantile_funds.py and rate_funds.py, funds with rates for
+some ages only, and those of tariff_funds.py.
 
 The programs `listing` and `overlong` of CRATES are one program, run on a full fund
 and on a file that is longer than what is read; `level` is asked at the level in its
@@ -35,6 +35,7 @@ import generate
 import pricing
 import quantile_funds
 import rate_funds
+import tariff_funds
 
 
 LONGEST = 65536      # what the program that reads a stream has room for
@@ -51,10 +52,8 @@ def known_cases(rng):
     """Document 01's funds, then limits, other refusals and form faults in turn."""
     document = [generate.Case(f"document-{name}", text.data())
                 for name, text in document_funds.FUNDS.items()]
-    # The cases of the slice for F came later; left out before the shuffle, a seed gives the files that it gave.
-    limits, damaged = ([case for case in made if "-sums-" not in case.name]
-                       for made in (generate.limit_funds(), generate.damaged_files()))
-    kinds = [limits,
+    damaged = generate.damaged_files()
+    kinds = [generate.limit_funds(),
              [case for case in damaged if "-form-" not in case.name],
              [case for case in damaged if "-form-" in case.name]]
     for kind in kinds:
@@ -138,9 +137,9 @@ def pairs_of(stream):
 
 def stream_pairs(count, seed):
     rng = random.Random(seed)
+    made = chosen(count, seed) + quantile_funds.cases() + rate_funds.cases() + generate.gap_funds(seed, GAPS)
     return [(case.data, generate.level_of(case, rng, pricing.price(case.data), MOST_LEVEL))
-            for case in chosen(count, seed) + quantile_funds.cases() + rate_funds.cases() + generate.gap_funds(seed, GAPS)
-            if len(case.data) <= LONGEST]
+            for case in made + tariff_funds.cases() if len(case.data) <= LONGEST]
 
 
 def write_stream(directory, count, seed):

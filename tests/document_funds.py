@@ -1,5 +1,7 @@
 """Every fund and every figure that document 01 states, and the figures of the readings.
 
+Its funds take worth=100, as document 02's third request says.
+
 checks() gives pairs (name, holds).  Run as a program, it prints them.
 """
 
@@ -9,7 +11,7 @@ import pricing
 from generate import Text
 
 FIRST_FILE = (b"rates=2030\nmembers=2030\nhorizon=2\norder=3\nfrequency=1000\n"
-              b"deductible=2\nrate=40,100000,0\nmember=40,1,1,0\nend=1\n")
+              b"deductible=2\nworth=100\nrate=40,100000,0\nmember=40,1,1,0\nend=1\n")
 
 FIRST_LISTING = """truncation=42866942
 mean=100000000000
@@ -18,6 +20,7 @@ cell=1,100000000000,85733887
 cell=2,0,85733888
 premium=0
 within=171467773
+gross=1
 """
 
 FIRST = Text(horizon=2, order=3, frequency=1000, deductible=2,
@@ -31,6 +34,7 @@ cell=0,1000000000000,0
 cell=1,0,1
 premium=0
 within=1
+gross=1
 """
 
 EIGHT = Text(horizon=5, order=1, frequency=1000, deductible=0,
@@ -96,6 +100,8 @@ def first_fund():
            pricing.listing(pricing.price(FIRST_FILE)) == FIRST_LISTING)
     yield "here R is 1, 3, 4", answer.R[:3] == (1, 3, 4)
     yield "within is the premium's bound", answer.bound == 171467773
+    # 171467773 x 100 x 1500 is 25720165950000, below 10^15.
+    yield "the first fund prints gross=1", answer.gross == 1
     yield "order 2: refused 8", refusal_of(replace(FIRST, order=2)) == (8, 0)
 
 
@@ -122,7 +128,7 @@ def half_funds():
         text = replace(TWO_FIFTHS, order=order)
         yield f"q = i = 400,000, order {order}: passes 6", passes_half(text)
         yield f"q = i = 400,000, order {order}: refused 8", refusal_of(text) == (8, 0)
-    yield "q = 500,000, d = 1: refused 6", refusal_of(HALF) == (6, 8)
+    yield "q = 500,000, d = 1: refused 6", refusal_of(HALF) == (6, 9)
     yield "the same with d = 0, i = 0: passes 6", passes_half(HALF_FOLDED)
     yield "the same with d = 0, i = 0: accepted", refusal_of(HALF_FOLDED) == (0, 0)
 
@@ -134,6 +140,9 @@ def header_funds():
     yield "M = 3 accepted", refusal_of(FUNDS["deductible-3"]) == (0, 0)
     yield ("a = 0 with only group 2 members: as the empty fund",
            answer_of(NO_FREQUENCY) == answer_of(EMPTY))
+    yield ("each fund takes worth=100 after its deductible",
+           all(b"\ndeductible=%d\nworth=100\n" % text.deductible in text.data()
+               for text in FUNDS.values()))
 
 
 def roundings():

@@ -1,7 +1,8 @@
 """The exact values of document 01, from the fund's input alone.
 
 With pricing.py this shares only reading, folding and lambda's weights.
-check_distance(data) checks demand 3 for one file.
+check_distance(data) checks demand 3 for one file, and that the gross premium
+is not below the exact premium's loaded worth.
 """
 
 from fractions import Fraction
@@ -109,6 +110,16 @@ def average_excess(fund, members):
     return UNIT * Fraction(total, 10 ** (6 * len(choices)))
 
 
+def loading(deductible):
+    """The tariff's, in thousandths: 200 more from each of these deductibles on."""
+    return 1500 + 200 * sum(deductible >= edge for edge in (100, 300, 600))
+
+
+def loaded_worth(fund, exact_premium):
+    """Of an exact premium in units: in centimes, not rounded."""
+    return exact_premium * fund.worth * loading(fund.deductible) / 10 ** 15
+
+
 # The same values as whole numbers over one denominator
 
 def denominator(fund, members):
@@ -160,6 +171,15 @@ def numerators(fund, members):
     return [factor * value for value in convolve(part_1, part_2)]
 
 
+def premium_numerator(fund, members, whole, over):
+    """The exact premium in units, over the denominator `whole` of the values `over`."""
+    M, a = fund.deductible, fund.frequency
+    units = sum((m.q * m.d + m.i * m.e) * (10 ** 6 if m.group == 1 else 1000 * a)
+                for m in members)
+    return ((units - M * UNIT) * whole
+            + UNIT * sum((M - x) * over[x] for x in range(M)))
+
+
 # Demand 3
 
 def few_outcomes(members):
@@ -188,18 +208,16 @@ def check_cells(answer, exact):
     return broken
 
 
-def check_cells_multiplied_out(answer, fund, members):
+def check_cells_multiplied_out(answer, whole, over):
     """The same comparison of each f(x), in whole numbers."""
-    whole = denominator(fund, members)
     return [f"f({x}) multiplied out is not within R({x}) + 2E"
-            for x, numerator in enumerate(numerators(fund, members))
+            for x, numerator in enumerate(over)
             if abs(answer.f[x] * whole - UNIT * numerator)
             > (answer.R[x] + 2 * answer.truncation) * whole]
 
 
-def check_premium(answer, fund, members, exact):
+def check_premium(answer, fund, members, exact_premium):
     broken = []
-    exact_premium = premium(fund, members, exact)
     if abs(answer.premium - exact_premium) > answer.bound:
         broken.append("the premium is not within its bound")
     if (pricing.lambda_units(members, fund.frequency) == 0
@@ -209,12 +227,38 @@ def check_premium(answer, fund, members, exact):
     return broken
 
 
-def check_numerators(fund, members, exact):
+def check_gross(answer, fund, exact_premium):
+    if answer.gross < loaded_worth(fund, exact_premium):
+        return ["the gross premium is below the exact premium's loaded worth"]
+    return []
+
+
+def check_gross_multiplied_out(answer, fund, whole, numerator):
+    """The same comparison in whole numbers, for the exact premium's numerator."""
+    if answer.gross * 10 ** 15 * whole < numerator * fund.worth * loading(fund.deductible):
+        return ["the gross premium multiplied out is below the loaded worth"]
+    return []
+
+
+def check_numerators(whole, over, exact):
     """The fractions and the whole numbers are the same values."""
-    whole = denominator(fund, members)
     return [f"the numerator at {x} is not the exact value"
-            for x, numerator in enumerate(numerators(fund, members))
-            if exact[x] * whole != numerator]
+            for x, numerator in enumerate(over) if exact[x] * whole != numerator]
+
+
+def check_premium_numerator(whole, numerator, exact_premium):
+    if exact_premium * whole != numerator:
+        return ["the premium's numerator is not the exact premium"]
+    return []
+
+
+def check_gross_by_outcomes(data):
+    """The tariff's statement by the average excess: lambda 0, few members, any horizon."""
+    answer = pricing.price(data)
+    if answer.number:
+        return []
+    fund, members = read_and_fold(data)
+    return check_gross(answer, fund, average_excess(fund, members))
 
 
 def check_distance(data, answer=None):
@@ -227,7 +271,13 @@ def check_distance(data, answer=None):
         return []
     fund, members = read_and_fold(data)
     exact = values(fund, members)
+    exact_premium = premium(fund, members, exact)
+    whole, over = denominator(fund, members), numerators(fund, members)
+    numerator = premium_numerator(fund, members, whole, over)
     return (check_cells(answer, exact)
-            + check_cells_multiplied_out(answer, fund, members)
-            + check_numerators(fund, members, exact)
-            + check_premium(answer, fund, members, exact))
+            + check_cells_multiplied_out(answer, whole, over)
+            + check_numerators(whole, over, exact)
+            + check_premium(answer, fund, members, exact_premium)
+            + check_premium_numerator(whole, numerator, exact_premium)
+            + check_gross(answer, fund, exact_premium)
+            + check_gross_multiplied_out(answer, fund, whole, numerator))

@@ -1,4 +1,4 @@
-"""The figures asked for one by one, with fractions: document 01's, F, the quantile.
+"""The figures asked for one by one, with fractions: document 01's, F, the quantile, the gross premium.
 
 A second way of writing the method: each figure is a function of its indices,
 written as the document's formula and remembered, with no running cells.
@@ -25,12 +25,23 @@ def up(value):
     return ceil(value)
 
 
+def loading(M):
+    """The tariff's loading as a plain fraction."""
+    steps = {range(100): 15, range(100, 300): 17, range(300, 600): 19}
+    return Fraction(next((tenths for step, tenths in steps.items() if M in step), 21), 10)
+
+
+def gross(premium, bound, worth, M):
+    """In centimes; what is below 0 is 0."""
+    return max(0, up(Fraction(premium + bound, UNIT) * worth * loading(M)))
+
+
 class Formulas:
     def __init__(self, data):
         fund = pricing.read_fund(data)
         members = pricing.match_and_fold(fund)
         self.X, self.r, self.M = fund.horizon, fund.order, fund.deductible
-        self.a = fund.frequency
+        self.a, self.worth = fund.frequency, fund.worth
         self.first = [m for m in members if m.group == 1]
         self.second = [m for m in members if m.group == 2]
         self.lam = sum((m.q + m.i) * self.a * 1000 for m in self.second)
@@ -130,6 +141,9 @@ class Formulas:
         return (sum((self.M - x) * self.R(x) for x in range(self.M))
                 + 2 * self.M * self.truncation())
 
+    def gross(self):
+        return gross(self.premium(), self.bound(), self.worth, self.M)
+
 
 @lru_cache(None)
 def formulas_of(data):
@@ -145,6 +159,7 @@ def check_figures(data, answer, level=0):
         ("mean", answer.mean, formulas.mean()),
         ("premium", answer.premium, formulas.premium()),
         ("bound", answer.bound, formulas.bound()),
+        ("gross", answer.gross, formulas.gross()),
         ("quantile", answer.quantile, formulas.quantile(level)),
     ]
     for name in ("D", "H", "f", "R", "F"):

@@ -9,8 +9,9 @@ from dataclasses import dataclass, replace
 
 import pricing
 
+LOADING_EDGES = (100, 300, 600)     # deductibles where another loading begins
 ENOUGH = (pricing.HORIZON_HIGH + 1,) * 5
-HEADER_LINES = 6
+HEADER_LINES = 7
 
 
 @dataclass(frozen=True)
@@ -31,12 +32,13 @@ class Text:
     order: int = 4
     frequency: int = 1000
     deductible: int = 2
+    worth: int = 100
     rate_rows: tuple = ()
     member_rows: tuple = ()
 
     def lines(self):
         head = [b"%s=%d" % (key.encode(), getattr(self, key)) for key in
-                ("rates", "members", "horizon", "order", "frequency", "deductible")]
+                ("rates", "members", "horizon", "order", "frequency", "deductible", "worth")]
         rates = [b"rate=%d,%d,%d" % row for row in self.rate_rows]
         members = [b"member=%d,%d,%d,%d" % row for row in self.member_rows]
         return head + rates + members + [b"end=%d" % len(self.member_rows)]
@@ -120,6 +122,12 @@ def random_member(rng, age, group, horizon):
     return (age, group, random_amount(rng, horizon), random_amount(rng, horizon))
 
 
+def random_worth(rng):
+    """The least, the most, a small one, or any."""
+    low, high = pricing.WORTH_LOW, pricing.WORTH_HIGH
+    return rng.choice((low, high, rng.randint(low, 20), rng.randint(low, high)))
+
+
 def random_text(rng, horizon=None, order=None, groups=None):
     """A fund of up to four group 1 and three group 2 members."""
     X = rng.randint(0, 8) if horizon is None else horizon
@@ -134,8 +142,10 @@ def random_text(rng, horizon=None, order=None, groups=None):
     members += [random_member(rng, rng.choice(ages), 2, X)
                 for _ in range(counts[1])]
     rng.shuffle(members)
+    # The worth is drawn apart, so that a seed gives the funds that it gave without one.
     return Text(horizon=X, order=r, deductible=rng.randint(0, X + 1),
                 frequency=rng.choice((0, 1, 250, 500, 1000, rng.randint(1, 2000))),
+                worth=random_worth(random.Random(repr(rates))),
                 rate_rows=tuple(sorted(rates)), member_rows=tuple(members))
 
 
@@ -229,6 +239,19 @@ def gap_funds(seed, count):
     return [Case(f"gaps-{index}", gap_text(rng).data()) for index in range(count)]
 
 
+def step_text(rng):
+    """A fund whose deductible is at an edge of the loading or beside one, and its horizon too."""
+    deductible = rng.choice(LOADING_EDGES) + rng.randint(-1, 1)
+    horizon = deductible + rng.randint(-1, 1)
+    return replace(random_text(rng, horizon, rng.randint(1, 4)), deductible=deductible)
+
+
+def step_funds(seed, count):
+    """Funds about the edges of the loading; too large for the exact calculation."""
+    rng = random.Random(seed)
+    return [Case(f"step-{index}", step_text(rng).data()) for index in range(count)]
+
+
 def large_funds(seed, count):
     """Many members and longer horizons; too large for the exact calculation."""
     rng = random.Random(seed)
@@ -278,7 +301,14 @@ def header_limits():
         "deductible-top": replace(ONE_MEMBER, deductible=4),
         "deductible-high": replace(ONE_MEMBER, horizon=4095, deductible=4096,
                                    frequency=0),
+        "worth-low": replace(ONE_MEMBER, worth=1),
+        "worth-high": replace(ONE_MEMBER, worth=9999999),
     }
+    for edge in LOADING_EDGES:
+        for deductible in (edge - 1, edge):
+            texts[f"loading-{deductible}"] = replace(
+                ONE_MEMBER, horizon=deductible - 1, deductible=deductible,
+                member_rows=((40, 1, 1, 65535), (40, 2, 65535, 1)))
     return [Case(f"limit-{name}", text.data(), ACCEPTED)
             for name, text in texts.items()]
 
@@ -406,7 +436,7 @@ def length_limits():
 
 def longest_text():
     """No file without a refusal 1 or 2 is longer; its load is above the limit."""
-    return Text(2999, 2999, 4095, 12, 5000, 4096,
+    return Text(2999, 2999, 4095, 12, 5000, 4096, 9999999,
                 tuple((age, 500000, 500000) for age in range(pricing.RATE_ROWS)),
                 ((120, 2, 65535, 65535),) * pricing.MEMBER_ROWS)
 
@@ -488,15 +518,15 @@ def spelling_damage():
 def long_damage():
     """Lines and files longer than any right one."""
     lines = GOOD.lines()
-    for place in (1, 8, 13):
+    for place in (1, 7, 9, 14):
         new = lines[place - 1] + b"0" * 70000
         yield (f"form-{place}-huge", joined(with_line(lines, place, new)),
                refused(1, place, new))
     yield "form-huge-open", b"rates=" + b"2" * 70000, refused(1, 1, b"rates=" + b"2" * 70000)
-    yield "form-huge-after", GOOD.data() + b" " * 70000, refused(1, 14, b" " * 70000)
+    yield "form-huge-after", GOOD.data() + b" " * 70000, refused(1, 15, b" " * 70000)
     yield "form-many-line-feeds", b"\n" * 70000, refused(1, 1)
     too_many = replace(GOOD, member_rows=((40, 1, 0, 0),) * 4000).lines()
-    yield "range-4000-members", joined(too_many), refused(2, 1010, b"member=40,1,0,0")
+    yield "range-4000-members", joined(too_many), refused(2, 1011, b"member=40,1,0,0")
 
 
 def cut_damage():
@@ -532,17 +562,39 @@ def order_damage():
                                 other, lines[place - 1])
             yield (f"form-{place}-swapped-{other}", joined(swapped),
                    refused(1, place, lines[other - 1]))
-    late = lines[:8] + lines[9:10] + lines[8:9] + lines[10:]
-    yield "form-rate-after-member", joined(late), refused(1, 10, lines[8])
-    last = lines[:8] + lines[9:12] + lines[8:9] + lines[12:]
-    yield "form-rate-before-end", joined(last), refused(1, 12, lines[8])
-    again = lines[:9] + lines[2:3] + lines[9:]
-    yield "form-header-again", joined(again), refused(1, 10, lines[2])
-    yield "form-no-end", joined(lines[:-1]), refused(1, 13)
-    early = lines[:9] + [b"end=0"] + lines[9:]
-    yield "form-members-after-end", joined(early), refused(1, 11, lines[9])
-    moved = lines[:9] + [lines[12]] + lines[9:12]
-    yield "range-end-too-early", joined(moved), refused(2, 10, b"end=3")
+    late = lines[:9] + lines[10:11] + lines[9:10] + lines[11:]
+    yield "form-rate-after-member", joined(late), refused(1, 11, lines[9])
+    last = lines[:9] + lines[10:13] + lines[9:10] + lines[13:]
+    yield "form-rate-before-end", joined(last), refused(1, 13, lines[9])
+    again = lines[:10] + lines[2:3] + lines[10:]
+    yield "form-header-again", joined(again), refused(1, 11, lines[2])
+    yield "form-no-end", joined(lines[:-1]), refused(1, 14)
+    early = lines[:10] + [b"end=0"] + lines[10:]
+    yield "form-members-after-end", joined(early), refused(1, 12, lines[10])
+    moved = lines[:10] + [lines[13]] + lines[10:13]
+    yield "range-end-too-early", joined(moved), refused(2, 11, b"end=3")
+
+
+def worth_damage():
+    """The worth where it does not stand, or not as it should."""
+    lines = GOOD.lines()
+    head, worth, rows = lines[:6], lines[6], lines[7:]
+    yield "form-worth-missing", joined(head + rows), refused(1, 7, rows[0])
+    yield "form-worth-missing-no-rates", joined(head + rows[3:]), refused(1, 7, rows[3])
+    yield "form-worth-missing-no-rows", joined(head + [b"end=0"]), refused(1, 7, b"end=0")
+    yield "form-worth-missing-last", joined(head), refused(1, 7)
+    yield "form-worth-twice", joined(head + [worth, worth] + rows), refused(1, 8, worth)
+    yield ("form-worth-before-deductible", joined(head[:5] + [worth, head[5]] + rows),
+           refused(1, 6, worth))
+    yield "form-worth-first", joined([worth] + head + rows), refused(1, 1, worth)
+    yield "form-worth-after-a-rate", joined(head + rows[:1] + [worth] + rows[1:]), refused(1, 7, rows[0])
+    yield "form-worth-again-after-rates", joined(lines[:10] + [worth] + lines[10:]), refused(1, 11, worth)
+    yield "form-worth-again-before-end", joined(lines[:13] + [worth] + lines[13:]), refused(1, 14, worth)
+    for number, line in ((1, b"worth=10000000"), (1, b"worth=00000001"), (1, b"worth=0100"), (1, b"worth=00"),
+                         (1, b"worth=100,100"), (1, b"worth=0,100"), (1, b"worth="), (1, b"worth"), (1, b"worth=1e5"),
+                         (1, b"value=100"), (1, b"worths=100"), (1, b"deductible=100"), (1, b"gross=100"), (2, b"worth=0")):
+        yield (f"{'form' if number == 1 else 'range'}-worth-{line.decode()}", joined(head + [line] + rows),
+               refused(number, 7, line))
 
 
 def trailing_damage():
@@ -555,21 +607,21 @@ def trailing_damage():
         yield (f"form-after-{name}", data + bytes_after,
                refused(1, place, bytes_after.split(b"\n")[0]))
     wrong = joined(GOOD.lines()[:-1] + [b"end=4", b"more"])
-    yield "range-end-before-bytes-after", wrong, refused(2, 13, b"end=4")
+    yield "range-end-before-bytes-after", wrong, refused(2, 14, b"end=4")
 
 
 RANGES = {
     1: ((b"0", b"1899", b"3000", b"9999999"),), 2: ((b"0", b"1899", b"3000", b"9999999"),),
     3: ((b"4096", b"9999999"),), 4: ((b"0", b"13", b"9999999"),),
-    5: ((b"5001", b"9999999"),), 6: ((b"4097", b"9999999"),),
-    7: ((b"121", b"9999999"), (b"1000001", b"990001"), (b"1000001", b"980001")),
-    8: ((b"0", b"29", b"30", b"121", b"9999999"), (b"1000001", b"9999999"),
+    5: ((b"5001", b"9999999"),), 6: ((b"4097", b"9999999"),), 7: ((b"0",),),
+    8: ((b"121", b"9999999"), (b"1000001", b"990001"), (b"1000001", b"980001")),
+    9: ((b"0", b"29", b"30", b"121", b"9999999"), (b"1000001", b"9999999"),
         (b"970001", b"1000001")),
-    9: ((b"40", b"0", b"121"), (b"1000001", b"955001"), (b"1000001",)),
-    10: ((b"121", b"9999999"), (b"0", b"3", b"12", b"9999999"),
+    10: ((b"40", b"0", b"121"), (b"1000001", b"955001"), (b"1000001",)),
+    11: ((b"121", b"9999999"), (b"0", b"3", b"12", b"9999999"),
          (b"65536", b"9999999"), (b"65536", b"9999999")),
-    12: ((b"121", b"9999999"), (b"0", b"3"), (b"65536",), (b"65536",)),
-    13: ((b"0", b"2", b"4", b"9999999"),),
+    13: ((b"121", b"9999999"), (b"0", b"3"), (b"65536",), (b"65536",)),
+    14: ((b"0", b"2", b"4", b"9999999"),),
 }
 
 
@@ -584,39 +636,41 @@ def range_damage():
     full = tuple((age, 0, 0) for age in range(121))
     for row in (b"rate=120,0,0", b"rate=121,0,0", b"rate=0,0,0"):
         many = replace(GOOD, rate_rows=full).lines()
-        yield (f"range-122-rates-{row.decode()}", joined(many[:127] + [row] + many[127:]),
-               refused(2, 128, row))
-    bad = many[:127] + [b"rate=121,0,00"] + many[127:]
-    yield "form-122-rates", joined(bad), refused(1, 128, b"rate=121,0,00")
+        yield (f"range-122-rates-{row.decode()}", joined(many[:128] + [row] + many[128:]),
+               refused(2, 129, row))
+    bad = many[:128] + [b"rate=121,0,00"] + many[128:]
+    yield "form-122-rates", joined(bad), refused(1, 129, b"rate=121,0,00")
     too_many = replace(GOOD, member_rows=((40, 1, 0, 0),) * 1001).lines()
-    yield "range-1001-members", joined(too_many), refused(2, 1010, b"member=40,1,0,0")
-    bad = with_line(too_many, 1010, b"member=40,1,0,0 ")
-    yield "form-1001-members", joined(bad), refused(1, 1010, b"member=40,1,0,0 ")
-    open_end = joined(too_many[:1009]) + too_many[1009]
-    yield "form-1001-cut", open_end, refused(1, 1010, b"member=40,1,0,0")
+    yield "range-1001-members", joined(too_many), refused(2, 1011, b"member=40,1,0,0")
+    bad = with_line(too_many, 1011, b"member=40,1,0,0 ")
+    yield "form-1001-members", joined(bad), refused(1, 1011, b"member=40,1,0,0 ")
+    open_end = joined(too_many[:1010]) + too_many[1010]
+    yield "form-1001-cut", open_end, refused(1, 1011, b"member=40,1,0,0")
 
 
 def precedence_damage():
     """Form before range within a line; the first faulty line decides."""
     lines = GOOD.lines()
     both = {1: b"rates=03000", 3: b"horizon=4096\r", 4: b"order=13,1", 6: b"deductible= 4097",
-            7: b"rate=121,0,00", 8: b"rate=30,2000000,-1", 10: b"member=40,3,1,00",
-            12: b"member=121,3,65536,65536,1", 13: b"end=04"}
+            7: b"worth=0,", 8: b"rate=121,0,00", 9: b"rate=30,2000000,-1", 11: b"member=40,3,1,00",
+            13: b"member=121,3,65536,65536,1", 14: b"end=04"}
     for place, line in both.items():
         yield (f"form-before-range-{place}", joined(with_line(lines, place, line)),
                refused(1, place, line))
-    for place, line in ((3, b"horizon=9999"), (7, b"rate=121,0,0"),
-                        (10, b"member=0,0,0,0"), (13, b"end=9")):
+    for place, line in ((3, b"horizon=9999"), (7, b"worth=0"), (8, b"rate=121,0,0"),
+                        (11, b"member=0,0,0,0"), (14, b"end=9")):
         yield (f"form-open-out-of-range-{place}", joined(lines[:place - 1]) + line,
                refused(1, place, line))
     first = with_line(with_line(lines, 3, b"horizon=4096"), 5, b"frequency=x")
     yield "range-then-form", joined(first), refused(2, 3, b"horizon=4096")
     second = with_line(with_line(lines, 3, b"horizon=x"), 5, b"frequency=5001")
     yield "form-then-range", joined(second), refused(1, 3, b"horizon=x")
-    third = with_line(replace(GOOD, members=2031).lines(), 13, b"end=4")
-    yield "range-before-edition", joined(third), refused(2, 13, b"end=4")
+    third = with_line(replace(GOOD, members=2031).lines(), 14, b"end=4")
+    yield "range-before-edition", joined(third), refused(2, 14, b"end=4")
     fourth = joined(replace(GOOD, members=2031).lines()) + b"\n"
-    yield "form-before-edition", fourth, refused(1, 14)
+    yield "form-before-edition", fourth, refused(1, 15)
+    fifth = with_line(replace(GOOD, members=2031, deductible=7).lines(), 7, b"worth=0")
+    yield "range-worth-before-edition", joined(fifth), refused(2, 7, b"worth=0")
 
 
 def later_refusals():
@@ -634,21 +688,21 @@ def later_refusals():
     yield "deductible-4", made(deductible=7, member_rows=(none,)), refused(4)
     yield "deductible-4-top", made(horizon=4094, deductible=4096), refused(4)
     yield ("unmatched-5-after-half", made(member_rows=(one, none)),
-           refused(5, 11, b"member=29,2,0,0"))
+           refused(5, 12, b"member=29,2,0,0"))
     yield ("unmatched-5-first-of-two", made(member_rows=(two, none, (0, 1, 1, 1))),
-           refused(5, 11, b"member=29,2,0,0"))
+           refused(5, 12, b"member=29,2,0,0"))
     yield ("unmatched-5-frequency-0", made(frequency=0, member_rows=((0, 2, 5, 5),)),
-           refused(5, 10, b"member=0,2,5,5"))
+           refused(5, 11, b"member=0,2,5,5"))
     yield ("unmatched-5-no-rates", made(rate_rows=(), member_rows=((0, 1, 0, 0),)),
-           refused(5, 7, b"member=0,1,0,0"))
+           refused(5, 8, b"member=0,1,0,0"))
     yield ("half-6-before-load", made(member_rows=(two, two, two, one)),
-           refused(6, 13, b"member=30,1,1,1"))
+           refused(6, 14, b"member=30,1,1,1"))
     yield ("half-6-whole", made(member_rows=((50, 1, 3, 3),)),
-           refused(6, 10, b"member=50,1,3,3"))
+           refused(6, 11, b"member=50,1,3,3"))
     yield ("half-6-folded-half", made(member_rows=((50, 1, 0, 3),)),
-           refused(6, 10, b"member=50,1,0,3"))
+           refused(6, 11, b"member=50,1,0,3"))
     yield ("half-6-beyond", made(member_rows=((30, 1, 65535, 65535),)),
-           refused(6, 10, b"member=30,1,65535,65535"))
+           refused(6, 11, b"member=30,1,65535,65535"))
     yield "half-folded", made(member_rows=((50, 1, 0, 0), (30, 1, 0, 0))), ACCEPTED
     yield "load-7-before-order", made(member_rows=((40, 1, 1, 0), two, two)), refused(7)
     yield "order-8-just-below-half", made(member_rows=((40, 1, 1, 0),)), refused(8)
@@ -671,7 +725,7 @@ def short_damage():
         Case("damaged-short-before-wide", wide, refused(9), (7, 7, 6, 7, 7)),
         Case("damaged-wide-not-short", wide, refused(10, 6), (7,) * 5),
         Case("damaged-order-before-short", order, refused(8), (0,) * 5),
-        Case("damaged-form-before-short", form, refused(1, 13, b"end=3"), (0, 1, 2, 3, 4)),
+        Case("damaged-form-before-short", form, refused(1, 14, b"end=3"), (0, 1, 2, 3, 4)),
         Case("damaged-sums-short-before-wide", wide, refused(9), (7, 7, 7, 7, 6)),
         Case("damaged-sums-order-before-short", order, refused(8), (6, 6, 6, 6, 5)),
     ]
@@ -680,7 +734,7 @@ def short_damage():
 def damaged_files():
     """Files with a known refusal, each way of it."""
     cases = [Case("damaged-good", GOOD.data(), ACCEPTED)]
-    for kind in (spelling_damage, long_damage, cut_damage, order_damage, trailing_damage,
+    for kind in (spelling_damage, long_damage, cut_damage, order_damage, worth_damage, trailing_damage,
                  range_damage, precedence_damage, refusal_damage):
         cases += [Case(f"damaged-{name}", data, expected)
                   for name, data, expected in kind()]
@@ -761,7 +815,7 @@ def random_damage(seed, count):
     for index in range(count):
         way = WAYS[index % len(WAYS)]
         data = way(rng, small_text(rng, rng.choice(SMALL_KINDS)).data())
-        if data.endswith(b"\n") and data.count(b"\n") > 8 and rng.randrange(4) == 0:
+        if data.endswith(b"\n") and data.count(b"\n") > HEADER_LINES + 2 and rng.randrange(4) == 0:
             data = change_byte(rng, data)
         cases.append(Case(f"random-{way.__name__.replace('_', '-')}-{index}", data))
     return cases

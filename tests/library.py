@@ -3,7 +3,8 @@
     python3 tests/library.py N SEED
 
 Builds the library (rt, cc) and prices N files by both: whole funds, funds at
-each limit, funds with rates for some ages, cut and damaged ones, each with a level.
+each limit, funds with rates for some ages, funds about the edges of the loading, cut and
+damaged ones, each with a level.
 The five result slices have lengths from 0 on and are filled with other numbers
 before the call; behind each stand cells that must stay as they are.  Every
 figure, the place, the line, the quantile and every cell are compared.
@@ -20,6 +21,7 @@ import generate
 import pricing
 import quantile_funds
 import rate_funds
+import tariff_funds
 
 ROOT = Path(__file__).resolve().parent.parent
 BEHIND = 3               # cells behind each slice
@@ -29,7 +31,8 @@ U64, I64 = ctypes.c_uint64, ctypes.c_int64
 class Result(ctypes.Structure):
     """struct miguepo_result."""
     _fields_ = [("number", U64), ("place", U64), ("line_start", U64), ("line_size", U64), ("horizon", U64),
-                ("truncation", U64), ("mean", U64), ("premium", I64), ("within", U64), ("reached", U64), ("quantile", U64)]
+                ("truncation", U64), ("mean", U64), ("premium", I64), ("within", U64), ("gross", U64),
+                ("reached", U64), ("quantile", U64)]
 
 
 def quantile_of(got):
@@ -75,7 +78,7 @@ class Library:
         kept = after == bytes(results)[ctypes.sizeof(Result):]
         kept = kept and behind == [list(cells[length:]) for cells, length in zip(slices, lengths)]
         return pricing.Answer(got.number, got.place, got.line_start if got.line_size else 0, got.line_size, got.truncation,
-                              got.mean, got.premium, got.within, *left, got.horizon, quantile_of(got)), kept
+                              got.mean, got.premium, got.within, got.gross, *left, got.horizon, quantile_of(got)), kept
 
 
 def random_lengths(rng, horizon):
@@ -90,7 +93,8 @@ def cases(count, seed):
     rng = random.Random(seed)
     known = quantile_funds.cases(quantile_funds.ROWS + quantile_funds.MORE_ROWS)
     known += [generate.Case(name, text.data()) for name, text in document_funds.FUNDS.items()]
-    known += rate_funds.cases() + generate.limit_funds() + generate.damaged_files()
+    known += rate_funds.cases() + tariff_funds.cases() + generate.limit_funds() + generate.damaged_files()
+    known += generate.step_funds(seed, 100)
     for case in known[:count]:
         yield case.data, case.lengths, generate.level_of(case, rng, pricing.price(case.data))
     rest = max(0, count - len(known))

@@ -1,5 +1,7 @@
 """The answer of a pricing call, in whole numbers, in the order of document 01.
 
+The quantile, the rate in force and the gross premium are those of document 02.
+
 price(data, lengths, level) gives every figure of a call for any bytes, any
 lengths of the five result slices and any level.  listing(answer) gives the
 printed text.
@@ -18,6 +20,7 @@ HORIZON_HIGH = 4095
 ORDER_LOW, ORDER_HIGH = 1, 12
 FREQUENCY_HIGH = 5000
 DEDUCTIBLE_HIGH = 4096
+WORTH_LOW, WORTH_HIGH = 1, 9999999
 RATE_ROWS = 121
 MEMBER_ROWS = 1000
 AGE_HIGH = 120
@@ -30,6 +33,9 @@ TRUNCATION_HIGH = 10 ** 8
 BOUND_HIGH = 250000
 LEVEL_HIGH = 10 ** 12
 START_TERMS = 63
+# The tariff's loading from each deductible on, in thousandths.
+LOADINGS = ((0, 1500), (100, 1700), (300, 1900), (600, 2100))
+GROSS_DIVISOR = 10 ** 15     # the units times the thousandths
 LISTING_LENGTHS = (HORIZON_HIGH + 1,) * 5
 
 FORM, RANGE, EDITION, DEDUCTIBLE, UNMATCHED = 1, 2, 3, 4, 5
@@ -91,6 +97,7 @@ class Fund:
     order: int
     frequency: int
     deductible: int
+    worth: int           # of one amount, in centimes
     rate_rows: tuple     # (age, q, i), ages strictly rising
     member_rows: tuple   # Member records in file order
 
@@ -199,10 +206,11 @@ def read_fund(data):
     order = read_header(reader, b"order=", ORDER_LOW, ORDER_HIGH)
     frequency = read_header(reader, b"frequency=", 0, FREQUENCY_HIGH)
     deductible = read_header(reader, b"deductible=", 0, DEDUCTIBLE_HIGH)
+    worth = read_header(reader, b"worth=", WORTH_LOW, WORTH_HIGH)
     rate_rows, member_rows = read_rows(reader)
     if not reader.at_end():
         raise reader.take().refusal(FORM)
-    return Fund(rates, members, horizon, order, frequency, deductible,
+    return Fund(rates, members, horizon, order, frequency, deductible, worth,
                 rate_rows, member_rows)
 
 
@@ -432,6 +440,19 @@ def premium_bound(deductible, R, truncation_figure):
             + 2 * deductible * truncation_figure)
 
 
+# The pool's tariff
+
+def loading(deductible):
+    """In thousandths: that of the last step that is not above the deductible."""
+    return [thousandths for edge, thousandths in LOADINGS if edge <= deductible][-1]
+
+
+def gross(premium_figure, bound, worth, deductible):
+    """In centimes: one division by 10^15, taken up; a negative sum counts as 0."""
+    most = max(premium_figure + bound, 0)
+    return up(most * worth * loading(deductible), GROSS_DIVISOR)
+
+
 # The deductible at a level
 
 def running_sums(f):
@@ -464,6 +485,7 @@ class Answer:
     mean: int
     premium: int
     bound: int           # the premium's bound
+    gross: int           # the gross premium, in centimes
     D: tuple             # the five result slices after the call
     H: tuple
     f: tuple
@@ -501,12 +523,13 @@ def accepted(data, lengths, level):
     D, H, f, R = distribution(fund, members, lam)
     check_wide(R)
     mean_figure = mean(members, fund.frequency)
+    premium_figure = premium(mean_figure, fund.deductible, f)
+    bound = premium_bound(fund.deductible, R, E)
     F = running_sums(f)
     slices = [tuple(cells) + (0,) * (length - len(cells))
               for cells, length in zip((D, H, f, R, F), lengths)]
-    return Answer(0, 0, 0, 0, E, mean_figure,
-                  premium(mean_figure, fund.deductible, f),
-                  premium_bound(fund.deductible, R, E),
+    return Answer(0, 0, 0, 0, E, mean_figure, premium_figure, bound,
+                  gross(premium_figure, bound, fund.worth, fund.deductible),
                   *slices, fund.horizon, quantile(F, level))
 
 
@@ -514,7 +537,7 @@ def refused(refusal, lengths):
     """Number and place, zero for every figure and in every lent cell, no quantile."""
     slices = [(0,) * length for length in lengths]
     return Answer(refusal.number, refusal.place, refusal.start, refusal.length,
-                  0, 0, 0, 0, *slices, 0, None)
+                  0, 0, 0, 0, 0, *slices, 0, None)
 
 
 def price(data, lengths=LISTING_LENGTHS, level=0):
@@ -535,6 +558,7 @@ def listing(answer):
                      f"{answer.R[x] + 2 * answer.truncation}")
     lines.append(f"premium={answer.premium}")
     lines.append(f"within={answer.bound}")
+    lines.append(f"gross={answer.gross}")
     return "".join(line + "\n" for line in lines)
 
 

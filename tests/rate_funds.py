@@ -38,12 +38,12 @@ ROWS = (
     ("a half that no longer holds", fund(((30, HALF), (40, LOW)), ((40, 1), (60, 1), (35, 2))),
      fund(((35, HALF), (40, LOW), (60, LOW)), ((40, 1), (60, 1), (35, 2)))),
     ("an empty table without members", fund((), ()), fund((), ())),
-    ("below the first row", fund(TWO_ROWS, ((30, 1), (29, 1))), (5, 10)),
-    ("below the first row, group 2", fund(TWO_ROWS, ((0, 2),)), (5, 9)),
-    ("below one row at 120", fund(((120, LOW),), ((119, 1),)), (5, 8)),
-    ("an empty table", fund((), ((120, 1),)), (5, 7)),
-    ("half by the row in force", fund(((30, HALF), (50, LOW)), ((30, 2), (49, 1))), (6, 10)),
-    ("unmatched before half", fund(((30, HALF),), ((40, 1), (29, 1))), (5, 9)),
+    ("below the first row", fund(TWO_ROWS, ((30, 1), (29, 1))), (5, 11)),
+    ("below the first row, group 2", fund(TWO_ROWS, ((0, 2),)), (5, 10)),
+    ("below one row at 120", fund(((120, LOW),), ((119, 1),)), (5, 9)),
+    ("an empty table", fund((), ((120, 1),)), (5, 8)),
+    ("half by the row in force", fund(((30, HALF), (50, LOW)), ((30, 2), (49, 1))), (6, 11)),
+    ("unmatched before half", fund(((30, HALF),), ((40, 1), (29, 1))), (5, 10)),
 )
 
 

@@ -24,6 +24,7 @@ import generate
 import pricing
 import quantile_funds
 import rate_funds
+import tariff_funds
 
 SHORT_SLICES = (26, 25, 27, 25, 28)     # the small funds have X up to 24
 
@@ -42,7 +43,8 @@ def refusal_of(case):
 NUMBER = rb"(0|[1-9][0-9]{0,6})"
 HEADER = [(re.compile(key + b"=" + NUMBER), low, high) for key, low, high in (
     (b"rates", 1900, 2999), (b"members", 1900, 2999), (b"horizon", 0, 4095),
-    (b"order", 1, 12), (b"frequency", 0, 5000), (b"deductible", 0, 4096))]
+    (b"order", 1, 12), (b"frequency", 0, 5000), (b"deductible", 0, 4096),
+    (b"worth", 1, 9999999))]
 RATE = re.compile(b"rate=" + b",".join([NUMBER] * 3))
 MEMBER = re.compile(b"member=" + b",".join([NUMBER] * 4))
 END = re.compile(b"end=" + NUMBER)
@@ -101,7 +103,7 @@ def first_fault(data):
 
 def refused_answer_holds(data, answer):
     """Zero figures, zero cells, and the part that the place says."""
-    zero = (answer.truncation, answer.mean, answer.premium, answer.bound) == (0,) * 4
+    zero = (answer.truncation, answer.mean, answer.premium, answer.bound, answer.gross) == (0,) * 5
     zero = zero and answer.quantile is None
     cells = not any(map(any, (answer.D, answer.H, answer.f, answer.R, answer.F)))
     if answer.number in (1, 2, 5, 6):
@@ -115,6 +117,12 @@ def refused_answer_holds(data, answer):
     return zero and cells and part and text and 1 <= answer.number <= 10
 
 
+def gross_holds(data, answer):
+    """The gross premium of the answer's own premium and bound, by the formula."""
+    fund = pricing.read_fund(data)
+    return answer.gross == formulas.gross(answer.premium, answer.bound, fund.worth, fund.deductible)
+
+
 def accepted_answer_holds(answer):
     """Limits kept, the first D and H zero, zero beyond X, one line for each figure."""
     used = answer.horizon + 1
@@ -125,7 +133,7 @@ def accepted_answer_holds(answer):
             and max(answer.R) <= 250000 and answer.truncation <= 10 ** 8
             and all(h >= 0 for h in answer.H)
             and all(F == sum(answer.f[:x + 1]) for x, F in enumerate(answer.F[:used]))
-            and pricing.listing(answer).count("\n") == used + 4)
+            and pricing.listing(answer).count("\n") == used + 5)
 
 
 def quantile_holds(answer, level):
@@ -155,7 +163,7 @@ def answer_holds(case):
         return False
     if answer.number:
         return refused_answer_holds(case.data, answer)
-    return accepted_answer_holds(answer)
+    return accepted_answer_holds(answer) and gross_holds(case.data, answer)
 
 
 def answer_checks(made):
@@ -211,7 +219,7 @@ def with_slices(made, lengths):
 
 def small_limit_funds():
     """Limit funds that the exact calculation can take in a short time."""
-    large = ("1000", "horizon-high", "deductible-high", "longest")
+    large = ("1000", "horizon-high", "deductible-high", "loading", "longest")
     return [case for case in generate.limit_funds()
             if not any(word in case.name for word in large)]
 
@@ -243,7 +251,7 @@ def fund_parts(data):
     lines = data.split(b"\n")[:-1]
     rates = [line for line in lines if line.startswith(b"rate=")]
     members = [line for line in lines if line.startswith(b"member=")]
-    return lines[:6], rates, members, lines[-1:]
+    return lines[:generate.HEADER_LINES], rates, members, lines[-1:]
 
 
 def with_header(data, place, line):
@@ -260,10 +268,17 @@ def prefix_holds(data, whole):
 
 
 def deductible_holds(data, whole):
-    """The deductible changes only the premium and its bound; at 0 it is the mean."""
+    """The deductible changes only the premium, its bound and the gross premium; at 0 it is the mean."""
     other = pricing.price(with_header(data, 6, b"deductible=0"))
     return ((other.premium, other.bound) == (whole.mean, 0)
-            and replace(other, premium=whole.premium, bound=whole.bound) == whole)
+            and replace(other, premium=whole.premium, bound=whole.bound, gross=whole.gross) == whole)
+
+
+def worth_holds(data, whole):
+    """The worth changes only the gross premium, and a thousand amounts of 1 are one of 1,000."""
+    one, many = (pricing.price(with_header(data, 7, b"worth=%d" % worth)) for worth in (1, 1000))
+    return (replace(one, gross=whole.gross) == replace(many, gross=whole.gross) == whole
+            and 1000 * (one.gross - 1) < many.gross <= 1000 * one.gross)
 
 
 def sum_holds(whole):
@@ -289,6 +304,8 @@ def large_checks(made):
             (f"{case.name}: accepted", whole.number == 0),
             (f"{case.name}: shorter horizon", prefix_holds(case.data, whole)),
             (f"{case.name}: deductible", deductible_holds(case.data, whole)),
+            (f"{case.name}: worth", worth_holds(case.data, whole)),
+            (f"{case.name}: gross premium", gross_holds(case.data, whole)),
             (f"{case.name}: sum of cells", sum_holds(whole)),
             (f"{case.name}: order of members", member_order_holds(case.data, whole)),
         ]
@@ -346,6 +363,10 @@ def quantile_left(refusal, lengths):
     return replace(right_refused(refusal, lengths), quantile=0)
 
 
+def gross_left(refusal, lengths):
+    return replace(right_refused(refusal, lengths), gross=1)
+
+
 def first_four_only(lengths, horizon):
     right_check_short(lengths[:4], horizon)
 
@@ -397,6 +418,68 @@ def none_is_zero(rate_rows, age):
     return right_rate_in_force(rate_rows, age) or (0, 0)
 
 
+def loaded_by_horizon(data, lengths, level):
+    answer, fund = right_accepted(data, lengths, level), pricing.read_fund(data)
+    return replace(answer, gross=pricing.gross(answer.premium, answer.bound, fund.worth, fund.horizon))
+
+
+def edge_moved(step, by):
+    """The loadings with this step's first deductible moved."""
+    return tuple((edge + by * (k == step), loading) for k, (edge, loading) in enumerate(pricing.LOADINGS))
+
+
+def loading_of(step, other):
+    """The loadings with this step's taken from the other."""
+    return tuple((edge, pricing.LOADINGS[other if k == step else k][1])
+                 for k, (edge, _) in enumerate(pricing.LOADINGS))
+
+
+def most(premium, bound):
+    return max(premium + bound, 0)
+
+
+def gross_nearest(premium, bound, worth, deductible):
+    return pricing.nearest(most(premium, bound) * worth * pricing.loading(deductible), 10 ** 15)
+
+
+def gross_down(premium, bound, worth, deductible):
+    return most(premium, bound) * worth * pricing.loading(deductible) // 10 ** 15
+
+
+def gross_down_and_one(premium, bound, worth, deductible):
+    return gross_down(premium, bound, worth, deductible) + 1
+
+
+def gross_wrapped(premium, bound, worth, deductible):
+    return pricing.up(most(premium, bound) * worth * pricing.loading(deductible) % 2 ** 64, 10 ** 15)
+
+
+def gross_without_bound(premium, bound, worth, deductible):
+    return right_gross(premium, 0, worth, deductible)
+
+
+def gross_apart(premium, bound, worth, deductible):
+    return right_gross(premium, 0, worth, deductible) + right_gross(0, bound, worth, deductible)
+
+
+def gross_below_zero(premium, bound, worth, deductible):
+    return pricing.up((premium + bound) * worth * pricing.loading(deductible), 10 ** 15)
+
+
+def premium_below_zero_dropped(premium, bound, worth, deductible):
+    return right_gross(max(premium, 0), bound, worth, deductible)
+
+
+def centimes_before_loading(premium, bound, worth, deductible):
+    centimes = pricing.up(most(premium, bound) * worth, pricing.UNIT)
+    return pricing.up(centimes * pricing.loading(deductible), 1000)
+
+
+def units_before_worth(premium, bound, worth, deductible):
+    units = pricing.up(most(premium, bound) * pricing.loading(deductible), 1000)
+    return pricing.up(units * worth, pricing.UNIT)
+
+
 def half_before_folding(member, q, i):
     if member.group == 1 and q + i >= pricing.HALF:
         raise member.line.refusal(pricing.TOO_HALF)
@@ -413,6 +496,8 @@ right_check_short = pricing.check_short
 right_running_sums = pricing.running_sums
 right_quantile = pricing.quantile
 right_rate_in_force = pricing.rate_in_force
+right_accepted = pricing.accepted
+right_gross = pricing.gross
 
 MUTATIONS = (
     ("negative halves up", "nearest", negative_halves_up),
@@ -450,6 +535,31 @@ MUTATIONS = (
     ("no rate above the last row", "rate_in_force", until_the_last_row),
     ("the first row's rate below its age", "rate_in_force", from_age_0),
     ("rates of 0 where none is in force", "rate_in_force", none_is_zero),
+    ("loading by the horizon", "accepted", loaded_by_horizon),
+    ("the loading of 99 at 100", "LOADINGS", edge_moved(1, 1)),
+    ("the loading of 100 at 99", "LOADINGS", edge_moved(1, -1)),
+    ("the loading of 299 at 300", "LOADINGS", edge_moved(2, 1)),
+    ("the loading of 300 at 299", "LOADINGS", edge_moved(2, -1)),
+    ("the loading of 599 at 600", "LOADINGS", edge_moved(3, 1)),
+    ("the loading of 600 at 599", "LOADINGS", edge_moved(3, -1)),
+    ("the second step's loading in the first", "LOADINGS", loading_of(0, 1)),
+    ("the first step's loading in the second", "LOADINGS", loading_of(1, 0)),
+    ("the second step's loading in the third", "LOADINGS", loading_of(2, 1)),
+    ("the third step's loading in the last", "LOADINGS", loading_of(3, 2)),
+    ("the gross premium to the nearest centime", "gross", gross_nearest),
+    ("the gross premium taken down", "gross", gross_down),
+    ("always a centime more than taken down", "gross", gross_down_and_one),
+    ("a product that wraps at 2^64", "gross", gross_wrapped),
+    ("the bound left out of the gross premium", "gross", gross_without_bound),
+    ("premium and bound taken up apart", "gross", gross_apart),
+    ("centimes taken up before the loading", "gross", centimes_before_loading),
+    ("units taken up before the worth", "gross", units_before_worth),
+    ("a gross premium below 0", "gross", gross_below_zero),
+    ("a premium below 0 dropped before the bound", "gross", premium_below_zero_dropped),
+    ("a gross premium after a refusal", "refused", gross_left),
+    ("worth 0 passes", "WORTH_LOW", pricing.WORTH_LOW - 1),
+    ("least worth one higher", "WORTH_LOW", pricing.WORTH_LOW + 1),
+    ("most worth one lower", "WORTH_HIGH", pricing.WORTH_HIGH - 1),
 )
 
 
@@ -467,6 +577,7 @@ def noticed(small, limits, damaged):
         "answers": failures(answer_checks(limits)),
         "quantiles": failures(quantile_funds.checks()),
         "rates": failures(rate_funds.checks()),
+        "tariff": failures(tariff_funds.checks()),
     }
 
 
@@ -524,7 +635,7 @@ def stream_checks():
              cases.answer_of(document_funds.FIRST_FILE, 900000000001)
              == document_funds.FIRST_LISTING.encode("ascii") + b"line=\nquantile=1\n\n"),
             ("stream: a refusal", cases.answer_of(document_funds.HALF.data(), 0)
-             == b"refused=6,8\nline=member=40,1,1,0\nrefused=6,8\n\n")]
+             == b"refused=6,9\nline=member=40,1,1,0\nrefused=6,9\n\n")]
 
 
 def row_checks():
@@ -585,7 +696,11 @@ def sections():
     gaps = with_slices(generate.gap_funds(2, 240), SHORT_SLICES)
     yield "rates for some ages", (rate_funds.checks() + answer_checks(rate_funds.cases() + gaps)
                                   + distance_checks(rate_funds.cases() + gaps) + formula_checks(gaps[::4]))
-    yield "larger funds", large_checks(generate.large_funds(9, 6))
+    steps = generate.step_funds(3, 48)
+    yield "tariff", (tariff_funds.checks() + answer_checks(tariff_funds.cases() + steps)
+                     + reading_checks(tariff_funds.cases()) + distance_checks(tariff_funds.cases())
+                     + formula_checks(tariff_funds.cases()))
+    yield "larger funds", large_checks(generate.large_funds(9, 6) + steps[::6])
     yield "stored cases", case_tool_checks() + stream_checks()
     yield "exact rows", row_checks()
     yield "program", program_checks()

@@ -19,7 +19,7 @@ use Rattle.fund.specs.declared.Quantile.the-variants.{At, None}
 use Rattle.fund.specs.Quantile.{quantileOf, reachedIn, quantileIn}
 use Rattle.fund.specs.Answer.{Answer, answer}
 use Rattle.fund.specs.Listing.{horizonIn, listing}
-use Rattle.fund.specs.Distance.{WithinBounds}
+use Rattle.fund.specs.Distance.{WithinBounds, NeverBelow}
 use Rattle.text.specs.Shown.{room}
 use Rattle.text.specs.Writing.{Written}
 use Rattle.printing.specs.declared.PrintedInput.{PrintedInput}
@@ -60,6 +60,7 @@ module _ (file : List ℕ) (level : ℕ) (n : Lengths) (p : Priced) (d : List �
             };
         quantile = k .answers .quantile ∙ ap (quantileOf level (p .horizon) s) v;
         distance = λ fund e a. subst (λ (x : Answer). WithinBounds fund x) is (k .distance fund e (v ∙ a));
+        never-below = λ fund e a. subst (λ (x : Answer). NeverBelow fund x) is (k .never-below fund e (v ∙ a));
       })
 
 -- the two fields tell the answer, and of a refusal the horizon does not count
@@ -79,7 +80,7 @@ module _ (file : List ℕ) (level : ℕ) (n : Lengths) (result : List ℕ) (d : 
   abbrev X : ℕ
   X = horizonIn (reading file)
 
-  quantile-is : quantileRead (getD result 9 0) (getD result 10 0) ≡ quantileOf level (getD result 4 0) s (a .verdict)
+  quantile-is : quantileRead (getD result 10 0) (getD result 11 0) ≡ quantileOf level (getD result 4 0) s (a .verdict)
   quantile-is =
       rw (k .result-is, k .F-is) (read-back level X s (quantileOf level X (a .F) (a .verdict)) ∙ told-horizon level X (a .F) (a .verdict))
 
@@ -92,6 +93,7 @@ module _ (file : List ℕ) (level : ℕ) (n : Lengths) (result : List ℕ) (d : 
         method = record { figures = rw (k .result-is) (rw (k .premium) refl); D = k .D-is; H = k .H-is; f = k .f-is; R = k .R-is; F = k .F-is };
         quantile = quantile-is;
         distance = λ fund e a. k .distance fund e (ap numberIn a);
+        never-below = λ fund e a. k .never-below fund e (ap numberIn a);
       })
 
 -- what is written where there is room

@@ -1,4 +1,4 @@
--- From an outcome that is the definitions' answer, with the distance of an accepted fund, to the three demands and to what the answer at
+-- From an outcome that is the definitions' answer, with the distance of an accepted fund and what its gross premium covers, to the three demands and to what the answer at
 -- the level says (demands). Only what acceptance and a refusal say of the definitions' answer is used.
 use mathlib.Core.Path.{_≡_, refl, sym, _∙_, ap, subst}
 use mathlib.Core.List.{List}
@@ -17,7 +17,7 @@ use Rattle.fund.specs.Refusals.{Lengths, numberIn, verdict}
 use Rattle.fund.specs.Quantile.{quantile, quantileOf, QuantileSays}
 use Rattle.fund.specs.Answer.{Answer, refused, fundCells, accepted, answerOf, answerTo, answer}
 use Rattle.fund.specs.Listing.{horizonIn}
-use Rattle.fund.specs.Distance.{fileDenominator, exactAt, exactPremiumAt, apart, WithinBounds}
+use Rattle.fund.specs.Distance.{fileDenominator, exactAt, exactPremiumAt, apart, WithinBounds, exactLoadedWorth, NeverBelow}
 use Rattle.laws.specs.Accepted.{accepts}
 use Rattle.laws.specs.Answer.{accepted-read, answer-accepted}
 use Rattle.laws.specs.Sums.{F-cell, length-F}
@@ -46,13 +46,14 @@ refused-as file n l = go (reading file) refl l
     go (stopped why place) e h = record { why = why; place = place; is = ap (answerTo file n) e }
 
 -- ---- the demands
--- What is left is the answer, and the distance holds of it.
+-- What is left is the answer, and the distance and the gross premium's cover hold of it.
 pub record Answered (file : List ℕ) (level : ℕ) (n : Lengths) (o : Received) : Type 0 where
   pub refuses : Refuses file n o
   pub horizon : o .horizon ≡ horizonWith (answer file n .verdict) (horizonIn (reading file))
   pub method : Method file n o
   pub quantile : o .quantile ≡ quantileOf level (o .horizon) (o .F) (answer file n .verdict)
   pub distance : (fund : FundFile) → reading file ≡ read fund → answer file n .verdict ≡ Accepted → WithinBounds fund (answer file n)
+  pub never-below : (fund : FundFile) → reading file ≡ read fund → answer file n .verdict ≡ Accepted → NeverBelow fund (answer file n)
 
 module _ (file : List ℕ) (level : ℕ) (n : Lengths) (o : Received) (k : Answered file level n o) where
   zero-of : RefusedAs file n → Zero n o
@@ -72,7 +73,7 @@ module _ (file : List ℕ) (level : ℕ) (n : Lengths) (o : Received) (k : Answe
       }
 
   close-of : answer file n .verdict ≡ Accepted → Close file o
-  unfolding apart unit horizonIn
+  unfolding apart unit horizonIn exactLoadedWorth
   close-of v =
       let a = accepted-read file n v in
       let m = k .method in
@@ -84,6 +85,7 @@ module _ (file : List ℕ) (level : ℕ) (n : Lengths) (o : Received) (k : Answe
         horizon = X;
         cell = λ x l. rw (m .f, m .R, m .figures) (w .cell x (omega (arith, l, X)));
         premium = rw (m .figures) (w .premium);
+        gross = rw (m .figures) (k .never-below (a .fund) (a .is-read) v .gross);
       }
 
   quantiles-of : answer file n .verdict ≡ Accepted → Quantiles level o

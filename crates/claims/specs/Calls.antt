@@ -46,8 +46,8 @@ hosted file result d h f r s =
       place = getD result 1 0;
       line = take (getD result 3 0) (drop (getD result 2 0) file);
       horizon = getD result 4 0;
-      figures = record { truncation = getD result 5 0; mean = getD result 6 0; premium = readSigned (getD result 7 0); within = getD result 8 0 };
-      quantile = quantileRead (getD result 9 0) (getD result 10 0);
+      figures = record { truncation = getD result 5 0; mean = getD result 6 0; premium = readSigned (getD result 7 0); within = getD result 8 0; gross = getD result 9 0 };
+      quantile = quantileRead (getD result 10 0) (getD result 11 0);
       D = d;
       H = h;
       f = f;

@@ -4,12 +4,14 @@ use mathlib.Core.Path.{_≡_}
 use mathlib.Core.List.{List}
 use Prim.Native.Nat.{ℕ, _+_, _*_, _^_, _<_, _≤_}
 use lib.IntN.{ℤ, pos, natAbs, _*ℤ_, _-ℤ_}
+use lib.Signed.{_≤ℤ_}
 use lib.ListN.{getD, take, drop, replicate}
 use Rattle.fund.specs.declared.Figures.{Figures}
 use Rattle.fund.specs.declared.Quantile.{Quantile}
 use Rattle.fund.specs.declared.Quantile.the-variants.{None}
 use Rattle.fund.specs.Base.{sumℤ}
 use Rattle.fund.specs.Reading.{FundFile, read, reading}
+use Rattle.fund.specs.Tariff.{loading}
 use Rattle.fund.specs.Refusals.{Lengths, numberIn, placeIn}
 use Rattle.fund.specs.Quantile.{QuantileSays}
 use Rattle.fund.specs.Answer.{Part, answer}
@@ -43,7 +45,7 @@ pub record Refuses (file : List ℕ) (n : Lengths) (o : Received) : Type 0 where
 -- "A refusal gives number and place, zero for every figure, and zero in every lent result cell." It answers none at every level.
 pub record Zero (n : Lengths) (o : Received) : Type 0 where
   pub horizon : o .horizon ≡ 0
-  pub figures : o .figures ≡ record { truncation = 0; mean = 0; premium = pos 0; within = 0 }
+  pub figures : o .figures ≡ record { truncation = 0; mean = 0; premium = pos 0; within = 0; gross = 0 }
   pub quantile : o .quantile ≡ None
   pub D : o .D ≡ replicate (n .D) (pos 0)
   pub H : o .H ≡ replicate (n .H) 0
@@ -61,7 +63,8 @@ pub record Method (file : List ℕ) (n : Lengths) (o : Received) : Type 0 where
   pub F : o .F ≡ answer file n .F
 
 -- Demand 3, of a fund that is accepted: the file holds a fund; each f(x) that the host has is within R(x) + 2×E of 10^12 times the
--- exact value at x, and the premium within its bound of the exact premium; all times document 01's denominator.
+-- exact value at x, and the premium within its bound of the exact premium; all times document 01's denominator. And the gross premium is
+-- never below the exact premium's loaded worth, both times 10^15 and the denominator.
 pub record Close (file : List ℕ) (o : Received) : Type 0 where
   pub fund : FundFile
   pub is-read : reading file ≡ read fund
@@ -69,6 +72,7 @@ pub record Close (file : List ℕ) (o : Received) : Type 0 where
   pub cell : (x : ℕ) → x ≤ o .horizon →
       natAbs (pos (fileDenominator fund) *ℤ getD (o .f) x (pos 0) -ℤ pos (10 ^ 12) *ℤ exactAt fund x) ≤ fileDenominator fund * (getD (o .R) x 0 + 2 * o .figures .truncation)
   pub premium : natAbs (pos (fileDenominator fund) *ℤ o .figures .premium -ℤ exactPremiumAt fund (o .figures .mean)) ≤ fileDenominator fund * o .figures .within
+  pub gross : (exactPremiumAt fund (o .figures .mean) *ℤ pos (fund .header .worth * loading (fund .header .deductible))) ≤ℤ pos (o .figures .gross * 10 ^ 15 * fileDenominator fund)
 
 -- The deductible at a level, of a fund that is accepted. F(x) is f(0) + .. + f(x) of the f that the host has. Up to a level of 10^12 the
 -- answer is the first place up to the horizon where F is at least the level, and F is below the level at every place before it; or none,

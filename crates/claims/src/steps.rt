@@ -12,6 +12,7 @@ use reader::FileRead;
 use reader::Part;
 use recursion::Recursed;
 use spelling::Numbers;
+use tariff::Gross;
 use totals::Totals;
 use valuation::Valued;
 ghost use mathlib.Core.Path.{_≡_};
@@ -29,6 +30,7 @@ ghost use Rattle.reader.specs.Part.{Spans};
 ghost use Rattle.matching.specs.Matching.{matchedTables};
 ghost use Rattle.recursion.specs.Recursion.{left, recursion};
 ghost use Rattle.limits.specs.Tests.{tested};
+ghost use Rattle.tariff.specs.Gross.{grossOf};
 ghost use Rattle.totals.specs.Totals.{TotalsFor};
 ghost use Rattle.totals.specs.Tests.{testedOf};
 ghost use Rattle.valuation.specs.Valued.{left as leftOf, lengths, valuation};
@@ -150,6 +152,13 @@ pub fn claimed_quantile(level: u64, horizon: usize, sums: &[i64]) -> Quantile
     ensures { λ q. ⌜ q ≡ quantile level horizon (now (sums .entry)) ⌝ }
 {
     quantile::quantile(level, horizon, sums)
+}
+
+// The gross premium of any terms, premium and bound, or that the worth is outside its range.
+pub fn claimed_gross(fund: Fund, premium: i64, within: u64) -> Gross
+    ensures { λ g. ⌜ g ≡ grossOf fund premium within ⌝ }
+{
+    tariff::gross_premium(fund, premium, within)
 }
 
 // Whether a transform, a start and slices keep the limits of the recursion.

@@ -1,5 +1,5 @@
 -- Demand 3 at the definitions: whatever bytes and slice lengths the definitions accept, the answer is within its bounds of the exact
--- values (distance); and with lambda 0 the exact premium is the average excess over M of all outcomes of group 1 (average).
+-- values (distance), and the gross premium not below the exact premium's loaded worth (never-below); and with lambda 0 the exact premium is the average excess over M of all outcomes of group 1 (average).
 use mathlib.Core.Path.{_≡_, sym, _∙_, ap, subst}
 use mathlib.Core.List.{List}
 use Prim.Native.Nat.{ℕ, suc, _+_, _*_, _^_, _≤_}
@@ -15,12 +15,13 @@ use Rattle.fund.specs.Transform.{unit, lambda}
 use Rattle.fund.specs.Recursion.{Cell}
 use Rattle.fund.specs.Premium.{premium, within, printedBound}
 use Rattle.fund.specs.Refusals.{Lengths, verdict}
-use Rattle.fund.specs.Answer.{fundTerms, fundStart, fundCells, fundTruncation, fundMean, fundFigures, Answer, accepted, answer}
+use Rattle.fund.specs.Answer.{fundTerms, fundStart, fundCells, fundTruncation, fundMean, fundPremium, fundWithin, fundFigures, Answer, accepted, answer}
 use Rattle.fund.specs.Exact.{singles, outcomes, excess}
-use Rattle.fund.specs.Distance.{fileDenominator, exactAt, exactPremiumAt, apart, WithinBounds}
+use Rattle.fund.specs.Distance.{fileDenominator, exactAt, exactPremiumAt, apart, WithinBounds, exactLoadedWorth, NeverBelow}
 use Rattle.laws.specs.Accepted.{Accepts, accepts}
 use Rattle.laws.specs.Cells.{sum-is}
 use Rattle.laws.specs.Ranges.{FundOk, read-ranges}
+use Rattle.laws.specs.Tariff.{gross-covers}
 use Rattle.laws.specs.Answer.{answer-accepted, fundCell, fundCells-are, f-cell, R-cell}
 use Rattle.distance.specs.Lives.{all-folded}
 use Rattle.distance.specs.Members.{Priceable}
@@ -62,11 +63,15 @@ module _ (fund : FundFile) (n : Lengths) (ok : FundOk fund) (a : Accepts fund n 
       (cells-distance X (fund .header .order) (fund .header .frequency) (lives fund) small p x l)
 
   close-premium : natAbs (pos (fileDenominator fund) *ℤ A .figures .premium -ℤ exactPremiumAt fund (A .figures .mean)) ≤ fileDenominator fund * A .figures .within
-  unfolding fileDenominator exactPremiumAt fundTerms fundStart fundTruncation fundFigures accepted
+  unfolding fileDenominator exactPremiumAt fundTerms fundStart fundTruncation fundPremium fundWithin fundFigures accepted
   close-premium =
       subst (λ (ys : List Cell). natAbs (pos (fileDenominator fund) *ℤ premium (fund .header .deductible) (fundMean (fund .header) (lives fund)) ys -ℤ exactPremiumAt fund (fundMean (fund .header) (lives fund))) ≤ fileDenominator fund * within (fund .header .deductible) (fundTruncation (fund .header) (lives fund)) ys)
       (sym (fundCells-are (fund .header) (lives fund)))
       (premium-distance X (fund .header .order) (fund .header .frequency) (lives fund) small p (fund .header .deductible) (fundMean (fund .header) (lives fund)) (a .deductible))
+
+  covers-exact : NeverBelow fund A
+  unfolding exactLoadedWorth fundFigures accepted
+  covers-exact = record { gross = gross-covers (fileDenominator fund) (fund .header .deductible) (fund .header .worth) (A .figures .within) (A .figures .premium) (exactPremiumAt fund (A .figures .mean)) close-premium }
 
 pub distance : (file : List ℕ) (n : Lengths) (fund : FundFile) → reading file ≡ read fund → answer file n .verdict ≡ Accepted → WithinBounds fund (answer file n)
 distance file n fund r e =
@@ -75,6 +80,12 @@ distance file n fund r e =
     let a = accepts fund n (fundCells (fund .header) (lives fund)) (c .verdict-is) in
     subst (λ (x : Answer). WithinBounds fund x) (sym (c .answer-is))
     (record { cell = close-cell fund n ok a; cells = close-cells fund n ok a; premium = close-premium fund n ok a })
+
+pub never-below : (file : List ℕ) (n : Lengths) (fund : FundFile) → reading file ≡ read fund → answer file n .verdict ≡ Accepted → NeverBelow fund (answer file n)
+never-below file n fund r e =
+    let c = answer-accepted file n fund r e in
+    let a = accepts fund n (fundCells (fund .header) (lives fund)) (c .verdict-is) in
+    subst (λ (x : Answer). NeverBelow fund x) (sym (c .answer-is)) (covers-exact fund n (read-ranges file fund r) a)
 
 pub average : (file : List ℕ) (n : Lengths) (fund : FundFile) → reading file ≡ read fund → answer file n .verdict ≡ Accepted → lambda (fund .header .frequency) (lives fund) ≡ 0 →
     exactPremiumAt fund (answer file n .figures .mean) *ℤ pos (10 ^ (6 * singles (lives fund))) ≡ pos (10 ^ 12 * excess (fund .header .deductible) (outcomes (lives fund)) * fileDenominator fund)

@@ -1,3 +1,4 @@
 pub mod Starred
 pub mod ExactRows
 pub mod Levels
+pub mod Tariffs

@@ -18,6 +18,7 @@ use Rattle.fund.specs.Folding.{lives}
 use Rattle.fund.specs.Transform.{Term, terms, D, H, lambda, truncation, mean}
 use Rattle.fund.specs.Recursion.{Cell, start, startBound, entries, cells}
 use Rattle.fund.specs.Premium.{premium, within}
+use Rattle.fund.specs.Tariff.{gross}
 use Rattle.fund.specs.Refusals.{Lengths, verdict}
 use Rattle.fund.specs.Quantile.{runningSum}
 
@@ -40,19 +41,25 @@ fundTruncation fund ms = truncation (fund .order) ms
 unfoldable pub fundMean : Fund → List Life → ℕ
 fundMean fund ms = mean (fund .frequency) ms
 
+unfoldable pub fundPremium : Fund → List Life → ℤ
+fundPremium fund ms = premium (fund .deductible) (fundMean fund ms) (fundCells fund ms)
+
+unfoldable pub fundWithin : Fund → List Life → ℕ
+fundWithin fund ms = within (fund .deductible) (fundTruncation fund ms) (fundCells fund ms)
+
 unfoldable pub fundFigures : Fund → List Life → Figures
 fundFigures fund ms =
-    let M = fund .deductible in
     record {
       truncation = fundTruncation fund ms;
       mean = fundMean fund ms;
-      premium = premium M (fundMean fund ms) (fundCells fund ms);
-      within = within M (fundTruncation fund ms) (fundCells fund ms);
+      premium = fundPremium fund ms;
+      within = fundWithin fund ms;
+      gross = gross (fund .deductible) (fund .worth) (fundPremium fund ms) (fundWithin fund ms);
     }
 
 -- "zero for every figure"
 abbrev pub noFigures : Figures
-noFigures = record { truncation = 0; mean = 0; premium = pos 0; within = 0 }
+noFigures = record { truncation = 0; mean = 0; premium = pos 0; within = 0; gross = 0 }
 
 -- A part of the host's bytes.
 pub record Part : Type 0 where

@@ -7,6 +7,7 @@ pub mod Folding
 pub mod Transform
 pub mod Recursion
 pub mod Premium
+pub mod Tariff
 pub mod Refusals
 pub mod Quantile
 pub mod Answer
@@ -15,4 +16,5 @@ pub mod Exact
 pub mod Distance
 pub mod Starred
 pub mod Levels
+pub mod Tariffs
 pub mod ExactRows

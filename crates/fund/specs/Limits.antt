@@ -26,6 +26,13 @@ most-frequency = 5000
 abbrev pub most-deductible : ℕ
 most-deductible = 4096
 
+-- Document 02, §3: "A fund states the worth of one amount in centimes, 1 to 9,999,999."
+abbrev pub least-worth : ℕ
+least-worth = 1
+
+abbrev pub most-worth : ℕ
+most-worth = 9999999
+
 -- 0 to 121 lines `rate=age,q,i`: age 0 to 120; q and i 0 to 1,000,000 in millionths, q + i at most 1,000,000.
 abbrev pub most-rates : ℕ
 most-rates = 121
@@ -66,6 +73,28 @@ most-bound = 250000
 abbrev pub most-level : ℕ
 most-level = 1000000000000
 
+-- Document 02, §3, the tariff's steps: "0 to 99 is 1,500; 100 to 299 is 1,700; 300 to 599 is 1,900; 600 and above is 2,100."
+abbrev pub second-step : ℕ
+second-step = 100
+
+abbrev pub third-step : ℕ
+third-step = 300
+
+abbrev pub fourth-step : ℕ
+fourth-step = 600
+
+abbrev pub first-loading : ℕ
+first-loading = 1500
+
+abbrev pub second-loading : ℕ
+second-loading = 1700
+
+abbrev pub third-loading : ℕ
+third-loading = 1900
+
+abbrev pub fourth-loading : ℕ
+fourth-loading = 2100
+
 abbrev pub limits : Limits
 limits =
     record {
@@ -76,6 +105,8 @@ limits =
       «most_order» = most-order;
       «most_frequency» = most-frequency;
       «most_deductible» = most-deductible;
+      «least_worth» = least-worth;
+      «most_worth» = most-worth;
       «most_rates» = most-rates;
       «most_age» = most-age;
       «most_rate» = most-rate;
@@ -88,4 +119,11 @@ limits =
       «most_truncation» = most-truncation;
       «most_bound» = most-bound;
       «most_level» = most-level;
+      «second_step» = second-step;
+      «third_step» = third-step;
+      «fourth_step» = fourth-step;
+      «first_loading» = first-loading;
+      «second_loading» = second-loading;
+      «third_loading» = third-loading;
+      «fourth_loading» = fourth-loading;
     }

@@ -41,14 +41,15 @@ cellLines E x (f ∷ fs) [] = []
 cellLines E x (f ∷ fs) (R ∷ Rs) =
     bytes "cell=" ++ (joined (decimal x) (signedDecimal f ∷ decimal (printedBound E R) ∷ []) ++ cellLines E (suc x) fs Rs)
 
--- The lines of an accepted fund with horizon X, and "A refusal prints only `refused=number,place`."
+-- The lines of an accepted fund with horizon X; document 02, §3: "The listing gains a last line `gross=`". And "A refusal prints only `refused=number,place`."
 unfoldable pub listed : ℕ → Answer → List ℕ
 listed X a =
     bytes "truncation=" ++ (joined (decimal (a .figures .truncation)) []
     ++ (bytes "mean=" ++ (joined (decimal (a .figures .mean)) []
     ++ (cellLines (a .figures .truncation) 0 (take (suc X) (a .f)) (take (suc X) (a .R))
     ++ (bytes "premium=" ++ (joined (signedDecimal (a .figures .premium)) []
-    ++ (bytes "within=" ++ joined (decimal (a .figures .within)) [])))))))
+    ++ (bytes "within=" ++ (joined (decimal (a .figures .within)) []
+    ++ (bytes "gross=" ++ joined (decimal (a .figures .gross)) [])))))))))
 
 unfoldable pub refusedLine : Refusal → ℕ → List ℕ
 refusedLine why place = bytes "refused=" ++ joined (decimal (numberOf why)) (decimal place ∷ [])

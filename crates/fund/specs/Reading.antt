@@ -10,7 +10,7 @@ use Rattle.fund.specs.declared.Rate.{Rate}
 use Rattle.fund.specs.declared.Member.{Member}
 use Rattle.fund.specs.declared.Refusal.{Refusal}
 use Rattle.fund.specs.declared.Refusal.the-variants.{Form, Range}
-use Rattle.fund.specs.Limits.{least-edition, most-edition, most-horizon, least-order, most-order, most-frequency, most-deductible, most-rates, most-age, most-rate, most-members, least-group, most-group, most-amount}
+use Rattle.fund.specs.Limits.{least-edition, most-edition, most-horizon, least-order, most-order, most-frequency, most-deductible, least-worth, most-worth, most-rates, most-age, most-rate, most-members, least-group, most-group, most-amount}
 use Rattle.fund.specs.Base.{bytes}
 use Rattle.fund.specs.Lines.{Line, lines}
 use Rattle.fund.specs.Spelling.{spelled}
@@ -48,6 +48,7 @@ headerLines =
     ∷ record { key = bytes "order="; ranges = record { least = least-order; most = most-order } ∷ [] }
     ∷ record { key = bytes "frequency="; ranges = record { least = 0; most = most-frequency } ∷ [] }
     ∷ record { key = bytes "deductible="; ranges = record { least = 0; most = most-deductible } ∷ [] }
+    ∷ record { key = bytes "worth="; ranges = record { least = least-worth; most = most-worth } ∷ [] }
     ∷ []
 
 -- The numbers are as many as the ranges, and each is in its own.
@@ -67,6 +68,7 @@ headerOf ns =
       order = getD ns 3 0;
       frequency = getD ns 4 0;
       deductible = getD ns 5 0;
+      worth = getD ns 6 0;
     }
 
 -- The line of a row: `rate=age,q,i`, `member=age,group,d,e`, `end=` a number, or none of these.

@@ -1,6 +1,6 @@
 -- Document 01's starred funds: each file with what the program prints for it, and the bounds R(0), R(1), .. that the
--- document states, whether or not the fund is accepted. Then rows for wrong turns that these funds would not show, and rows for rates that are
--- printed for some ages only.
+-- document states, whether or not the fund is accepted. Then rows for wrong turns that these funds would not show, rows for rates that are
+-- printed for some ages only, and rows for the line of the worth.
 use mathlib.Core.List.{List, [], _∷_, _++_, map}
 use Prim.Native.Nat.{ℕ}
 use Prim.Native.String.{String}
@@ -16,15 +16,15 @@ unfoldable pub text : List String → List ℕ
 text [] = []
 text (l ∷ ls) = bytes l ++ (10 ∷ text ls)
 
--- A file of edition 2030 with frequency 1,000.
+-- A file of edition 2030 with frequency 1,000. Document 02, §3: "Document 01's funds take `worth=100`".
 unfoldable pub file : String → String → String → List String → List ℕ
-file horizon order deductible rows = text ("rates=2030" ∷ "members=2030" ∷ horizon ∷ order ∷ "frequency=1000" ∷ deductible ∷ rows)
+file horizon order deductible rows = text ("rates=2030" ∷ "members=2030" ∷ horizon ∷ order ∷ "frequency=1000" ∷ deductible ∷ "worth=100" ∷ rows)
 
 abbrev pub oneMember : List String
 oneMember = "rate=40,100000,0" ∷ "member=40,1,1,0" ∷ "end=1" ∷ []
 
-abbrev pub oneMemberListing : List String
-oneMemberListing =
+abbrev pub oneMemberWith : String → List String
+oneMemberWith gross =
     "truncation=42866942"
     ∷ "mean=100000000000"
     ∷ "cell=0,900000000000,85733885"
@@ -32,7 +32,11 @@ oneMemberListing =
     ∷ "cell=2,0,85733888"
     ∷ "premium=0"
     ∷ "within=171467773"
+    ∷ gross
     ∷ []
+
+abbrev pub oneMemberListing : List String
+oneMemberListing = oneMemberWith "gross=1"
 
 -- Eight group 2 members with q = 1,000,000, i = 0, d = 1, and what follows them.
 unfoldable pub eight : List String → List String
@@ -68,7 +72,7 @@ starred =
     -- No rates, no members, X = 1, M = 2.
     ∷ record {
       file = file "horizon=1" "order=3" "deductible=2" ("end=0" ∷ []);
-      listing = text ("truncation=0" ∷ "mean=0" ∷ "cell=0,1000000000000,0" ∷ "cell=1,0,1" ∷ "premium=0" ∷ "within=1" ∷ []);
+      listing = text ("truncation=0" ∷ "mean=0" ∷ "cell=0,1000000000000,0" ∷ "cell=1,0,1" ∷ "premium=0" ∷ "within=1" ∷ "gross=1" ∷ []);
       bounds = 0 ∷ 1 ∷ [];
     }
     -- Eight group 2 members: X = 5 accepted; X = 6 refused 10 at 6; a ninth with q = 1: refused 7.
@@ -86,6 +90,7 @@ starred =
           ∷ "cell=5,91603661619,188739"
           ∷ "premium=6003354626280"
           ∷ "within=6911"
+          ∷ "gross=901"
           ∷ []);
       bounds = 691 ∷ 5529 ∷ 22117 ∷ 58980 ∷ 117961 ∷ 188739 ∷ [];
     }
@@ -102,18 +107,18 @@ starred =
     -- Group 1, q = 500,000, d = 1: refused 6. The same with d = 0, i = 0: passes 6, accepted.
     ∷ record {
       file = file "horizon=2" "order=3" "deductible=2" ("rate=40,500000,0" ∷ "member=40,1,1,0" ∷ "end=1" ∷ []);
-      listing = text ("refused=6,8" ∷ []);
+      listing = text ("refused=6,9" ∷ []);
       bounds = [];
     }
     ∷ record {
       file = file "horizon=2" "order=3" "deductible=2" ("rate=40,500000,0" ∷ "member=40,1,0,0" ∷ "end=1" ∷ []);
       listing =
-          text ("truncation=0" ∷ "mean=0" ∷ "cell=0,1000000000000,1" ∷ "cell=1,0,1" ∷ "cell=2,0,1" ∷ "premium=0" ∷ "within=3" ∷ []);
+          text ("truncation=0" ∷ "mean=0" ∷ "cell=0,1000000000000,1" ∷ "cell=1,0,1" ∷ "cell=2,0,1" ∷ "premium=0" ∷ "within=3" ∷ "gross=1" ∷ []);
       bounds = 1 ∷ 1 ∷ 1 ∷ [];
     }
     -- Editions 2030 and 2031: refused 3. M = 4 with X = 2: refused 4; M = 3 accepted.
     ∷ record {
-      file = text ("rates=2030" ∷ "members=2031" ∷ "horizon=2" ∷ "order=3" ∷ "frequency=1000" ∷ "deductible=2" ∷ oneMember);
+      file = text ("rates=2030" ∷ "members=2031" ∷ "horizon=2" ∷ "order=3" ∷ "frequency=1000" ∷ "deductible=2" ∷ "worth=100" ∷ oneMember);
       listing = text ("refused=3,0" ∷ []);
       bounds = [];
     }
@@ -129,6 +134,7 @@ starred =
           ∷ "cell=2,0,85733888"
           ∷ "premium=0"
           ∷ "within=257201665"
+          ∷ "gross=1"
           ∷ []);
       bounds = 1 ∷ 3 ∷ 4 ∷ [];
     }
@@ -141,25 +147,25 @@ wrongTurns =
     -- An amount beyond X counts in p and in the mean: group 1, d = 5 and X = 3.
     record {
       file = file "horizon=3" "order=12" "deductible=2" ("rate=40,100000,100000" ∷ "member=40,1,5,1" ∷ "end=1" ∷ []);
-      listing = text ("truncation=1529" ∷ "mean=600000000000" ∷ "cell=0,800000000000,3059" ∷ "cell=1,100000000000,3061" ∷ "cell=2,0,3062" ∷ "cell=3,0,3062" ∷ "premium=300000000000" ∷ "within=6121" ∷ []);
+      listing = text ("truncation=1529" ∷ "mean=600000000000" ∷ "cell=0,800000000000,3059" ∷ "cell=1,100000000000,3061" ∷ "cell=2,0,3062" ∷ "cell=3,0,3062" ∷ "premium=300000000000" ∷ "within=6121" ∷ "gross=46" ∷ []);
       bounds = 1 ∷ 3 ∷ 4 ∷ 4 ∷ [];
     }
     -- d = e: both terms of an equal pair land on one place and add.
     ∷ record {
       file = file "horizon=4" "order=12" "deductible=2" ("rate=40,100000,100000" ∷ "member=40,1,2,2" ∷ "end=1" ∷ []);
-      listing = text ("truncation=1529" ∷ "mean=400000000000" ∷ "cell=0,800000000000,3059" ∷ "cell=1,0,3059" ∷ "cell=2,200000000000,3062" ∷ "cell=3,0,3060" ∷ "cell=4,0,3063" ∷ "premium=0" ∷ "within=6119" ∷ []);
+      listing = text ("truncation=1529" ∷ "mean=400000000000" ∷ "cell=0,800000000000,3059" ∷ "cell=1,0,3059" ∷ "cell=2,200000000000,3062" ∷ "cell=3,0,3060" ∷ "cell=4,0,3063" ∷ "premium=0" ∷ "within=6119" ∷ "gross=1" ∷ []);
       bounds = 1 ∷ 1 ∷ 4 ∷ 2 ∷ 5 ∷ [];
     }
     -- A negative half away from zero: f(6) = -1.
     ∷ record {
       file = file "horizon=6" "order=12" "deductible=3" ("rate=40,1530,1421" ∷ "member=40,1,2,3" ∷ "end=1" ∷ []);
-      listing = text ("truncation=1" ∷ "mean=7323000000" ∷ "cell=0,997049000000,3" ∷ "cell=1,0,3" ∷ "cell=2,1530000000,5" ∷ "cell=3,1421000000,5" ∷ "cell=4,0,6" ∷ "cell=5,0,6" ∷ "cell=6,-1,7" ∷ "premium=0" ∷ "within=14" ∷ []);
+      listing = text ("truncation=1" ∷ "mean=7323000000" ∷ "cell=0,997049000000,3" ∷ "cell=1,0,3" ∷ "cell=2,1530000000,5" ∷ "cell=3,1421000000,5" ∷ "cell=4,0,6" ∷ "cell=5,0,6" ∷ "cell=6,-1,7" ∷ "premium=0" ∷ "within=14" ∷ "gross=1" ∷ []);
       bounds = 1 ∷ 1 ∷ 3 ∷ 3 ∷ 4 ∷ 4 ∷ 5 ∷ [];
     }
     -- A product's error is not multiplied by k again: group 2 at place 2.
     ∷ record {
       file = file "horizon=4" "order=1" "deductible=1" ("rate=40,1000000,0" ∷ "member=40,2,2,0" ∷ "member=40,2,2,0" ∷ "member=40,2,2,0" ∷ "end=3" ∷ []);
-      listing = text ("truncation=0" ∷ "mean=6000000000000" ∷ "cell=0,49787068368,135" ∷ "cell=1,0,1" ∷ "cell=2,149361205104,406" ∷ "cell=3,0,3" ∷ "cell=4,224041807656,610" ∷ "premium=5049787068368" ∷ "within=135" ∷ []);
+      listing = text ("truncation=0" ∷ "mean=6000000000000" ∷ "cell=0,49787068368,135" ∷ "cell=1,0,1" ∷ "cell=2,149361205104,406" ∷ "cell=3,0,3" ∷ "cell=4,224041807656,610" ∷ "premium=5049787068368" ∷ "within=135" ∷ "gross=758" ∷ []);
       bounds = 135 ∷ 1 ∷ 406 ∷ 3 ∷ 610 ∷ [];
     }
     ∷ []
@@ -179,18 +185,44 @@ someAges =
     -- Unmatched: an age below the first row, an empty table.
     ∷ record {
       file = file "horizon=2" "order=3" "deductible=2" ("rate=40,100000,0" ∷ "member=40,1,1,0" ∷ "member=39,1,1,0" ∷ "end=2" ∷ []);
-      listing = text ("refused=5,9" ∷ []);
+      listing = text ("refused=5,10" ∷ []);
       bounds = [];
     }
     ∷ record {
       file = file "horizon=2" "order=3" "deductible=2" ("member=120,1,1,0" ∷ "end=1" ∷ []);
-      listing = text ("refused=5,7" ∷ []);
+      listing = text ("refused=5,8" ∷ []);
       bounds = [];
     }
     -- Half by the rate in force.
     ∷ record {
       file = file "horizon=2" "order=3" "deductible=2" ("rate=30,500000,0" ∷ "rate=50,100000,0" ∷ "member=49,1,1,0" ∷ "end=1" ∷ []);
-      listing = text ("refused=6,9" ∷ []);
+      listing = text ("refused=6,10" ∷ []);
       bounds = [];
     }
+    ∷ []
+
+-- Document 02, §3: the first fund with other lines where the worth should stand.
+unfoldable pub withLines : List String → List String → StarredRow
+withLines lines listed =
+    record {
+      file = text ("rates=2030" ∷ "members=2030" ∷ "horizon=2" ∷ "order=3" ∷ "frequency=1000" ∷ "deductible=2" ∷ lines);
+      listing = text listed;
+      bounds = [];
+    }
+
+unfoldable pub worths : List StarredRow
+worths =
+    -- Its limits, and range at line 7.
+    withLines ("worth=1" ∷ oneMember) (oneMemberWith "gross=1")
+    ∷ withLines ("worth=9999999" ∷ oneMember) (oneMemberWith "gross=2573")
+    ∷ withLines ("worth=0" ∷ oneMember) ("refused=2,7" ∷ [])
+    -- Form at line 7: a number of eight digits, two numbers, no line of the worth, one that stands elsewhere, the file's end.
+    ∷ withLines ("worth=10000000" ∷ oneMember) ("refused=1,7" ∷ [])
+    ∷ withLines ("worth=100,100" ∷ oneMember) ("refused=1,7" ∷ [])
+    ∷ withLines oneMember ("refused=1,7" ∷ [])
+    ∷ withLines ("rate=40,100000,0" ∷ "worth=100" ∷ "member=40,1,1,0" ∷ "end=1" ∷ []) ("refused=1,7" ∷ [])
+    ∷ withLines [] ("refused=1,7" ∷ [])
+    -- Rows begin at line 8.
+    ∷ withLines ("worth=100" ∷ "rate=121,0,0" ∷ []) ("refused=2,8" ∷ [])
+    ∷ withLines ("worth=100" ∷ []) ("refused=1,8" ∷ [])
     ∷ []

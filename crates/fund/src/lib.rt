@@ -15,6 +15,7 @@ pub struct Fund {
     pub order: u64,
     pub frequency: u64,
     pub deductible: u64,
+    pub worth: u64,
 }
 
 // A rate line: the death rate q and the disability rate i from an age on, until the next row's age, in millionths.
@@ -67,12 +68,13 @@ pub enum Quantile {
     None,
 }
 
-// A fund's figures beside its cells: the truncation figure E, the mean, the premium, and the premium's bound.
+// A fund's figures beside its cells: the truncation figure E, the mean, the premium, the premium's bound, and the gross premium.
 pub struct Figures {
     pub truncation: u64,
     pub mean: u64,
     pub premium: i64,
     pub within: u64,
+    pub gross: u64,
 }
 
 // Every limit of document 01 and of the requests after it, by name.
@@ -84,6 +86,8 @@ pub struct Limits {
     pub most_order: u64,
     pub most_frequency: u64,
     pub most_deductible: u64,
+    pub least_worth: u64,
+    pub most_worth: u64,
     pub most_rates: u64,
     pub most_age: u64,
     pub most_rate: u64,
@@ -96,6 +100,13 @@ pub struct Limits {
     pub most_truncation: u64,
     pub most_bound: u64,
     pub most_level: u64,
+    pub second_step: u64,
+    pub third_step: u64,
+    pub fourth_step: u64,
+    pub first_loading: u64,
+    pub second_loading: u64,
+    pub third_loading: u64,
+    pub fourth_loading: u64,
 }
 
 impl Fund {
@@ -112,6 +123,10 @@ impl Fund {
     pub const MOST_FREQUENCY: u64 = 5000;
 
     pub const MOST_DEDUCTIBLE: u64 = 4096;
+
+    pub const LEAST_WORTH: u64 = 1;
+
+    pub const MOST_WORTH: u64 = 9999999;
 
     pub const MOST_RATES: u64 = 121;
 
@@ -137,12 +152,27 @@ impl Fund {
 
     pub const MOST_LEVEL: u64 = 1000000000000;
 
+    // The tariff's steps: the deductible that each begins at but the first, which begins at 0, and its loading in thousandths.
+    pub const SECOND_STEP: u64 = 100;
+
+    pub const THIRD_STEP: u64 = 300;
+
+    pub const FOURTH_STEP: u64 = 600;
+
+    pub const FIRST_LOADING: u64 = 1500;
+
+    pub const SECOND_LOADING: u64 = 1700;
+
+    pub const THIRD_LOADING: u64 = 1900;
+
+    pub const FOURTH_LOADING: u64 = 2100;
+
     // The lengths of a table of rate rows and of a table of member rows.
     pub const RATE_ROWS: usize = Fund::MOST_RATES as usize;
 
     pub const MEMBER_ROWS: usize = Fund::MOST_MEMBERS as usize;
 
-    pub const HEADER_LINES: usize = 6;
+    pub const HEADER_LINES: usize = 7;
 
     // The header lines of the definition are as many.
     pub fn header_lines() -> usize
@@ -163,6 +193,8 @@ impl Fund {
             most_order: Fund::MOST_ORDER,
             most_frequency: Fund::MOST_FREQUENCY,
             most_deductible: Fund::MOST_DEDUCTIBLE,
+            least_worth: Fund::LEAST_WORTH,
+            most_worth: Fund::MOST_WORTH,
             most_rates: Fund::MOST_RATES,
             most_age: Fund::MOST_AGE,
             most_rate: Fund::MOST_RATE,
@@ -175,6 +207,13 @@ impl Fund {
             most_truncation: Fund::MOST_TRUNCATION,
             most_bound: Fund::MOST_BOUND,
             most_level: Fund::MOST_LEVEL,
+            second_step: Fund::SECOND_STEP,
+            third_step: Fund::THIRD_STEP,
+            fourth_step: Fund::FOURTH_STEP,
+            first_loading: Fund::FIRST_LOADING,
+            second_loading: Fund::SECOND_LOADING,
+            third_loading: Fund::THIRD_LOADING,
+            fourth_loading: Fund::FOURTH_LOADING,
         }
     }
 }
@@ -188,6 +227,7 @@ pub fn no_figures() -> Figures
         mean: 0,
         premium: 0,
         within: 0,
+        gross: 0,
     }
 }
 

@@ -5,6 +5,7 @@ pub mod Ranges
 pub mod Answer
 pub mod Valued
 pub mod Quantile
+pub mod Tariff
 pub mod Sums
 pub mod Slices
 pub mod Tells

@@ -13,7 +13,7 @@ use Rattle.fund.specs.declared.Fund.{Fund}
 use Rattle.fund.specs.declared.Rate.{Rate}
 use Rattle.fund.specs.declared.Member.{Member}
 use Rattle.fund.specs.declared.Refusal.the-variants.{Form, Range}
-use Rattle.fund.specs.Limits.{least-edition, most-edition, most-horizon, least-order, most-order, most-frequency, most-deductible, most-rates, most-age, most-rate, most-members, least-group, most-group, most-amount}
+use Rattle.fund.specs.Limits.{least-edition, most-edition, most-horizon, least-order, most-order, most-frequency, most-deductible, least-worth, most-worth, most-rates, most-age, most-rate, most-members, least-group, most-group, most-amount}
 use Rattle.fund.specs.Base.{if_then_else_}
 use Rattle.fund.specs.Lines.{Line, lines}
 use Rattle.fund.specs.Spelling.{value, fields, allNumbers, numbers, behind, spelled}
@@ -223,6 +223,8 @@ pub record HeaderOk (f : Fund) : Type 0 where
   pub order-most : f .order ≤ most-order
   pub frequency : f .frequency ≤ most-frequency
   pub deductible : f .deductible ≤ most-deductible
+  pub worth-least : least-worth ≤ f .worth
+  pub worth-most : f .worth ≤ most-worth
 
 pub record FundOk (fund : FundFile) : Type 0 where
   pub header : HeaderOk (fund .header)
@@ -230,7 +232,7 @@ pub record FundOk (fund : FundFile) : Type 0 where
 
 header-ok : (vs : List ℕ) → InRanges (rangesOf headerLines) vs → HeaderOk (headerOf vs)
 unfolding headerLines headerOf
-header-ok (a ∷ b ∷ c ∷ d ∷ e ∷ f ∷ []) w =
+header-ok (a ∷ b ∷ c ∷ d ∷ e ∷ f ∷ g ∷ []) w =
     record {
       rates-least = w .0 .0;
       rates-most = w .0 .1;
@@ -241,6 +243,8 @@ header-ok (a ∷ b ∷ c ∷ d ∷ e ∷ f ∷ []) w =
       order-most = w .1 .1 .1 .0 .1;
       frequency = w .1 .1 .1 .1 .0 .1;
       deductible = w .1 .1 .1 .1 .1 .0 .1;
+      worth-least = w .1 .1 .1 .1 .1 .1 .0 .0;
+      worth-most = w .1 .1 .1 .1 .1 .1 .0 .1;
     }
 header-ok [] w = absurd w
 header-ok (a ∷ []) w = absurd (w .1)
@@ -248,7 +252,8 @@ header-ok (a ∷ b ∷ []) w = absurd (w .1 .1)
 header-ok (a ∷ b ∷ c ∷ []) w = absurd (w .1 .1 .1)
 header-ok (a ∷ b ∷ c ∷ d ∷ []) w = absurd (w .1 .1 .1 .1)
 header-ok (a ∷ b ∷ c ∷ d ∷ e ∷ []) w = absurd (w .1 .1 .1 .1 .1)
-header-ok (a ∷ b ∷ c ∷ d ∷ e ∷ f ∷ g ∷ vs) w = absurd (w .1 .1 .1 .1 .1 .1)
+header-ok (a ∷ b ∷ c ∷ d ∷ e ∷ f ∷ []) w = absurd (w .1 .1 .1 .1 .1 .1)
+header-ok (a ∷ b ∷ c ∷ d ∷ e ∷ f ∷ g ∷ h ∷ vs) w = absurd (w .1 .1 .1 .1 .1 .1 .1)
 
 pub read-ranges : (file : List ℕ) (fund : FundFile) → reading file ≡ read fund → FundOk fund
 unfolding reading

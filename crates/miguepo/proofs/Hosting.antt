@@ -12,7 +12,7 @@ use Rattle.fund.specs.declared.Verdict.the-variants.{Accepted, Refused}
 use Rattle.fund.specs.Quantile.{quantileOf, reachedIn, quantileIn}
 use Rattle.fund.specs.Answer.{Answer, answer}
 use Rattle.fund.specs.Listing.{horizonIn}
-use Rattle.fund.specs.Distance.{WithinBounds}
+use Rattle.fund.specs.Distance.{WithinBounds, NeverBelow}
 use Rattle.laws.specs.Numbers.{zero-accepted}
 use Rattle.pricing.specs.declared.Priced.{Priced}
 use Rattle.pricing.specs.Priced.{left, horizonWith, Prices}
@@ -29,7 +29,10 @@ module _ (file : List ℕ) (level : ℕ) (n : Lengths) (p : Priced) (D : List �
   -- the fields of what the call answers
   abbrev pub handed : ℕ → ℕ → ℕ → ℕ → ℕ → List ℕ
   handed number place premium reached x =
-      number ∷ place ∷ p .start ∷ (p .end - p .start) ∷ p .horizon ∷ p .figures .truncation ∷ p .figures .mean ∷ premium ∷ p .figures .within ∷ reached ∷ x ∷ []
+      number ∷ place ∷ p .start ∷ (p .end - p .start) ∷ p .horizon ∷ p .figures .truncation ∷ p .figures .mean ∷ premium ∷ p .figures .within ∷ p .figures .gross ∷ reached ∷ x ∷ []
+
+  zero-told : numberIn (answer file n .verdict) ≡ 0 → p .verdict ≡ Accepted
+  zero-told z = ap (λ (x : Answer). x .verdict) same ∙ zero-accepted (answer file n .verdict) z
 
   -- the answer at the level, by the definitions
   quantile-is : p .quantile ≡ quantileOf level (horizonIn (reading file)) (answer file n .F) (answer file n .verdict)
@@ -56,6 +59,6 @@ module _ (file : List ℕ) (level : ℕ) (n : Lengths) (p : Priced) (D : List �
         f-is = ap (λ (x : Answer). x .f) same;
         R-is = ap (λ (x : Answer). x .R) same;
         F-is = ap (λ (x : Answer). x .F) same;
-        distance = λ fund r z. subst (λ (x : Answer). WithinBounds fund x) same
-            (k .distance fund r (ap (λ (x : Answer). x .verdict) same ∙ zero-accepted (answer file n .verdict) z));
+        distance = λ fund r z. subst (λ (x : Answer). WithinBounds fund x) same (k .distance fund r (zero-told z));
+        never-below = λ fund r z. subst (λ (x : Answer). NeverBelow fund x) same (k .never-below fund r (zero-told z));
       }

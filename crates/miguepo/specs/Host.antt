@@ -10,7 +10,7 @@ use Rattle.fund.specs.declared.Quantile.{Quantile}
 use Rattle.fund.specs.Quantile.{quantileOf, reachedIn, quantileIn}
 use Rattle.fund.specs.Answer.{Answer, answer}
 use Rattle.fund.specs.Listing.{horizonIn}
-use Rattle.fund.specs.Distance.{WithinBounds}
+use Rattle.fund.specs.Distance.{WithinBounds, NeverBelow}
 use Rattle.pricing.specs.Priced.{horizonWith}
 use Rattle.miguepo.specs.Bits.{bitsOf, readSigned}
 
@@ -26,12 +26,13 @@ resultFields a X q =
     ∷ a .figures .mean
     ∷ bitsOf (a .figures .premium)
     ∷ a .figures .within
+    ∷ a .figures .gross
     ∷ reachedIn q
     ∷ quantileIn q
     ∷ []
 
--- Everything that is handed over is the answer's, and C reads the premium from its bits; the line lies in the file; and demand 3 holds
--- of a fund with number 0.
+-- Everything that is handed over is the answer's, and C reads the premium from its bits; the line lies in the file; demand 3 holds
+-- of a fund with number 0, and its gross premium is not below the exact premium's loaded worth.
 pub record Hosts (file : List ℕ) (level : ℕ) (n : Lengths) (result : List ℕ) (D : List ℤ) (H : List ℕ) (f : List ℤ) (R : List ℕ) (F : List ℤ) : Type 0 where
   pub result-is : result ≡ resultFields (answer file n) (horizonIn (reading file)) (quantileOf level (horizonIn (reading file)) (answer file n .F) (answer file n .verdict))
   pub premium : readSigned (bitsOf (answer file n .figures .premium)) ≡ answer file n .figures .premium
@@ -42,3 +43,4 @@ pub record Hosts (file : List ℕ) (level : ℕ) (n : Lengths) (result : List �
   pub R-is : R ≡ answer file n .R
   pub F-is : F ≡ answer file n .F
   pub distance : (fund : FundFile) → reading file ≡ read fund → numberIn (answer file n .verdict) ≡ 0 → WithinBounds fund (answer file n)
+  pub never-below : (fund : FundFile) → reading file ≡ read fund → numberIn (answer file n .verdict) ≡ 0 → NeverBelow fund (answer file n)

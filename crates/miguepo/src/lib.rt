@@ -9,7 +9,7 @@ ghost use Rattle.miguepo.specs.Bits.{bitsOf};
 ghost use Rattle.miguepo.specs.Host.{Hosts};
 
 // How many fields the struct has that C declares.
-pub const FIELDS: usize = 11;
+pub const FIELDS: usize = 12;
 
 fn verdict_number(verdict: Verdict) -> u64
     ensures { λ r. ⌜ r ≡ numberIn verdict ⌝ }
@@ -95,6 +95,7 @@ pub extern "C" fn miguepo_price(
         figures.mean,
         premium,
         figures.within,
+        figures.gross,
         reached,
         x,
     ];

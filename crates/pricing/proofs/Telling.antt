@@ -1,4 +1,4 @@
--- A call that tells of an answer of the definition's meets its contract, demand 3 included (prices); and the line that is handed back
+-- A call that tells of an answer of the definition's meets its contract, demand 3 and the gross premium's cover included (prices); and the line that is handed back
 -- (line-inside, line-outside, line-reversed).
 use mathlib.Core.Path.{_≡_, refl, sym, _∙_, ap, subst}
 use mathlib.Core.List.{List, []}
@@ -14,8 +14,8 @@ use Rattle.fund.specs.Refusals.{Lengths}
 use Rattle.fund.specs.Quantile.{quantileOf}
 use Rattle.fund.specs.Answer.{Answer, refused, answer}
 use Rattle.fund.specs.Listing.{horizonIn}
-use Rattle.fund.specs.Distance.{WithinBounds}
-use Rattle.distance.specs.Distance.{distance}
+use Rattle.fund.specs.Distance.{WithinBounds, NeverBelow}
+use Rattle.distance.specs.Distance.{distance, never-below}
 use Rattle.valuation.specs.declared.Valued.{Valued}
 use Rattle.valuation.specs.Valued.{left as leftOf}
 use Rattle.pricing.specs.declared.Priced.{Priced}
@@ -41,9 +41,11 @@ module _ (file : List ℕ) (level : ℕ) (n : Lengths) (p : Priced) (v : Valued)
   pub prices : horizonWith (v .verdict) X ≡ horizonWith (v .verdict) (horizonIn (reading file)) → Prices file level n p (left p d h f r s)
   prices x =
       let k = answers x in
+      let v = sym (ap (λ (x : Answer). x .verdict) (k .answer)) in
       record {
         answers = k;
-        distance = λ fund r e. subst (λ (x : Answer). WithinBounds fund x) (sym (k .answer)) (distance file n fund r (sym (ap (λ (x : Answer). x .verdict) (k .answer)) ∙ e));
+        distance = λ fund r e. subst (λ (x : Answer). WithinBounds fund x) (sym (k .answer)) (distance file n fund r (v ∙ e));
+        never-below = λ fund r e. subst (λ (x : Answer). NeverBelow fund x) (sym (k .answer)) (never-below file n fund r (v ∙ e));
       }
 
 module _ (file : List ℕ) (p : Priced) where

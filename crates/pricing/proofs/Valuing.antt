@@ -46,7 +46,7 @@ module _ (file : List ℕ) (n : Lengths) (fund : FundFile) (is : reading file �
         let ok = read-ranges file fund is .header in
         let e3 = refuse-accepted _ _ _ m in
         let e4 = refuse-accepted _ _ _ (e3 .1) in
-        record { horizon = ok .horizon; order = ok .order-most; frequency = ok .frequency; deductible = ltb-false _ _ (at0-none _ (e4 .0)) }
+        record { horizon = ok .horizon; order = ok .order-most; frequency = ok .frequency; deductible = ltb-false _ _ (at0-none _ (e4 .0)); worth-least = ok .worth-least; worth-most = ok .worth-most }
 
     pub valued-answers : (a : Answer) (header : Fund) (count : ℕ) → header ≡ fund .header → count ≤ most-members → a ≡ valuation header count ms n → lined file a ≡ answer file n
     valued-answers a header count e few k =

@@ -1,4 +1,4 @@
--- What a pricing call leaves: the answer of document 01, and demand 3 of every fund that it accepts.
+-- What a pricing call leaves: the answer of document 01; of every fund that it accepts, demand 3 and what the gross premium covers.
 use mathlib.Core.Path.{_≡_}
 use mathlib.Core.Bool.{_&&_}
 use mathlib.Core.List.{List, []}
@@ -15,7 +15,7 @@ use Rattle.fund.specs.Refusals.{Lengths}
 use Rattle.fund.specs.Quantile.{quantileOf}
 use Rattle.fund.specs.Answer.{part, Answer, answer}
 use Rattle.fund.specs.Listing.{horizonIn}
-use Rattle.fund.specs.Distance.{WithinBounds}
+use Rattle.fund.specs.Distance.{WithinBounds, NeverBelow}
 use Rattle.matching.specs.declared.table.Matched.{Matched}
 use Rattle.matching.specs.Matching.{matching}
 use Rattle.valuation.specs.declared.Valued.{Valued}
@@ -51,10 +51,11 @@ pub record Answers (file : List ℕ) (level : ℕ) (p : Priced) (a is : Answer) 
 
 -- The contract of the call. For each sequence of bytes, any level and any lengths of the slices, the answer is the definition's: number,
 -- place, part, figures, every lent cell, and the answer at the level. And demand 3: whenever it accepts, each f(x) and the premium are within their
--- bounds of the exact values.
+-- bounds of the exact values, and the gross premium is never below the exact premium's loaded worth.
 pub record Prices (file : List ℕ) (level : ℕ) (n : Lengths) (p : Priced) (a : Answer) : Type 0 where
   pub answers : Answers file level p a (answer file n)
   pub distance : (fund : FundFile) → reading file ≡ read fund → a .verdict ≡ Accepted → WithinBounds fund a
+  pub never-below : (fund : FundFile) → reading file ≡ read fund → a .verdict ≡ Accepted → NeverBelow fund a
 
 -- Reading gave a fund file, whose header and members these are, and whose refusals 3 to 6 and lives were found.
 pub record MatchedFund (file : List ℕ) (fund : Fund) (m : Matched) (enrolled : ℕ) : Type 0 where

@@ -34,7 +34,7 @@ each P (x ∷ hs) (suc k) h a = each P hs k (omega arith) (a .1)
 
 one-range : (k : ℕ) → k < length headerLines → numbersOf k ≡ 1
 unfolding headerLine headerLines
-one-range k h = each (λ (l : HeaderLine). length (l .ranges) ≡ 1) headerLines k h (refl, (refl, (refl, (refl, (refl, (refl, tt))))))
+one-range k h = each (λ (l : HeaderLine). length (l .ranges) ≡ 1) headerLines k h (refl, (refl, (refl, (refl, (refl, (refl, (refl, tt)))))))
 
 split : (k : ℕ) → k < length headerLines → drop k headerLines ≡ headerLine k ∷ drop (suc k) headerLines
 unfolding headerLines headerLine

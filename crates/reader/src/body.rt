@@ -24,6 +24,7 @@ fn no_fund() -> Fund
         order: 0,
         frequency: 0,
         deductible: 0,
+        worth: 0,
     }
 }
 

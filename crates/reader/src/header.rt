@@ -47,7 +47,8 @@ fn numbers_at(file: &[u8], line: Line, k: usize) -> Numbers
         2 => line::spelled(file, line, b"horizon=", 1),
         3 => line::spelled(file, line, b"order=", 1),
         4 => line::spelled(file, line, b"frequency=", 1),
-        _ => line::spelled(file, line, b"deductible=", 1),
+        5 => line::spelled(file, line, b"deductible=", 1),
+        _ => line::spelled(file, line, b"worth=", 1),
     }
 }
 
@@ -62,7 +63,8 @@ fn header_in_range(k: usize, n: u64) -> bool
         2 => within(0, Fund::MOST_HORIZON, n),
         3 => within(Fund::LEAST_ORDER, Fund::MOST_ORDER, n),
         4 => within(0, Fund::MOST_FREQUENCY, n),
-        _ => within(0, Fund::MOST_DEDUCTIBLE, n),
+        5 => within(0, Fund::MOST_DEDUCTIBLE, n),
+        _ => within(Fund::LEAST_WORTH, Fund::MOST_WORTH, n),
     }
 }
 
@@ -112,6 +114,7 @@ pub(crate) fn read_header(file: &[u8]) -> Header
         order: values[3],
         frequency: values[4],
         deductible: values[5],
+        worth: values[6],
     };
     Header::Whole(fund, at)
 }

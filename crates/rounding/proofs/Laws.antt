@@ -131,7 +131,7 @@ nearest-unique (negsuc a) (pos k) b h g s =
     let l : k ≡ 0 = omega arith in
     ap (λ x. negℤ (pos x)) (near-unique (suc a) b k h g ∙ l) ∙ ap pos (sym l)
 
-neg-below : (x y : ℕ) → negℤ (pos x) ≤ℤ pos y
+pub neg-below : (x y : ℕ) → negℤ (pos x) ≤ℤ pos y
 neg-below zero y = record { le = le→leb 0 y (omega arith) }
 neg-below (suc x) y = record { le = tt }
 

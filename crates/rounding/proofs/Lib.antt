@@ -1,5 +1,5 @@
 pub mod Laws
 pub mod Rest
 pub mod Word
-mod Product
+pub mod Product
 mod Units

@@ -17,7 +17,7 @@ use Rattle.fund.specs.Limits.{most-horizon, most-truncation}
 use Rattle.fund.specs.Answer.{Answer}
 use Rattle.fund.specs.Listing.{printed, listed, refusedLine}
 use Rattle.text.specs.Shown.{room, bounded, printable, listingOf}
-use Rattle.text.specs.Pieces.{head, foot, acceptedLines, PrintableCells}
+use Rattle.text.specs.Pieces.{head, premiumLines, foot, acceptedLines, PrintableCells}
 use Rattle.text.proofs.Pieces.{and-left, and-right}
 
 pub record Printable (E X cells : ℕ) (R : List ℕ) (size : ℕ) : Type 0 where
@@ -61,7 +61,7 @@ module _ (a : Answer) (X size : ℕ) where
   listing-in e = ap (λ b. if b then printed a X (a .verdict) else []) e
 
   listed-lines : listed X a ≡ acceptedLines (a .figures) (take (X + 1) (a .f)) (take (X + 1) (a .R))
-  unfolding listed acceptedLines head foot
+  unfolding listed acceptedLines head premiumLines foot
   listed-lines = rw add-one (simp append-assoc)
 
   pub listing-accepted : printable (a .figures .truncation) X (length (a .f)) (a .R) size ≡ true → a .verdict ≡ Accepted

@@ -17,7 +17,7 @@ use Rattle.fund.specs.Listing.{decimal, signedDecimal, joined, refusedLine}
 use Rattle.text.specs.Writing.{HasRoom}
 use Rattle.text.specs.Shown.{most-cell-line}
 use Rattle.text.specs.Level.{placeText, quantileLine, level-room}
-use Rattle.text.specs.Pieces.{cellLine, head, foot}
+use Rattle.text.specs.Pieces.{cellLine, head, premiumLines, foot}
 use Rattle.text.proofs.Decimal.{decimal-length}
 
 decimal-word : (n : ℕ) → n < 2 ^ 64 → length (decimal n) ≤ 20
@@ -37,9 +37,9 @@ pub head-size : (a : Figures) → a .truncation < 2 ^ 64 → a .mean < 2 ^ 64 �
 unfolding head joined bytes
 head-size a h g = simp length-append (omega (arith, decimal-word (a .truncation) h, decimal-word (a .mean) g))
 
-pub foot-size : (a : Figures) → SFits w64 (a .premium) → a .within < 2 ^ 64 → length (foot a) ≤ 58
-unfolding foot joined bytes
-foot-size a h g = simp length-append (omega (arith, signed-word (a .premium) h, decimal-word (a .within) g))
+pub foot-size : (a : Figures) → SFits w64 (a .premium) → a .within < 2 ^ 64 → a .gross < 2 ^ 64 → length (foot a) ≤ 85
+unfolding foot premiumLines joined bytes
+foot-size a h g k = simp length-append (omega (arith, signed-word (a .premium) h, decimal-word (a .within) g, decimal-word (a .gross) k))
 
 pub refusal-room : {text : List ℕ} (why : Refusal) (place n : ℕ) → n ≡ numberOf why → n < 2 ^ 64 → place < 2 ^ 64 → level-room ≤ length text
     → HasRoom text 0 (refusedLine why place)

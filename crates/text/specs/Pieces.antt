@@ -15,12 +15,15 @@ use Rattle.text.specs.Shown.{bounded}
 unfoldable pub cellLine : ℕ → ℤ → ℕ → List ℕ
 cellLine x f bound = bytes "cell=" ++ joined (decimal x) (signedDecimal f ∷ decimal bound ∷ [])
 
--- The lines before the cells, and the lines behind them.
+-- The lines before the cells, those of the premium and its bound, and all lines behind the cells.
 unfoldable pub head : Figures → List ℕ
 head a = (bytes "truncation=" ++ joined (decimal (a .truncation)) []) ++ (bytes "mean=" ++ joined (decimal (a .mean)) [])
 
+unfoldable pub premiumLines : Figures → List ℕ
+premiumLines a = (bytes "premium=" ++ joined (signedDecimal (a .premium)) []) ++ (bytes "within=" ++ joined (decimal (a .within)) [])
+
 unfoldable pub foot : Figures → List ℕ
-foot a = (bytes "premium=" ++ joined (signedDecimal (a .premium)) []) ++ (bytes "within=" ++ joined (decimal (a .within)) [])
+foot a = premiumLines a ++ (bytes "gross=" ++ joined (decimal (a .gross)) [])
 
 -- The lines of an accepted fund, from its figures and its cells.
 unfoldable pub acceptedLines : Figures → List ℤ → List ℕ → List ℕ

@@ -17,7 +17,7 @@ abbrev pub most-cell-line : ℕ
 most-cell-line = 53
 
 abbrev pub most-other-lines : ℕ
-most-other-lines = 116
+most-other-lines = 143
 
 -- Room for every listing.
 abbrev pub room : ℕ

@@ -11,12 +11,12 @@ ghost use Prim.Native.Nat.{_+_, _*_, _<_, _≤_};
 ghost use lib.ListN.{length};
 ghost use Rattle.fund.specs.Listing.{decimal, signedDecimal, joined, cellLines, refusedLine};
 ghost use Rattle.text.specs.Writing.{HasRoom, Put, Written};
-ghost use Rattle.text.specs.Pieces.{cellLine, head, foot, acceptedLines, PrintableCells};
+ghost use Rattle.text.specs.Pieces.{cellLine, head, premiumLines, foot, acceptedLines, PrintableCells};
 ghost use Rattle.text.specs.Shown.{most-cell-line, room, shownAnswer, bounded, printable, listingOf};
 ghost use Rattle.text.specs.Level.{quantileLine, level-room, levelLineOf};
 
 // Bytes enough for every listing.
-pub const ROOM: usize = 217204;
+pub const ROOM: usize = 217231;
 
 // Bytes enough for the line of every answer at a level.
 pub const LEVEL_ROOM: usize = 64;
@@ -179,14 +179,23 @@ fn put_head(figures: Figures, text: &mut [u8]) -> usize
     put_line(b"mean=", figures.mean, text, next)
 }
 
+// Writes the lines of the premium and of its bound.
+fn put_premium(figures: Figures, text: &mut [u8], at: usize) -> usize
+    requires { ⌜ HasRoom (now text) at (premiumLines figures) ⌝ }
+    ensures { λ next. ⌜ Put (now (text .entry)) at (premiumLines figures) (now (text .exit)) next ⌝ }
+{
+    let figure = put_key(b"premium=", text, at);
+    let next = put_signed_figure(figures.premium, b'\n', text, figure);
+    put_line(b"within=", figures.within, text, next)
+}
+
 // Writes the lines behind the cells.
 fn put_foot(figures: Figures, text: &mut [u8], at: usize) -> usize
     requires { ⌜ HasRoom (now text) at (foot figures) ⌝ }
     ensures { λ next. ⌜ Put (now (text .entry)) at (foot figures) (now (text .exit)) next ⌝ }
 {
-    let figure = put_key(b"premium=", text, at);
-    let next = put_signed_figure(figures.premium, b'\n', text, figure);
-    put_line(b"within=", figures.within, text, next)
+    let next = put_premium(figures, text, at);
+    put_line(b"gross=", figures.gross, text, next)
 }
 
 // Writes the lines of an accepted fund.

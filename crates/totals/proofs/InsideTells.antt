@@ -31,9 +31,9 @@ header-tells : (fund : Fund) → Tells (headerInside fund) (HeaderIn fund)
 unfolding headerInside
 header-tells fund =
     tells-as
-    (tells-and _ _ (le _ _) (tells-and _ _ (le _ _) (tells-and _ _ (le _ _) (le _ _))))
-    (λ h. record { horizon = h .0; order = h .1 .0; frequency = h .1 .1 .0; deductible = h .1 .1 .1 })
-    (λ h. (h .horizon, (h .order, (h .frequency, h .deductible))))
+    (tells-and _ _ (le _ _) (tells-and _ _ (le _ _) (tells-and _ _ (le _ _) (tells-and _ _ (le _ _) (tells-and _ _ (le _ _) (le _ _))))))
+    (λ h. record { horizon = h .0; order = h .1 .0; frequency = h .1 .1 .0; deductible = h .1 .1 .1 .0; worth-least = h .1 .1 .1 .1 .0; worth-most = h .1 .1 .1 .1 .1 })
+    (λ h. (h .horizon, (h .order, (h .frequency, (h .deductible, (h .worth-least, h .worth-most))))))
 
 folded-tells : (rate amount : ℕ) → Tells (foldedRate rate amount) (amount ≡ 0 → rate ≡ 0)
 unfolding foldedRate

@@ -6,7 +6,7 @@ use lib.Dec.{leb, ltb, eqb}
 use Rattle.fund.specs.declared.Fund.{Fund}
 use Rattle.fund.specs.declared.Life.{Life}
 use Rattle.fund.specs.Folding.{claim, single}
-use Rattle.fund.specs.Limits.{most-horizon, most-order, most-frequency, most-members, least-group, most-group, most-rate, half-rate, most-amount}
+use Rattle.fund.specs.Limits.{most-horizon, most-order, most-frequency, least-worth, most-worth, most-members, least-group, most-group, most-rate, half-rate, most-amount}
 
 -- The header's figures that the valuation uses are in their ranges.
 pub record HeaderIn (fund : Fund) : Type 0 where
@@ -14,11 +14,14 @@ pub record HeaderIn (fund : Fund) : Type 0 where
   pub order : fund .order ≤ most-order
   pub frequency : fund .frequency ≤ most-frequency
   pub deductible : fund .deductible ≤ suc (fund .horizon)
+  pub worth-least : least-worth ≤ fund .worth
+  pub worth-most : fund .worth ≤ most-worth
 
 -- The same as tests.
 unfoldable pub headerInside : Fund → Bool
 headerInside fund =
-    leb (fund .horizon) most-horizon && (leb (fund .order) most-order && (leb (fund .frequency) most-frequency && leb (fund .deductible) (suc (fund .horizon))))
+    leb (fund .horizon) most-horizon && (leb (fund .order) most-order && (leb (fund .frequency) most-frequency && (leb (fund .deductible) (suc (fund .horizon))
+    && (leb least-worth (fund .worth) && leb (fund .worth) most-worth))))
 
 -- A rate with amount 0 is 0.
 unfoldable pub foldedRate : ℕ → ℕ → Bool

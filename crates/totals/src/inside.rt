@@ -22,6 +22,12 @@ fn header_inside(fund: Fund) -> bool
     if Fund::MOST_FREQUENCY < fund.frequency {
         return false;
     }
+    if fund.worth < Fund::LEAST_WORTH {
+        return false;
+    }
+    if Fund::MOST_WORTH < fund.worth {
+        return false;
+    }
     fund.deductible <= fund.horizon + 1
 }
 

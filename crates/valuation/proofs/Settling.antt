@@ -20,9 +20,10 @@ use Rattle.fund.specs.Limits.{most-bound, most-load}
 use Rattle.fund.specs.Transform.{D, H, lambda, load, mean, truncation}
 use Rattle.fund.specs.Recursion.{Cell, start, startBound}
 use Rattle.fund.specs.Premium.{premium, within}
+use Rattle.fund.specs.Tariff.{gross}
 use Rattle.fund.specs.Refusals.{Lengths, first, wide, refuse, valued}
 use Rattle.fund.specs.Quantile.{runningSum}
-use Rattle.fund.specs.Answer.{Answer, part, noFigures, fundTerms, fundStart, fundCells, fundTruncation, fundMean, fundFigures, lent, refused, accepted}
+use Rattle.fund.specs.Answer.{Answer, part, noFigures, fundTerms, fundStart, fundCells, fundTruncation, fundMean, fundPremium, fundWithin, fundFigures, lent, refused, accepted}
 use Rattle.laws.specs.Accepted.{All, all-map, first-none, Long, long-of}
 use Rattle.laws.specs.Tables.{table-first}
 use Rattle.laws.specs.Slices.{table-ext}
@@ -44,13 +45,15 @@ use Rattle.recursion.specs.Recursion as Rec
 use Rattle.recursion.proofs.Outcomes.{not-done}
 use Rattle.valuation.specs.declared.Valued.{Valued}
 use Rattle.valuation.specs.declared.premium.StopLoss.{StopLoss}
+use Rattle.tariff.specs.Gross.{grossOf}
+use Rattle.tariff.proofs.Answering.{gross-inside}
 use Rattle.totals.specs.declared.Totals.{Totals}
 use Rattle.totals.specs.Table.{Members, most-mean}
 use Rattle.totals.specs.Totals.{startLambda}
 use Rattle.valuation.specs.Premium.{Cells, StopLossIs, levels}
 use Rattle.valuation.specs.Sums.{SumsFit}
 use Rattle.valuation.specs.Valued.{left, outcome}
-use Rattle.valuation.specs.Steps.{ReadyFor, Ready, RecursionLeft, RecursedFor, refusalOf, ValuedAnswer, SettledFor, AnsweredFor}
+use Rattle.valuation.specs.Steps.{ReadyFor, Ready, RecursionLeft, RecursedFor, refusalOf, centimesIn, ValuedAnswer, SettledFor, AnsweredFor}
 use Rattle.valuation.proofs.RunningSums.{fronted}
 use Rattle.valuation.proofs.Recursing.{answerOf, narrow-of, FundFits, recursion-is}
 
@@ -60,10 +63,10 @@ unfolding mean
 mean-is ms l a m h e = omega (arith, e, load-is a ms, total-le InRange (meanPart a) (loadPart a) 65535 0 (λ m r. mean-le m a r) ms (l .in-range))
 
 -- answers that agree field by field
-same-answer : {d d′ f f′ s s′ : List ℤ} {h h′ r r′ : List ℕ} {e e′ m m′ w w′ : ℕ} {p p′ : ℤ} → d ≡ d′ → h ≡ h′ → f ≡ f′ → r ≡ r′ → s ≡ s′ → e ≡ e′ → m ≡ m′ → p ≡ p′ → w ≡ w′ →
-    left (record { verdict = Accepted; figures = record { truncation = e; mean = m; premium = p; within = w } }) d h f r s
-    ≡ left (record { verdict = Accepted; figures = record { truncation = e′; mean = m′; premium = p′; within = w′ } }) d′ h′ f′ r′ s′
-same-answer a b c q s x y z u = λ i. left (record { verdict = Accepted; figures = record { truncation = x i; mean = y i; premium = z i; within = u i } }) (a i) (b i) (c i) (q i) (s i)
+same-answer : {d d′ f f′ s s′ : List ℤ} {h h′ r r′ : List ℕ} {e e′ m m′ w w′ g g′ : ℕ} {p p′ : ℤ} → d ≡ d′ → h ≡ h′ → f ≡ f′ → r ≡ r′ → s ≡ s′ → e ≡ e′ → m ≡ m′ → p ≡ p′ → w ≡ w′ → g ≡ g′ →
+    left (record { verdict = Accepted; figures = record { truncation = e; mean = m; premium = p; within = w; gross = g } }) d h f r s
+    ≡ left (record { verdict = Accepted; figures = record { truncation = e′; mean = m′; premium = p′; within = w′; gross = g′ } }) d′ h′ f′ r′ s′
+same-answer a b c q s x y z u g = λ i. left (record { verdict = Accepted; figures = record { truncation = x i; mean = y i; premium = z i; within = u i; gross = g i } }) (a i) (b i) (c i) (q i) (s i)
 
 -- a search that found none
 all-table : {A : Type 0} (P : A → Type 0) (n : ℕ) (g : ℕ → A) → All P (table n g) → (x : ℕ) → x < n → P (g x)
@@ -215,10 +218,10 @@ module _ (fund : Fund) (ms : List Life) (t : Totals) (d : List ℤ) (h : List �
     sums-fit = record { horizon = k .header .horizon; f-long = long .f-long; sums-long = long .sums-long; levels-within = levels-within (suc X) (omega arith) }
 
     -- the figures and the slices
-    pub answers-accepted : (pr : ℤ) (p : StopLoss) (s′ : List ℤ) → StopLossIs (fund .deductible) (t .mean) (t .truncation) f r p → pr ≡ p .premium → s′ ≡ lent (pos 0) ns (table (suc X) (runningSum f)) →
-        ValuedAnswer fund ms n (left (record { verdict = Accepted; figures = record { truncation = t .truncation; mean = t .mean; premium = pr; within = p .within } }) d h f r s′)
-    unfolding accepted fundFigures fundMean
-    answers-accepted pr p s′ priced pr-is sums-is = same-answer d-lent h-lent (s .f-is) (s .r-is) s-lent figure-is m-is pr-of p-of ∙ ap (outcome fund ms n) (sym (s .accepts))
+    pub answers-accepted : (pr : ℤ) (p : StopLoss) (g : ℕ) (s′ : List ℤ) → StopLossIs (fund .deductible) (t .mean) (t .truncation) f r p → pr ≡ p .premium → g ≡ centimesIn (grossOf fund (p .premium) (p .within)) → s′ ≡ lent (pos 0) ns (table (suc X) (runningSum f)) →
+        ValuedAnswer fund ms n (left (record { verdict = Accepted; figures = record { truncation = t .truncation; mean = t .mean; premium = pr; within = p .within; gross = g } }) d h f r s′)
+    unfolding accepted fundFigures fundMean fundPremium fundWithin
+    answers-accepted pr p g s′ priced pr-is gross-is sums-is = same-answer d-lent h-lent (s .f-is) (s .r-is) s-lent figure-is m-is pr-of p-of g-of ∙ ap (outcome fund ms n) (sym (s .accepts))
       where
         m-is : t .mean ≡ mean (fund .frequency) ms
         m-is = mean-is ms (k .members) (fund .frequency) (t .mean) within-load (k .sums .mean-is)
@@ -240,6 +243,12 @@ module _ (fund : Fund) (ms : List Life) (t : Totals) (d : List ℤ) (h : List �
 
         p-of : p .within ≡ within (fund .deductible) (fundTruncation fund ms) (fundCells fund ms)
         p-of = priced .within-is (suc X) (k .header .deductible) ∙ ap₂ (within (fund .deductible)) figure-is cells-in
+
+        g-of : g ≡ gross (fund .deductible) (fund .worth) (fundPremium fund ms) (fundWithin fund ms)
+        g-of =
+            gross-is
+            ∙ ap centimesIn (gross-inside fund (p .premium) (p .within) (k .header .worth-least) (k .header .worth-most))
+            ∙ ap₂ (gross (fund .deductible) (fund .worth)) (sym pr-is ∙ pr-of) p-of
 
 -- ---- slices whose lengths are those of others
 module _ (fund : Fund) (t : Totals) (a : Recursed) (d : List ℤ) (h : List ℕ) (f : List ℤ) (r : List ℕ) (nf nr ns : ℕ) (ef : length f ≡ nf) (er : length r ≡ nr) where

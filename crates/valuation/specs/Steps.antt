@@ -18,6 +18,8 @@ use Rattle.limits.specs.declared.Recursed.{Recursed}
 use Rattle.limits.specs.declared.Recursed.the-variants as recursed
 use Rattle.recursion.specs.Recursion.{recursion}
 use Rattle.recursion.specs.Recursion as Rec
+use Rattle.tariff.specs.declared.Gross.{Gross}
+use Rattle.tariff.specs.declared.Gross.the-variants.{Centimes, Outside}
 use Rattle.totals.specs.declared.Totals.{Totals}
 use Rattle.totals.specs.Table.{Members}
 use Rattle.totals.specs.Inside.{HeaderIn}
@@ -63,6 +65,11 @@ refusalOf recursed.Short = Refused refusal.Range 0
 refusalOf (recursed.Outside k) = Refused refusal.Range 0
 refusalOf (recursed.Wide x) = Refused refusal.Wide x
 refusalOf (recursed.Large x) = Refused refusal.Range 0
+
+-- the centimes of a gross premium, 0 where there are none
+abbrev pub centimesIn : Gross → ℕ
+centimesIn (Centimes n) = n
+centimesIn Outside = 0
 
 -- the answer is that of 7 to 10
 abbrev pub ValuedAnswer : Fund → List Life → Lengths → Answer → Type 0

@@ -11,6 +11,7 @@ use fund::Life;
 use fund::Refusal;
 use fund::Verdict;
 use recursion::Recursed;
+use tariff::Gross;
 use totals::Totals;
 use transform::Filling;
 ghost use mathlib.Core.Path.{_≡_};
@@ -21,7 +22,7 @@ ghost use lib.ListN.{length, replicate, take};
 ghost use Rattle.fund.specs.Answer.{noFigures, refused};
 ghost use Rattle.fund.specs.Limits.{most-members};
 ghost use Rattle.valuation.specs.Valued.{left, lengths, Zeros, valuation};
-ghost use Rattle.valuation.specs.Steps.{Ready, refusalOf, RecursedFor, SettledFor, AnsweredFor, Fillable, TransformFilled};
+ghost use Rattle.valuation.specs.Steps.{Ready, refusalOf, centimesIn, RecursedFor, SettledFor, AnsweredFor, Fillable, TransformFilled};
 
 // What a valuation answers beside the result slices.
 pub struct Valued {
@@ -83,6 +84,16 @@ fn refusal(answer: Recursed) -> Verdict
     }
 }
 
+// The centimes of a gross premium; a worth in its range has some.
+fn centimes_of(gross: Gross) -> u64
+    ensures { λ r. ⌜ r ≡ centimesIn gross ⌝ }
+{
+    match gross {
+        Gross::Centimes(n) => n,
+        Gross::Outside => 0,
+    }
+}
+
 // The figures of a fund whose cells stand, or refusal 10 with a transform of zeros.
 fn settled(
     fund: Fund,
@@ -105,6 +116,7 @@ fn settled(
     };
     sums::running_sums(fund.horizon as usize, f, sums);
     let priced = premium::premium(fund.deductible as usize, t.mean, t.truncation, f, r);
+    let gross = tariff::gross_premium(fund, priced.premium, priced.within);
     Valued {
         verdict: Verdict::Accepted,
         figures: Figures {
@@ -112,6 +124,7 @@ fn settled(
             mean: t.mean,
             premium: priced.premium,
             within: priced.within,
+            gross: centimes_of(gross),
         },
     }
 }

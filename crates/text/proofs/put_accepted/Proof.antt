@@ -13,8 +13,8 @@ use Rattle.text.proofs.put_accepted.Tie as tie
 head-small : (s : tie.Start) → length (head (s .args .figures)) ≤ 58
 head-small s = head-size (s .args .figures) (search needs) (search needs)
 
-foot-small : (s : tie.Start) → length (foot (s .args .figures)) ≤ 58
-foot-small s = foot-size (s .args .figures) (search needs) (search needs)
+foot-small : (s : tie.Start) → length (foot (s .args .figures)) ≤ 85
+foot-small s = foot-size (s .args .figures) (search needs) (search needs) (search needs)
 
 put-head-requires : tie.Need-put-head-requires
 put-head-requires c κs =

@@ -6,7 +6,7 @@ use lib.ListN.{length}
 use mir.Syntax.{w64}
 use mir.Facts.{toZ-ofZ}
 use Rattle.fund.specs.Answer.{noFigures}
-use Rattle.valuation.specs.Steps.{ReadyFor}
+use Rattle.valuation.specs.Steps.{ReadyFor, centimesIn}
 use Rattle.valuation.proofs.Settling.{answers-wide, Stands, stands, below-deductible, sums-fit, answers-accepted}
 use Rattle.valuation.proofs.settled.Statement.{statement}
 use Rattle.valuation.proofs.settled.Tie as tie
@@ -49,12 +49,16 @@ premium-requires c κs =
 
 returns-2 : tie.Need-returns-2
 returns-2 c ms k =
-    let summed = c .before .before .before in
+    let gross = c .before .before in
+    let price = gross .before .before in
+    let summed = price .before .before in
     let told = summed .before .before in
     let s = told .before .before .before .before in
     let a = s .args in
-    answers-accepted (a .fund) ms (a .t) (a .transform .now) (a .h .now) (a .f .now) (a .r .now) (length (a .sums .now)) k (standing told ms k) _ (c .before .premium .result) _ (c .before .premium .ensures)
-    (toZ-ofZ (sfits-of {w = w64} (c .before .premium .ok .1 .1 .0 .1)))
+    let same = toZ-ofZ (sfits-of {w = w64} (price .premium .ok .1 .1 .0 .1)) in
+    answers-accepted (a .fund) ms (a .t) (a .transform .now) (a .h .now) (a .f .now) (a .r .now) (length (a .sums .now)) k (standing told ms k) _ (price .premium .result) _ _ (price .premium .ensures)
+    same
+    (c .before .centimes-of .ensures ∙ ap centimesIn (rw same at (gross .gross-premium .ensures)))
     (summed .running-sums .ensures)
 
 pub settled-spec : {M : Type 1} → statement M
@@ -62,5 +66,5 @@ settled-spec =
     tie.close
     (tie.spec (λ c. search needs) (λ c κs. search needs) (λ c κs. search needs)
     (λ c κs. search needs) (λ c κs. search needs) (λ c. search needs) (λ c. search needs)
-    (λ c. search needs) returns running-sums-requires premium-requires (λ c. search needs)
+    (λ c. search needs) returns running-sums-requires premium-requires (λ c κs. search needs) (λ c κs. search needs) (λ c. search needs)
     returns-2)

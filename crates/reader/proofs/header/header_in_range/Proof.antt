@@ -8,24 +8,6 @@ use Rattle.reader.specs.Header.{headerLine}
 use Rattle.reader.proofs.header.header_in_range.Statement.{statement}
 use Rattle.reader.proofs.header.header_in_range.Tie as tie
 
-within-requires : tie.Need-within-requires
-within-requires c κs = search needs
-
-within-requires-2 : tie.Need-within-requires-2
-within-requires-2 c κs = search needs
-
-within-requires-3 : tie.Need-within-requires-3
-within-requires-3 c κs = search needs
-
-within-requires-4 : tie.Need-within-requires-4
-within-requires-4 c κs = search needs
-
-within-requires-5 : tie.Need-within-requires-5
-within-requires-5 c κs = search needs
-
-within-requires-6 : tie.Need-within-requires-6
-within-requires-6 c κs = search needs
-
 returns : tie.Need-returns
 unfolding headerLine headerLines inRanges
 returns c = rw (c .before .match .keys1) (c .within .ensures ∙ sym (and-true _))
@@ -48,21 +30,15 @@ returns-5 c = rw (c .before .match .keys5) (c .within5 .ensures ∙ sym (and-tru
 
 returns-6 : tie.Need-returns-6
 unfolding headerLine headerLines inRanges
-returns-6 c = let e : c .before .before .args .k ≡ 5 = omega arith in rw e (c .within6 .ensures ∙ sym (and-true _))
+returns-6 c = rw (c .before .match .keys6) (c .within6 .ensures ∙ sym (and-true _))
+
+returns-7 : tie.Need-returns-7
+unfolding headerLine headerLines inRanges
+returns-7 c = let e : c .before .before .args .k ≡ 6 = omega arith in rw e (c .within7 .ensures ∙ sym (and-true _))
 
 pub header-in-range-spec : {M : Type 1} → statement M
 header-in-range-spec =
     tie.close
-    (tie.spec
-    within-requires
-    within-requires-2
-    within-requires-3
-    within-requires-4
-    within-requires-5
-    within-requires-6
-    returns
-    returns-2
-    returns-3
-    returns-4
-    returns-5
-    returns-6)
+    (tie.spec (λ c κs. search needs) (λ c κs. search needs) (λ c κs. search needs) (λ c κs. search needs)
+    (λ c κs. search needs) (λ c κs. search needs) (λ c κs. search needs)
+    returns returns-2 returns-3 returns-4 returns-5 returns-6 returns-7)

@@ -8,42 +8,6 @@ use Rattle.reader.specs.Header.{headerLine}
 use Rattle.reader.proofs.header.numbers_at.Statement.{statement}
 use Rattle.reader.proofs.header.numbers_at.Tie as tie
 
-slice-aggregate-spelled : tie.Need-slice-aggregate-spelled
-slice-aggregate-spelled c = search needs
-
-spelled-requires : tie.Need-spelled-requires
-spelled-requires c κs = search needs
-
-slice-aggregate-spelled-2 : tie.Need-slice-aggregate-spelled-2
-slice-aggregate-spelled-2 c = search needs
-
-spelled-requires-2 : tie.Need-spelled-requires-2
-spelled-requires-2 c κs = search needs
-
-slice-aggregate-spelled-3 : tie.Need-slice-aggregate-spelled-3
-slice-aggregate-spelled-3 c = search needs
-
-spelled-requires-3 : tie.Need-spelled-requires-3
-spelled-requires-3 c κs = search needs
-
-slice-aggregate-spelled-4 : tie.Need-slice-aggregate-spelled-4
-slice-aggregate-spelled-4 c = search needs
-
-spelled-requires-4 : tie.Need-spelled-requires-4
-spelled-requires-4 c κs = search needs
-
-slice-aggregate-spelled-5 : tie.Need-slice-aggregate-spelled-5
-slice-aggregate-spelled-5 c = search needs
-
-spelled-requires-5 : tie.Need-spelled-requires-5
-spelled-requires-5 c κs = search needs
-
-slice-aggregate-spelled-6 : tie.Need-slice-aggregate-spelled-6
-slice-aggregate-spelled-6 c = search needs
-
-spelled-requires-6 : tie.Need-spelled-requires-6
-spelled-requires-6 c κs = search needs
-
 returns : tie.Need-returns
 unfolding headerLine headerLines bytes
 returns c = rw (c .before .before .match .keys1) (c .spelled .ensures)
@@ -66,27 +30,17 @@ returns-5 c = rw (c .before .before .match .keys5) (c .spelled5 .ensures)
 
 returns-6 : tie.Need-returns-6
 unfolding headerLine headerLines bytes
-returns-6 c = let e : c .before .before .before .before .args .k ≡ 5 = omega arith in rw e (c .spelled6 .ensures)
+returns-6 c = rw (c .before .before .match .keys6) (c .spelled6 .ensures)
+
+returns-7 : tie.Need-returns-7
+unfolding headerLine headerLines bytes
+returns-7 c = let e : c .before .before .before .before .args .k ≡ 6 = omega arith in rw e (c .spelled7 .ensures)
 
 pub numbers-at-spec : {M : Type 1} → statement M
 numbers-at-spec =
     tie.close
-    (tie.spec
-    slice-aggregate-spelled
-    spelled-requires
-    slice-aggregate-spelled-2
-    spelled-requires-2
-    slice-aggregate-spelled-3
-    spelled-requires-3
-    slice-aggregate-spelled-4
-    spelled-requires-4
-    slice-aggregate-spelled-5
-    spelled-requires-5
-    slice-aggregate-spelled-6
-    spelled-requires-6
-    returns
-    returns-2
-    returns-3
-    returns-4
-    returns-5
-    returns-6)
+    (tie.spec (λ c. search needs) (λ c κs. search needs) (λ c. search needs) (λ c κs. search needs)
+    (λ c. search needs) (λ c κs. search needs) (λ c. search needs) (λ c κs. search needs)
+    (λ c. search needs) (λ c κs. search needs) (λ c. search needs) (λ c κs. search needs)
+    (λ c. search needs) (λ c κs. search needs)
+    returns returns-2 returns-3 returns-4 returns-5 returns-6 returns-7)

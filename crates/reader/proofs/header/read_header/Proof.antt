@@ -69,30 +69,6 @@ loop-again c =
       l .inv .2 ∙ e (take (l .k) (l .values)) ∙ rw (add-one (l .k), take-suc-set (l .values) (l .k) _ w),
     )
 
-array-read-t18 : tie.Need-array-read-t18 Inv-loop μ-loop
-unfolding headerLines
-array-read-t18 c = omega arith
-
-array-read-t21 : tie.Need-array-read-t21 Inv-loop μ-loop
-unfolding headerLines
-array-read-t21 c = omega arith
-
-array-read-t24 : tie.Need-array-read-t24 Inv-loop μ-loop
-unfolding headerLines
-array-read-t24 c = omega arith
-
-array-read-t27 : tie.Need-array-read-t27 Inv-loop μ-loop
-unfolding headerLines
-array-read-t27 c = omega arith
-
-array-read-t30 : tie.Need-array-read-t30 Inv-loop μ-loop
-unfolding headerLines
-array-read-t30 c = omega arith
-
-array-read-t33 : tie.Need-array-read-t33 Inv-loop μ-loop
-unfolding headerLines
-array-read-t33 c = omega arith
-
 returns-2 : tie.Need-returns-2 Inv-loop μ-loop
 unfolding headerOf headerLines
 returns-2 c =
@@ -101,6 +77,7 @@ returns-2 c =
     l .inv .2 ∙ header-end _ (l .values) (l .k) (l .at) z (l .inv .1 ∙ sym z)
 
 pub read-header-spec : {M : Type 1} → statement M
+unfolding headerLines
 read-header-spec =
     tie.close
     (tie.spec
@@ -117,10 +94,5 @@ read-header-spec =
     add-k
     loop-less
     loop-again
-    array-read-t18
-    array-read-t21
-    array-read-t24
-    array-read-t27
-    array-read-t30
-    array-read-t33
+    (λ c. omega arith) (λ c. omega arith) (λ c. omega arith) (λ c. omega arith) (λ c. omega arith) (λ c. omega arith) (λ c. omega arith)
     returns-2)

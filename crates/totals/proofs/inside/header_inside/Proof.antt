@@ -6,22 +6,16 @@ use Rattle.laws.specs.Tells.{tells-no, tells-le}
 use Rattle.totals.proofs.inside.header_inside.Statement.{statement}
 use Rattle.totals.proofs.inside.header_inside.Tie as tie
 
-returns : tie.Need-returns
-returns c = tells-no (λ h. omega arith)
-
-returns-2 : tie.Need-returns-2
-returns-2 c = tells-no (λ h. omega arith)
-
-returns-3 : tie.Need-returns-3
-returns-3 c = tells-no (λ h. omega arith)
-
 add-result : tie.Need-add-result
 add-result c = search needs
 
-returns-4 : tie.Need-returns-4
-returns-4 c =
-    let a = c .before .before .before .before .before .before .before .before .args .fund in
-    tells-le (a .deductible) (a .horizon + 1) (λ h. record { horizon = omega arith; order = omega arith; frequency = omega arith; deductible = omega arith }) (λ h. omega (arith, h .deductible))
+returns-6 : tie.Need-returns-6
+returns-6 c =
+    let a = c .before .before .before .before .before .before .before .before .before .before .before .before .args .fund in
+    tells-le (a .deductible) (a .horizon + 1) (λ h. record { horizon = omega arith; order = omega arith; frequency = omega arith; deductible = omega arith; worth-least = omega arith; worth-most = omega arith }) (λ h. omega (arith, h .deductible))
 
 pub header-inside-spec : {M : Type 1} → statement M
-header-inside-spec = tie.close (tie.spec returns returns-2 returns-3 add-result returns-4)
+header-inside-spec =
+    tie.close
+    (tie.spec (λ c. tells-no (λ h. omega arith)) (λ c. tells-no (λ h. omega arith)) (λ c. tells-no (λ h. omega arith))
+    (λ c. tells-no (λ h. omega arith)) (λ c. tells-no (λ h. omega arith)) add-result returns-6)

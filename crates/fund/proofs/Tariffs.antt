@@ -1,0 +1,33 @@
+-- The tariff gives every row of its table, and the definitions give every file its gross premium. By computing both sides.
+use mathlib.Core.Path.{_≡_, refl}
+use mathlib.Core.List.{map}
+use Rattle.rounding.specs.Rounding.{near, nearest, up}
+use Rattle.fund.specs.Base.{bytes, total, sum, sumℤ, table, alternate}
+use Rattle.fund.specs.Lines.{begun, linesFrom, lines}
+use Rattle.fund.specs.Spelling.{digits, isNumber, valueFrom, value, inFirst, fields, allNumbers, numbers, behind, spelled}
+use Rattle.fund.specs.Reading.{between, inRanges, headerLines, headerOf, rowOf, rising, rateInRange, memberInRange, noMember, atEnd, readRows, readHeader, reading}
+use Rattle.fund.specs.Folding.{heldUntil, rateInForce, folded, life, lives}
+use Rattle.fund.specs.Transform.{unit, nextRow, row, placed, termOf, rowTerms, singleTerms, replacedTerm, replacedTerms, terms, sumD, sumH, D, H, lambda, load, w, truncation, mean}
+use Rattle.fund.specs.Recursion.{t, alternating, multiplied, start, c, startBound, entries, sumR, sumF, nextCell, cells}
+use Rattle.fund.specs.Premium.{sumBelow, boundBelow, premium, within}
+use Rattle.fund.specs.Tariff.{loading, covered, gross}
+use Rattle.fund.specs.Refusals.{first, unmatched, half, wide, anyShort, short, refuse, at0, firstMember, valued, matched, verdict}
+use Rattle.fund.specs.Quantile.{runningSum}
+use Rattle.fund.specs.Answer.{fundTerms, fundStart, fundCells, fundTruncation, fundMean, fundPremium, fundWithin, fundFigures, lineAt, part, refused, lent, accepted, answerOf, answerTo, answer}
+use Rattle.fund.specs.Listing.{enough}
+use Rattle.fund.specs.Starred.{text, file}
+use Rattle.fund.specs.Tariffs.{TariffRow, priced, tariffs, GrossRow, oneBeyond, grossFiles}
+
+abbrev given : TariffRow → TariffRow
+given r = priced (r .deductible) (r .worth) (r .premium) (r .within) (gross (r .deductible) (r .worth) (r .premium) (r .within))
+
+pub every-gross : map given tariffs ≡ tariffs
+unfolding up loading covered gross tariffs
+every-gross = refl
+
+abbrev filed : GrossRow → GrossRow
+filed r = record { file = r .file; gross = answer (r .file) enough .figures .gross }
+
+pub every-file : map filed grossFiles ≡ grossFiles
+unfolding near nearest up bytes total sum sumℤ table alternate begun linesFrom lines digits isNumber valueFrom value inFirst fields allNumbers numbers behind spelled between inRanges headerLines headerOf rowOf rising rateInRange memberInRange noMember atEnd readRows readHeader reading heldUntil rateInForce folded life lives unit nextRow row placed termOf rowTerms singleTerms replacedTerm replacedTerms terms sumD sumH D H lambda load w truncation mean t alternating multiplied start c startBound entries sumR sumF nextCell cells sumBelow boundBelow premium within loading covered gross first unmatched half wide anyShort short refuse at0 firstMember valued matched verdict fundTerms fundStart fundCells fundTruncation fundMean fundPremium fundWithin fundFigures lineAt part refused lent accepted answerOf answerTo answer runningSum text file oneBeyond grossFiles
+every-file = refl

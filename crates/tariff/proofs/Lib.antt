@@ -1,0 +1,3 @@
+pub mod Answering
+mod Covering
+mod Parts

@@ -1,0 +1,42 @@
+-- `tariff::covered_by`: the premium and its bound, added where the premium is not negative, else what the bound leaves.
+use native.Mathlib.Omega.{arith}
+use borrow.Author.Needs.{needs}
+use Rattle.tariff.proofs.Covering.{size-le, covered-below, covered-above}
+use Rattle.tariff.proofs.covered_by.Statement.{statement}
+use Rattle.tariff.proofs.covered_by.Tie as tie
+
+magnitude-requires : tie.Need-magnitude-requires
+magnitude-requires c κs = search needs
+
+returns : tie.Need-returns
+returns c =
+    let t = c .before in
+    let m = t .before in
+    let s = m .before in
+    let e = covered-below (s .args .premium) (s .args .within) _ (s .fits .premium) (m .magnitude .ensures) (t .if1 .taken) in
+    record { sum-is = omega (arith, e); high-le = omega arith; low-lt = omega arith }
+
+returns-2 : tie.Need-returns-2
+returns-2 c =
+    let t = c .before in
+    let m = t .before in
+    let s = m .before in
+    let e = covered-below (s .args .premium) (s .args .within) _ (s .fits .premium) (m .magnitude .ensures) (t .if1 .taken) in
+    record { sum-is = omega (arith, e); high-le = omega arith; low-lt = omega arith }
+
+add-t11 : tie.Need-add-t11
+add-t11 c = search needs
+
+add-t14 : tie.Need-add-t14
+add-t14 c = search needs
+
+returns-3 : tie.Need-returns-3
+returns-3 c =
+    let m = c .before in
+    let s = m .before in
+    let e = covered-above (s .args .premium) (s .args .within) _ (s .fits .premium) (m .magnitude .ensures) (c .if1 .left) in
+    let l = size-le (s .args .premium) (s .args .within) _ (s .fits .premium) (m .magnitude .ensures) in
+    record { sum-is = omega (arith, e); high-le = omega (arith, l); low-lt = omega arith }
+
+pub covered-by-spec : {M : Type 1} → statement M
+covered-by-spec = tie.close (tie.spec magnitude-requires returns returns-2 add-t11 add-t14 returns-3)

@@ -1,0 +1,44 @@
+-- `tariff::gross_premium`: outside the worth's range, else the sum's product with the price.
+use Prim.Native.Nat.{_*_, _≤_}
+use native.Mathlib.Omega.{arith}
+use borrow.Author.Needs.{needs}
+use mir.Facts.{toZ-ofZ}
+use Rattle.tariff.proofs.Answering.{price-le, gross-low, gross-high, gross-from}
+use Rattle.tariff.proofs.gross_premium.Statement.{statement}
+use Rattle.tariff.proofs.gross_premium.Tie as tie
+
+returns : tie.Need-returns
+returns c = let a = c .before .before .args in gross-low (a .fund) (a .premium) (a .within) (omega arith)
+
+returns-2 : tie.Need-returns-2
+returns-2 c = let a = c .before .before .before .before .args in gross-high (a .fund) (a .premium) (a .within) (omega arith) (omega arith)
+
+loading-requires : tie.Need-loading-requires
+loading-requires c κs = search needs
+
+-- the price fits a word
+price-small : (c : tie.After-loading) → let f = c .before .before .before .before .before .args .fund in f .worth * c .loading .result ≤ 21000000000
+price-small c =
+    let f = c .before .before .before .before .before .args .fund in
+    rw (c .loading .ensures) (price-le (f .worth) _ (omega arith))
+
+mul-price : tie.Need-mul-price
+mul-price c = omega (arith, price-small (c .before))
+
+covered-by-requires : tie.Need-covered-by-requires
+covered-by-requires c κs = search needs
+
+centimes-requires : tie.Need-centimes-requires
+centimes-requires c κs = let k = c .covered-by .ensures in (k .high-le, k .low-lt, price-small (c .before .before))
+
+returns-3 : tie.Need-returns-3
+returns-3 c =
+    let k = c .before in
+    let l = k .before .before in
+    let s = l .before .before .before .before .before in
+    let a = s .args in
+    rw (c .centimes .ensures, l .loading .ensures) (gross-from (a .fund) (a .premium) (a .within) (k .covered-by .result) (rw (toZ-ofZ (s .fits .premium)) at (k .covered-by .ensures)) (omega arith) (omega arith))
+
+pub gross-premium-spec : {M : Type 1} → statement M
+gross-premium-spec =
+    tie.close (tie.spec returns returns-2 loading-requires mul-price covered-by-requires centimes-requires returns-3)
