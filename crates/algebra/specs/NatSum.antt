@@ -26,6 +26,10 @@ pub sumN-add-le : (n : ℕ) (f g h : ℕ → ℕ) → ((k : ℕ) → f k ≤ g k
 sumN-add-le zero f g h l = omega arith
 sumN-add-le (suc n) f g h l = let e = sumN-add-le n f g h l in let k = l n in omega arith
 
+pub sumN-add-ge : (n : ℕ) (f g h : ℕ → ℕ) → ((k : ℕ) → f k + g k ≤ h k) → sumN n f + sumN n g ≤ sumN n h
+sumN-add-ge zero f g h l = omega arith
+sumN-add-ge (suc n) f g h l = let e = sumN-add-ge n f g h l in let k = l n in omega arith
+
 pub sumN-bound : (n b : ℕ) (f : ℕ → ℕ) → ((x : ℕ) → x < n → f x ≤ b) → sumN n f ≤ n * b
 sumN-bound zero b f h = omega arith
 sumN-bound (suc n) b f h = let k = sumN-bound n b f (λ x l. h x (omega arith)) in let l = h n (omega arith) in omega arith

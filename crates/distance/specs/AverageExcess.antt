@@ -32,7 +32,7 @@ use Rattle.distance.specs.Lives.{members, W, rate, FoldedLife}
 use Rattle.distance.specs.Errors.{U, nat-units}
 use Rattle.distance.specs.Exact.{sixes, single-is, P, exact-is}
 use Rattle.distance.specs.Members.{weights-within}
-use Rattle.distance.specs.Outcomes.{expect, below, shortfall-is, weights-are, claims, claims-are, excess-is}
+use Rattle.distance.specs.Outcomes.{expect, below, claims, claims-are, excess-whole}
 
 -- ---- no weight is left
 no-weight : (a : ℕ) (ms : List Life) → lambda a ms ≡ 0 → (k : ℕ) → weightAt a ms k ≡ 0
@@ -164,9 +164,5 @@ module _ (X r a : ℕ) (ms : List Life) (limited : All Limited ms) (folded : All
       E : ℕ
       E = excess M (outcomes ms)
 
-      -- excess + M×10^(6g) is totals plus shortfall
-      sums : E +ⁿ M *ⁿ G ≡ C +ⁿ B
-      sums = ap (λ y. E +ⁿ M *ⁿ y) (sym (weights-are ms limited)) ∙ excess-is M (outcomes ms) ∙ ap (λ y. C +ⁿ y) (sym (shortfall-is ms M))
-
       whole : nat C + nat B - nat M * nat G ≡ nat E
-      whole = ap₂ _-_ (sym (nat-add C B) ∙ ap nat (sym sums) ∙ nat-add E (M *ⁿ G)) (sym (nat-mul M G)) ∙ ring2 ℚ-ring (λ e k. (e ⊕ k) ⊝ k := e) tt (nat E) (nat (M *ⁿ G))
+      whole = ap₂ _-_ (sym (nat-add C B) ∙ ap nat (sym (excess-whole M ms limited)) ∙ nat-add E (M *ⁿ G)) (sym (nat-mul M G)) ∙ ring2 ℚ-ring (λ e k. (e ⊕ k) ⊝ k := e) tt (nat E) (nat (M *ⁿ G))

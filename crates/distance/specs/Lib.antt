@@ -9,7 +9,11 @@ pub mod Exact
 pub mod Outcomes
 pub mod AverageExcess
 pub mod Members
+pub mod Weights
+pub mod OwnShortfall
 pub mod Cells
 pub mod Whole
+pub mod ExactPremium
 pub mod Distance
 pub mod Widths
+pub mod NotNegative

@@ -92,7 +92,7 @@ errors-are r (m ∷ ms) = go (single m) (errors-are r ms)
 
 -- ---- group 2
 -- a weight stands at one place at most
-at-most-once : (d c n : ℕ) → sumN n (λ k. if eqb d k then c else 0) ≤ⁿ c
+pub at-most-once : (d c n : ℕ) → sumN n (λ k. if eqb d k then c else 0) ≤ⁿ c
 at-most-once d c zero = omega arith
 at-most-once zero c (suc n) = omega (arith, sumN-first n (λ k. if eqb 0 k then c else 0), sumN-ext n (λ k. if eqb 0 (suc k) then c else 0) (λ k. 0) (λ k l. ap (λ b. if b then c else 0) (eqb·zero-suc k)), sumN-zero n)
 at-most-once (suc d) c (suc n) =
@@ -144,21 +144,22 @@ pub lambda-within : (r a : ℕ) (ms : List Life) → Priceable r a ms → lambda
 unfolding load unit
 lambda-within r a ms p = let h = p .load-within in omega arith
 
+pub weights-units : (a : ℕ) (ms : List Life) (n : ℕ) → U * sum n (W a ms) ≡ nat (sumN n (weightAt a ms))
+unfolding W
+weights-units a ms n =
+    sym (sum-mul n U (W a ms))
+    ∙ sum-ext n (λ k. U * over (nat (weightAt a ms k)) unit) (λ k. nat (weightAt a ms k)) (λ k l. over-ok (nat (weightAt a ms k)) unit unit-pos)
+    ∙ sym (nat-sum n (weightAt a ms))
+
 pub group : (r a : ℕ) (ms : List Life) → Priceable r a ms → Group (W a ms) (rate a ms)
 unfolding W rate
 group r a ms p =
     record {
       W-zero = W-zero a ms;
       W-nn = λ x. over-nn (nat (weightAt a ms x)) unit (nat-nn (weightAt a ms x));
-      W-sum = λ n. cancel unit unit-pos (≤-trans (≤-of-eq (units n)) (≤-trans (nat-le (weights-within a ms n)) (≤-of-eq (sym (over-ok (nat (lambda a ms)) unit unit-pos)))));
+      W-sum = λ n. cancel unit unit-pos (≤-trans (≤-of-eq (weights-units a ms n)) (≤-trans (nat-le (weights-within a ms n)) (≤-of-eq (sym (over-ok (nat (lambda a ms)) unit unit-pos)))));
       ƛ-le = cancel unit unit-pos (≤-trans (≤-of-eq (over-ok (nat (lambda a ms)) unit unit-pos)) (≤-trans (nat-le (lambda-within r a ms p)) (≤-of-eq (nat-mul 8 unit ∙ ℚ-ring .mul-comm (nat 8) U))));
     }
-  where
-    units : (n : ℕ) → U * sum n (λ k. over (nat (weightAt a ms k)) unit) ≡ nat (sumN n (weightAt a ms))
-    units n =
-        sym (sum-mul n U (λ k. over (nat (weightAt a ms k)) unit))
-        ∙ sum-ext n (λ k. U * over (nat (weightAt a ms k)) unit) (λ k. nat (weightAt a ms k)) (λ k l. over-ok (nat (weightAt a ms k)) unit unit-pos)
-        ∙ sym (nat-sum n (weightAt a ms))
 
 -- ---- the exact start
 own-start : (r : ℕ) (ms : List Life) → All Limited ms → All FoldedLife ms → ownProduct (members r ms) 0 ≡ stays ms

@@ -1,6 +1,6 @@
 -- All outcomes of the group 1 members: their weights add to 10^(6g) (weights-are), their weighted totals to the mean
 -- (claims-are), and what they fall short of M by is the sum over x below M of the convolution's cells (shortfall-is). So the
--- excess over M is the totals less M, plus the shortfall (excess-is).
+-- excess over M is the totals less M, plus the shortfall (excess-is, excess-whole).
 use mathlib.Core.Path.{_≡_, refl, sym, _∙_, ap, ap₂}
 use mathlib.Core.Bool.{Bool, true, false}
 use mathlib.Core.List.{List, [], _∷_, _++_}
@@ -224,3 +224,8 @@ excess-is M (o ∷ os) =
       mul-comm (o .weight) M,
       mul-add M (o .weight * 1) (expect (λ c. 1) os),
     )
+
+-- over 10^(6g)
+pub excess-whole : (M : ℕ) (ms : List Life) → All Limited ms → excess M (outcomes ms) + M * 10 ^ (6 * singles ms) ≡ expect (λ c. c) (outcomes ms) + below (singlePart ms) M
+excess-whole M ms c =
+    ap (λ y. excess M (outcomes ms) + M * y) (sym (weights-are ms c)) ∙ excess-is M (outcomes ms) ∙ ap (λ y. expect (λ c. c) (outcomes ms) + y) (sym (shortfall-is ms M))

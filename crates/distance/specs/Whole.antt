@@ -74,7 +74,7 @@ module _ (X r a : ℕ) (ms : List Life) (small : r ≤ⁿ 12) (p : Priceable r a
         (ap ofℤ (sumBelow-is M (suc X) y below) ∙ ofℤ-sum M (λ x. pos (M ∸ x) *ℤ y x .f)
         ∙ sum-ext M (λ x. ofℤ (pos (M ∸ x) *ℤ y x .f)) (λ x. nat (M ∸ x) * ofℤ (y x .f)) (λ x l. ofℤ-mul (pos (M ∸ x)) (y x .f)))
 
-    exact-premium-is : ofℤ (exactPremium X M mean a ms) ≡ nat Δ * (nat mean - nat M * U + sum M (λ x. nat (M ∸ x) * (U * P X r a ms small p x)))
+    pub exact-premium-is : ofℤ (exactPremium X M mean a ms) ≡ nat Δ * (nat mean - nat M * U + sum M (λ x. nat (M ∸ x) * (U * P X r a ms small p x)))
     unfolding exactPremium
     exact-premium-is =
         ofℤ-add ((pos mean -ℤ pos (M *ⁿ 10 ^ 12)) *ℤ pos Δ) (sumℤ M g)

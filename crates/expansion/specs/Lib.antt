@@ -8,6 +8,8 @@ pub mod Poisson
 pub mod Exponential
 pub mod Polynomial
 pub mod ExponentialProduct
+pub mod PoissonMass
+pub mod Shortfall
 pub mod Mass
 pub mod Total
 pub mod Place

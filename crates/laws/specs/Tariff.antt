@@ -11,14 +11,14 @@ use lib.Signed.{_≤ℤ_}
 use Rattle.rounding.specs.Rounding.{up}
 use Rattle.rounding.proofs.Laws.{neg-below, up-low}
 use Rattle.fund.specs.Base.{if_then_else_}
-use Rattle.fund.specs.Limits.{second-step, third-step, fourth-step, fourth-loading}
+use Rattle.fund.specs.Limits.{second-step, third-step, fourth-step, first-loading, second-loading, third-loading, fourth-loading}
 use Rattle.fund.specs.Tariff.{loading, notNegative, covered, gross}
 
 pub loading-le : (M : ℕ) → loading M ≤ fourth-loading
 unfolding loading
 loading-le M = go (ltb M second-step) (ltb M third-step) (ltb M fourth-step)
   where
-    go : (a b c : Bool) → (if a then 1500 else if b then 1700 else if c then 1900 else 2100) ≤ 2100
+    go : (a b c : Bool) → (if a then first-loading else if b then second-loading else if c then third-loading else fourth-loading) ≤ fourth-loading
     go true b c = omega arith
     go false true c = omega arith
     go false false true = omega arith
@@ -58,14 +58,14 @@ difference-below zero (suc z) c h = omega (arith, sub-above 0 (suc z) c h)
 difference-below (suc x) zero c h = omega (arith, sub-above 0 (suc x) c h)
 difference-below (suc x) (suc z) c h = let k : suc (suc (x + z)) ≤ c = h in omega arith
 
--- a number that is at most D × (premium + bound) away from 0, on the upper side
+-- a number within D × bound of D × premium is at most D times what is covered
 covered-above : (D z within : ℕ) (premium : ℤ) → natAbs (pos D *ℤ premium -ℤ pos z) ≤ D * within → z ≤ D * covered premium within
 covered-above D z within (pos p) h =
     rw (covered-pos p within) (omega (arith, difference-above (D * p) z (D * within) h, N.mul-add D p within))
 covered-above D z within (negsuc p) h =
     rw (covered-neg p within) (omega (arith, difference-below (D * suc p) z (D * within) h, N.mul-sub D within (suc p)))
 
--- D is a denominator: `exact` stands for a premium times D.
+-- D is a denominator, and `exact` a premium times D.
 pub gross-covers : (D M worth within : ℕ) (premium exact : ℤ) → natAbs (pos D *ℤ premium -ℤ exact) ≤ D * within →
     (exact *ℤ pos (worth * loading M)) ≤ℤ pos (gross M worth premium within * 10 ^ 15 * D)
 unfolding gross

@@ -9,12 +9,12 @@ ghost use Rattle.tariff.specs.Gross.{grossOf, CoveredAs};
 // The unit of a premium times the unit of a loading.
 const SCALE: u64 = 1000000000000000;
 
-// The scale is these two, so that a part of a product below it fits a word.
+// The scale's two factors: a part of the sum below the first, times the price, fits a word.
 const PART: u64 = 100000000;
 
 const PARTS: u64 = 10000000;
 
-// A gross premium, or a worth that no fund states.
+// A gross premium in whole centimes, or that the worth is not one that a fund may state.
 pub enum Gross {
     Centimes(u64),
     Outside,
