@@ -13,7 +13,7 @@ use Rattle.fund.specs.Folding.{heldUntil, rateInForce, folded, life, liv
 use Rattle.fund.specs.Transform.{unit, nextRow, row, placed, termOf, rowTerms, singleTerms, replacedTerm, replacedTerms, terms, sumD, sumH, D, H, lambda, load, w, truncation, mean}
 use Rattle.fund.specs.Recursion.{Cell, t, alternating, multiplied, start, c, startBound, entries, sumR, sumF, nextCell, cells}
 use Rattle.fund.specs.Premium.{sumBelow, boundBelow, premium, within}
-use Rattle.fund.specs.Tariff.{loading, covered, gross}
+use Rattle.fund.specs.Tariff.{loading, withBound, gross}
 use Rattle.fund.specs.Refusals.{first, unmatched, half, wide, anyShort, short, refuse, at0, firstMember, valued, matched, verdict}
 use Rattle.fund.specs.Answer.{fundTerms, fundStart, fundCells, fundTruncation, fundMean, fundPremium, fundWithin, fundFigures, lineAt, part, refused, lent, accepted, answerOf, answerTo, answer}
 use Rattle.fund.specs.Listing.{digitsWithin, decimal, signedDecimal, joined, cellLines, listed, refusedLine, printed, horizonIn, listing}
@@ -29,17 +29,17 @@ abbrev given : StarredRow → StarredRow
 given r = record { file = r .file; listing = listing (r .file); bounds = take (length (r .bounds)) (boundsOf (reading (r .file))) }
 
 pub every-row : map given starred ≡ starred
-unfolding near nearest up bytes total sum sumℤ table alternate begun linesFrom lines digits isNumber valueFrom value inFirst fields allNumbers numbers behind spelled between inRanges headerLines headerOf rowOf rising rateInRange memberInRange noMember atEnd readRows readHeader reading heldUntil rateInForce folded life lives unit nextRow row placed termOf rowTerms singleTerms replacedTerm replacedTerms terms sumD sumH D H lambda load w truncation mean t alternating multiplied start c startBound entries sumR sumF nextCell cells sumBelow boundBelow premium within loading covered gross first unmatched half wide anyShort short refuse at0 firstMember valued matched verdict fundTerms fundStart fundCells fundTruncation fundMean fundPremium fundWithin fundFigures lineAt part refused lent accepted answerOf answerTo answer digitsWithin decimal signedDecimal joined cellLines listed refusedLine printed horizonIn listing text file eight atOrder starred
+unfolding near nearest up bytes total sum sumℤ table alternate begun linesFrom lines digits isNumber valueFrom value inFirst fields allNumbers numbers behind spelled between inRanges headerLines headerOf rowOf rising rateInRange memberInRange noMember atEnd readRows readHeader reading heldUntil rateInForce folded life lives unit nextRow row placed termOf rowTerms singleTerms replacedTerm replacedTerms terms sumD sumH D H lambda load w truncation mean t alternating multiplied start c startBound entries sumR sumF nextCell cells sumBelow boundBelow premium within loading withBound gross first unmatched half wide anyShort short refuse at0 firstMember valued matched verdict fundTerms fundStart fundCells fundTruncation fundMean fundPremium fundWithin fundFigures lineAt part refused lent accepted answerOf answerTo answer digitsWithin decimal signedDecimal joined cellLines listed refusedLine printed horizonIn listing text file eight atOrder starred
 every-row = refl
 
 pub every-turn : map given wrongTurns ≡ wrongTurns
-unfolding near nearest up bytes total sum sumℤ table alternate begun linesFrom lines digits isNumber valueFrom value inFirst fields allNumbers numbers behind spelled between inRanges headerLines headerOf rowOf rising rateInRange memberInRange noMember atEnd readRows readHeader reading heldUntil rateInForce folded life lives unit nextRow row placed termOf rowTerms singleTerms replacedTerm replacedTerms terms sumD sumH D H lambda load w truncation mean t alternating multiplied start c startBound entries sumR sumF nextCell cells sumBelow boundBelow premium within loading covered gross first unmatched half wide anyShort short refuse at0 firstMember valued matched verdict fundTerms fundStart fundCells fundTruncation fundMean fundPremium fundWithin fundFigures lineAt part refused lent accepted answerOf answerTo answer digitsWithin decimal signedDecimal joined cellLines listed refusedLine printed horizonIn listing text file wrongTurns
+unfolding near nearest up bytes total sum sumℤ table alternate begun linesFrom lines digits isNumber valueFrom value inFirst fields allNumbers numbers behind spelled between inRanges headerLines headerOf rowOf rising rateInRange memberInRange noMember atEnd readRows readHeader reading heldUntil rateInForce folded life lives unit nextRow row placed termOf rowTerms singleTerms replacedTerm replacedTerms terms sumD sumH D H lambda load w truncation mean t alternating multiplied start c startBound entries sumR sumF nextCell cells sumBelow boundBelow premium within loading withBound gross first unmatched half wide anyShort short refuse at0 firstMember valued matched verdict fundTerms fundStart fundCells fundTruncation fundMean fundPremium fundWithin fundFigures lineAt part refused lent accepted answerOf answerTo answer digitsWithin decimal signedDecimal joined cellLines listed refusedLine printed horizonIn listing text file wrongTurns
 every-turn = refl
 
 pub every-rate : map given someAges ≡ someAges
-unfolding near nearest up bytes total sum sumℤ table alternate begun linesFrom lines digits isNumber valueFrom value inFirst fields allNumbers numbers behind spelled between inRanges headerLines headerOf rowOf rising rateInRange memberInRange noMember atEnd readRows readHeader reading heldUntil rateInForce folded life lives unit nextRow row placed termOf rowTerms singleTerms replacedTerm replacedTerms terms sumD sumH D H lambda load w truncation mean t alternating multiplied start c startBound entries sumR sumF nextCell cells sumBelow boundBelow premium within loading covered gross first unmatched half wide anyShort short refuse at0 firstMember valued matched verdict fundTerms fundStart fundCells fundTruncation fundMean fundPremium fundWithin fundFigures lineAt part refused lent accepted answerOf answerTo answer digitsWithin decimal signedDecimal joined cellLines listed refusedLine printed horizonIn listing text file inForce someAges
+unfolding near nearest up bytes total sum sumℤ table alternate begun linesFrom lines digits isNumber valueFrom value inFirst fields allNumbers numbers behind spelled between inRanges headerLines headerOf rowOf rising rateInRange memberInRange noMember atEnd readRows readHeader reading heldUntil rateInForce folded life lives unit nextRow row placed termOf rowTerms singleTerms replacedTerm replacedTerms terms sumD sumH D H lambda load w truncation mean t alternating multiplied start c startBound entries sumR sumF nextCell cells sumBelow boundBelow premium within loading withBound gross first unmatched half wide anyShort short refuse at0 firstMember valued matched verdict fundTerms fundStart fundCells fundTruncation fundMean fundPremium fundWithin fundFigures lineAt part refused lent accepted answerOf answerTo answer digitsWithin decimal signedDecimal joined cellLines listed refusedLine printed horizonIn listing text file inForce someAges
 every-rate = refl
 
 pub every-worth : map given worths ≡ worths
-unfolding near nearest up bytes total sum sumℤ table alternate begun linesFrom lines digits isNumber valueFrom value inFirst fields allNumbers numbers behind spelled between inRanges headerLines headerOf rowOf rising rateInRange memberInRange noMember atEnd readRows readHeader reading heldUntil rateInForce folded life lives unit nextRow row placed termOf rowTerms singleTerms replacedTerm replacedTerms terms sumD sumH D H lambda load w truncation mean t alternating multiplied start c startBound entries sumR sumF nextCell cells sumBelow boundBelow premium within loading covered gross first unmatched half wide anyShort short refuse at0 firstMember valued matched verdict fundTerms fundStart fundCells fundTruncation fundMean fundPremium fundWithin fundFigures lineAt part refused lent accepted answerOf answerTo answer digitsWithin decimal signedDecimal joined cellLines listed refusedLine printed horizonIn listing text withLines worths
+unfolding near nearest up bytes total sum sumℤ table alternate begun linesFrom lines digits isNumber valueFrom value inFirst fields allNumbers numbers behind spelled between inRanges headerLines headerOf rowOf rising rateInRange memberInRange noMember atEnd readRows readHeader reading heldUntil rateInForce folded life lives unit nextRow row placed termOf rowTerms singleTerms replacedTerm replacedTerms terms sumD sumH D H lambda load w truncation mean t alternating multiplied start c startBound entries sumR sumF nextCell cells sumBelow boundBelow premium within loading withBound gross first unmatched half wide anyShort short refuse at0 firstMember valued matched verdict fundTerms fundStart fundCells fundTruncation fundMean fundPremium fundWithin fundFigures lineAt part refused lent accepted answerOf answerTo answer digitsWithin decimal signedDecimal joined cellLines listed refusedLine printed horizonIn listing text withLines worths
 every-worth = refl

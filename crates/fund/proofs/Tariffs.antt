@@ -10,7 +10,7 @@ use Rattle.fund.specs.Folding.{heldUntil, rateInForce, folded, life, liv
 use Rattle.fund.specs.Transform.{unit, nextRow, row, placed, termOf, rowTerms, singleTerms, replacedTerm, replacedTerms, terms, sumD, sumH, D, H, lambda, load, w, truncation, mean}
 use Rattle.fund.specs.Recursion.{t, alternating, multiplied, start, c, startBound, entries, sumR, sumF, nextCell, cells}
 use Rattle.fund.specs.Premium.{sumBelow, boundBelow, premium, within}
-use Rattle.fund.specs.Tariff.{loading, covered, gross}
+use Rattle.fund.specs.Tariff.{loading, withBound, gross}
 use Rattle.fund.specs.Refusals.{first, unmatched, half, wide, anyShort, short, refuse, at0, firstMember, valued, matched, verdict}
 use Rattle.fund.specs.Quantile.{runningSum}
 use Rattle.fund.specs.Answer.{fundTerms, fundStart, fundCells, fundTruncation, fundMean, fundPremium, fundWithin, fundFigures, lineAt, part, refused, lent, accepted, answerOf, answerTo, answer}
@@ -22,12 +22,12 @@ abbrev given : TariffRow → TariffRow
 given r = priced (r .deductible) (r .worth) (r .premium) (r .within) (gross (r .deductible) (r .worth) (r .premium) (r .within))
 
 pub every-gross : map given tariffs ≡ tariffs
-unfolding up loading covered gross tariffs
+unfolding up loading withBound gross tariffs
 every-gross = refl
 
 abbrev filed : GrossRow → GrossRow
 filed r = record { file = r .file; gross = answer (r .file) enough .figures .gross }
 
 pub every-file : map filed grossFiles ≡ grossFiles
-unfolding near nearest up bytes total sum sumℤ table alternate begun linesFrom lines digits isNumber valueFrom value inFirst fields allNumbers numbers behind spelled between inRanges headerLines headerOf rowOf rising rateInRange memberInRange noMember atEnd readRows readHeader reading heldUntil rateInForce folded life lives unit nextRow row placed termOf rowTerms singleTerms replacedTerm replacedTerms terms sumD sumH D H lambda load w truncation mean t alternating multiplied start c startBound entries sumR sumF nextCell cells sumBelow boundBelow premium within loading covered gross first unmatched half wide anyShort short refuse at0 firstMember valued matched verdict fundTerms fundStart fundCells fundTruncation fundMean fundPremium fundWithin fundFigures lineAt part refused lent accepted answerOf answerTo answer runningSum text file oneBeyond grossFiles
+unfolding near nearest up bytes total sum sumℤ table alternate begun linesFrom lines digits isNumber valueFrom value inFirst fields allNumbers numbers behind spelled between inRanges headerLines headerOf rowOf rising rateInRange memberInRange noMember atEnd readRows readHeader reading heldUntil rateInForce folded life lives unit nextRow row placed termOf rowTerms singleTerms replacedTerm replacedTerms terms sumD sumH D H lambda load w truncation mean t alternating multiplied start c startBound entries sumR sumF nextCell cells sumBelow boundBelow premium within loading withBound gross first unmatched half wide anyShort short refuse at0 firstMember valued matched verdict fundTerms fundStart fundCells fundTruncation fundMean fundPremium fundWithin fundFigures lineAt part refused lent accepted answerOf answerTo answer runningSum text file oneBeyond grossFiles
 every-file = refl

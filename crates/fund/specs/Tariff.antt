@@ -18,9 +18,9 @@ notNegative (pos n) = n
 notNegative (negsuc n) = 0
 
 -- "(premium + its bound), or 0 where that sum is negative"
-unfoldable pub covered : ℤ → ℕ → ℕ
-covered premium within = notNegative (premium +ℤ pos within)
+unfoldable pub withBound : ℤ → ℕ → ℕ
+withBound premium within = notNegative (premium +ℤ pos within)
 
 -- ".., times the worth, times a loading in thousandths. It is divided once by 10^15 and taken up to a whole centime."
 unfoldable pub gross : ℕ → ℕ → ℤ → ℕ → ℕ
-gross M worth premium within = up (covered premium within * worth * loading M) (10 ^ 15)
+gross M worth premium within = up (withBound premium within * worth * loading M) (10 ^ 15)

@@ -12,7 +12,7 @@ use Rattle.rounding.specs.Rounding.{up}
 use Rattle.rounding.proofs.Laws.{neg-below, up-low}
 use Rattle.fund.specs.Base.{if_then_else_}
 use Rattle.fund.specs.Limits.{second-step, third-step, fourth-step, first-loading, second-loading, third-loading, fourth-loading}
-use Rattle.fund.specs.Tariff.{loading, notNegative, covered, gross}
+use Rattle.fund.specs.Tariff.{loading, notNegative, withBound, gross}
 
 pub loading-le : (M : ℕ) → loading M ≤ fourth-loading
 unfolding loading
@@ -24,7 +24,7 @@ loading-le M = go (ltb M second-step) (ltb M third-step) (ltb M fourth-step)
     go false false true = omega arith
     go false false false = omega arith
 
--- ---- what is covered: the sum by the premium's sign
+-- ---- a premium with its bound, by the premium's sign
 left-over : (a b : ℕ) → notNegative (subℕ a b) ≡ a - b
 left-over a b = go (ltb a b) (ltb→lt a b) (nltb→le a b)
   where
@@ -32,13 +32,13 @@ left-over a b = go (ltb a b) (ltb→lt a b) (nltb→le a b)
     go true h g = let l : a < b = h tt in omega arith
     go false h g = refl
 
-pub covered-pos : (p within : ℕ) → covered (pos p) within ≡ p + within
-unfolding covered
-covered-pos p within = refl
+pub withBound-pos : (p within : ℕ) → withBound (pos p) within ≡ p + within
+unfolding withBound
+withBound-pos p within = refl
 
-pub covered-neg : (p within : ℕ) → covered (negsuc p) within ≡ within - suc p
-unfolding covered
-covered-neg p within = left-over within (suc p)
+pub withBound-neg : (p within : ℕ) → withBound (negsuc p) within ≡ within - suc p
+unfolding withBound
+withBound-neg p within = left-over within (suc p)
 
 -- ---- how much above, where two numbers differ by at most c
 sub-above : (a b c : ℕ) → natAbs (subℕ a b) ≤ c → b ≤ a + c
@@ -58,21 +58,21 @@ difference-below zero (suc z) c h = omega (arith, sub-above 0 (suc z) c h)
 difference-below (suc x) zero c h = omega (arith, sub-above 0 (suc x) c h)
 difference-below (suc x) (suc z) c h = let k : suc (suc (x + z)) ≤ c = h in omega arith
 
--- a number within D × bound of D × premium is at most D times what is covered
-covered-above : (D z within : ℕ) (premium : ℤ) → natAbs (pos D *ℤ premium -ℤ pos z) ≤ D * within → z ≤ D * covered premium within
-covered-above D z within (pos p) h =
-    rw (covered-pos p within) (omega (arith, difference-above (D * p) z (D * within) h, N.mul-add D p within))
-covered-above D z within (negsuc p) h =
-    rw (covered-neg p within) (omega (arith, difference-below (D * suc p) z (D * within) h, N.mul-sub D within (suc p)))
+-- a number within D × bound of D × premium is at most D times premium and bound
+withBound-above : (D z within : ℕ) (premium : ℤ) → natAbs (pos D *ℤ premium -ℤ pos z) ≤ D * within → z ≤ D * withBound premium within
+withBound-above D z within (pos p) h =
+    rw (withBound-pos p within) (omega (arith, difference-above (D * p) z (D * within) h, N.mul-add D p within))
+withBound-above D z within (negsuc p) h =
+    rw (withBound-neg p within) (omega (arith, difference-below (D * suc p) z (D * within) h, N.mul-sub D within (suc p)))
 
 -- D is a denominator, and `exact` a premium times D.
 pub gross-covers : (D M worth within : ℕ) (premium exact : ℤ) → natAbs (pos D *ℤ premium -ℤ exact) ≤ D * within →
     (exact *ℤ pos (worth * loading M)) ≤ℤ pos (gross M worth premium within * 10 ^ 15 * D)
 unfolding gross
 gross-covers D M worth within premium (negsuc z) h = neg-below (suc z * (worth * loading M)) _
-gross-covers D M worth within premium (pos z) h = record { le = le→leb _ _ (loaded (covered premium within) (covered-above D z within premium h)) }
+gross-covers D M worth within premium (pos z) h = record { le = le→leb _ _ (loaded (withBound premium within) (withBound-above D z within premium h)) }
   where
-    -- the loaded worth of what is covered, divided by 10^15, is not above the gross premium
+    -- the loaded worth of premium and bound, divided by 10^15, is not above the gross premium
     loaded : (c : ℕ) → z ≤ D * c → z * (worth * loading M) ≤ up (c * worth * loading M) (10 ^ 15) * 10 ^ 15 * D
     loaded c g =
         N.le-trans (N.mul-le-mul-right (worth * loading M) g)

@@ -1,5 +1,5 @@
 -- The two's complement of a word below 0 (below-bits) and of any other (above-bits), and the number back from it (bits-read).
-use mathlib.Core.Path.{_≡_, refl, sym, ap, _∙_}
+use mathlib.Core.Path.{_≡_, refl, ap, _∙_}
 use mathlib.Core.Bool.{Bool, true, false}
 use Prim.Native.Nat.{ℕ, _-_, _^_}
 use native.Mathlib.Omega.{arith}
@@ -8,13 +8,9 @@ use lib.IntN.{ℤ, pos, negsuc, natAbs}
 use lib.Signed.{ltZ}
 use mir.Syntax.{w64}
 use mir.Val.{SFits, toZ, ofZ}
-use mir.Facts.{toZ-ofZ}
+use Rattle.whole.proofs.Signs.{sign}
 use Rattle.fund.specs.Base.{if_then_else_}
 use Rattle.miguepo.specs.Bits.{bitsOf, readSigned}
-
--- The test of the sign is made on the word's bits.
-sign : (z : ℤ) {b : Bool} → SFits w64 z → ltZ (toZ w64 (ofZ w64 z)) (pos 0) ≡ b → ltZ z (pos 0) ≡ b
-sign z f t = ap (λ k. ltZ k (pos 0)) (sym (toZ-ofZ f)) ∙ t
 
 below-at : (z : ℤ) → ltZ z (pos 0) ≡ true → 0xffff_ffff_ffff_ffff - (natAbs z - 1) ≡ bitsOf z
 unfolding bitsOf

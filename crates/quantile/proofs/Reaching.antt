@@ -1,5 +1,5 @@
 -- Whether a sum in a word reaches a level, by its sign and its size (below-zero, by-size).
-use mathlib.Core.Path.{_≡_, refl, sym, _∙_, ap}
+use mathlib.Core.Path.{_≡_, refl}
 use mathlib.Core.Bool.{true, false, true≢false}
 use Prim.Native.Nat.{ℕ}
 use native.Mathlib.Omega.{arith}
@@ -9,7 +9,7 @@ use lib.IntN.{ℤ, pos, negsuc, natAbs}
 use lib.Signed.{ltZ}
 use mir.Syntax.{w64}
 use mir.Val.{SFits, toZ, ofZ}
-use mir.Facts.{toZ-ofZ}
+use Rattle.whole.proofs.Signs.{sign}
 use Rattle.fund.specs.Quantile.{reaches}
 
 module _ (level : ℕ) where
@@ -25,7 +25,7 @@ module _ (level : ℕ) where
 
   module _ (z : ℤ) (f : SFits w64 z) where
     pub below-zero : ltZ (toZ w64 (ofZ w64 z)) (pos 0) ≡ true → false ≡ reaches level z
-    below-zero t = below-at z (ap (λ k. ltZ k (pos 0)) (sym (toZ-ofZ f)) ∙ t)
+    below-zero t = below-at z (sign z f t)
 
     pub by-size : ltZ (toZ w64 (ofZ w64 z)) (pos 0) ≡ false → leb level (natAbs z) ≡ reaches level z
-    by-size t = size-at z (ap (λ k. ltZ k (pos 0)) (sym (toZ-ofZ f)) ∙ t)
+    by-size t = size-at z (sign z f t)

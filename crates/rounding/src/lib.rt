@@ -1,4 +1,4 @@
-// Products of two words, divided by a unit and rounded: the only arithmetic wider than a word.
+// Products of two words, divided by a unit and rounded, which are wider than a word.
 // A product is taken apart in base 10^6, so that every part fits a word. Where b is below the unit, every divisor but n
 // is a constant.
 

@@ -1,3 +1,3 @@
 pub mod Answering
-mod Covering
+mod WithBound
 mod Parts

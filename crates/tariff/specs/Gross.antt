@@ -6,8 +6,8 @@ use Rattle.fund.specs.declared.Fund.{Fund}
 use Rattle.fund.specs.Base.{if_then_else_}
 use Rattle.fund.specs.Limits.{least-worth, most-worth}
 use Rattle.fund.specs.Reading.{between}
-use Rattle.fund.specs.Tariff.{covered, gross}
-use Rattle.tariff.specs.declared.Covered.{Covered}
+use Rattle.fund.specs.Tariff.{withBound, gross}
+use Rattle.tariff.specs.declared.TwoWords.{TwoWords}
 use Rattle.tariff.specs.declared.Gross.{Gross}
 use Rattle.tariff.specs.declared.Gross.the-variants.{Centimes, Outside}
 
@@ -16,8 +16,8 @@ unfoldable pub grossOf : Fund → ℤ → ℕ → Gross
 grossOf fund premium within =
     if between least-worth most-worth (fund .worth) then Centimes (gross (fund .deductible) (fund .worth) premium within) else Outside
 
--- A premium with its bound in two words.
-pub record CoveredAs (premium : ℤ) (within : ℕ) (c : Covered) : Type 0 where
-  pub sum-is : c .high * 10 ^ 15 + c .low ≡ covered premium within
+-- A premium with its bound, in two words.
+pub record InTwoWords (premium : ℤ) (within : ℕ) (c : TwoWords) : Type 0 where
+  pub sum-is : c .high * 10 ^ 15 + c .low ≡ withBound premium within
   pub high-le : c .high ≤ 27669
   pub low-lt : c .low < 2 * 10 ^ 15

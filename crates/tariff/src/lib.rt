@@ -4,12 +4,12 @@ ghost use mathlib.Core.Path.{_≡_};
 ghost use Prim.Native.Nat.{_+_, _*_, _^_, _<_, _≤_};
 ghost use Rattle.rounding.specs.Rounding.{up};
 ghost use Rattle.fund.specs.Tariff.{loading};
-ghost use Rattle.tariff.specs.Gross.{grossOf, CoveredAs};
+ghost use Rattle.tariff.specs.Gross.{grossOf, InTwoWords};
 
 // The unit of a premium times the unit of a loading.
 const SCALE: u64 = 1000000000000000;
 
-// The scale's two factors: a part of the sum below the first, times the price, fits a word.
+// The scale's two factors: a part of the sum below the first, times the loaded worth, fits a word.
 const PART: u64 = 100000000;
 
 const PARTS: u64 = 10000000;
@@ -20,8 +20,8 @@ pub enum Gross {
     Outside,
 }
 
-// A premium with its bound, or 0 where that is negative: it may be more than a word, and is high * 10^15 + low.
-struct Covered {
+// A number that may be more than a word: high * 10^15 + low.
+struct TwoWords {
     high: u64,
     low: u64,
 }
@@ -42,33 +42,34 @@ fn loading(deductible: u64) -> u64
     Fund::FOURTH_LOADING
 }
 
-fn covered_by(premium: i64, within: u64) -> Covered
-    ensures { λ c. ⌜ CoveredAs premium within c ⌝ }
+// The premium with its bound.
+fn with_bound(premium: i64, within: u64) -> TwoWords
+    ensures { λ c. ⌜ InTwoWords premium within c ⌝ }
 {
     let size = whole::magnitude(premium);
     if premium < 0 {
         if within < size {
-            return Covered { high: 0, low: 0 };
+            return TwoWords { high: 0, low: 0 };
         }
         let left = within - size;
-        return Covered {
+        return TwoWords {
             high: left / SCALE,
             low: left % SCALE,
         };
     }
-    Covered {
+    TwoWords {
         high: size / SCALE + within / SCALE,
         low: size % SCALE + within % SCALE,
     }
 }
 
-// high * 10^15 + low, times the price, divided by 10^15 once, up: less than 10^15 is added before the division.
-fn centimes(high: u64, low: u64, price: u64) -> u64
-    requires { ⌜ (high ≤ 27669) × (low < 2 * 10 ^ 15) × (price ≤ 21000000000) ⌝ }
-    ensures { λ r. ⌜ r ≡ up ((high * 10 ^ 15 + low) * price) (10 ^ 15) ⌝ }
+// high * 10^15 + low, times the loaded worth, divided by 10^15 once, up: less than 10^15 is added before the division.
+fn centimes(high: u64, low: u64, loaded: u64) -> u64
+    requires { ⌜ (high ≤ 27669) × (low < 2 * 10 ^ 15) × (loaded ≤ 21000000000) ⌝ }
+    ensures { λ r. ⌜ r ≡ up ((high * 10 ^ 15 + low) * loaded) (10 ^ 15) ⌝ }
 {
-    let rest = low % PART * price + (SCALE - 1);
-    high * price + (low / PART * price + rest / PART) / PARTS
+    let rest = low % PART * loaded + (SCALE - 1);
+    high * loaded + (low / PART * loaded + rest / PART) / PARTS
 }
 
 // The gross premium of a fund with these terms, whatever the premium and its bound.
@@ -81,7 +82,8 @@ pub fn gross_premium(fund: Fund, premium: i64, within: u64) -> Gross
     if Fund::MOST_WORTH < fund.worth {
         return Gross::Outside;
     }
-    let price = fund.worth * loading(fund.deductible);
-    let sum = covered_by(premium, within);
-    Gross::Centimes(centimes(sum.high, sum.low, price))
+    // The loaded worth of one unit.
+    let loaded = fund.worth * loading(fund.deductible);
+    let sum = with_bound(premium, within);
+    Gross::Centimes(centimes(sum.high, sum.low, loaded))
 }

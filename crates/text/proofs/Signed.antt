@@ -1,6 +1,6 @@
 -- What is written for a word below 0 (signed-below) and for any other (signed-above).
 use mathlib.Core.Path.{_≡_, refl, sym, ap, _∙_}
-use mathlib.Core.Bool.{Bool, true, false}
+use mathlib.Core.Bool.{true, false}
 use mathlib.Core.List.{_∷_}
 use Prim.Native.Nat.{ℕ}
 use native.Mathlib.Omega.{arith}
@@ -10,11 +10,8 @@ use lib.Signed.{ltZ}
 use mir.Syntax.{w64}
 use mir.Val.{SFits, toZ, ofZ}
 use mir.Facts.{toZ-ofZ}
+use Rattle.whole.proofs.Signs.{sign}
 use Rattle.fund.specs.Listing.{decimal, signedDecimal}
-
--- The test of the sign is made on the word's bits.
-sign : (z : ℤ) {b : Bool} → SFits w64 z → ltZ (toZ w64 (ofZ w64 z)) (pos 0) ≡ b → ltZ z (pos 0) ≡ b
-sign z f t = ap (λ k. ltZ k (pos 0)) (sym (toZ-ofZ f)) ∙ t
 
 not-false : {A : Type 0} → true ≡ false → A
 not-false e = let z : _≡_ {A = ℕ} 0 1 = cc in absurd (omega arith)

@@ -1,4 +1,4 @@
--- A number by its sign and its magnitude: how an i64 holds it (Minus, Flip, keep), and differences, sums and roundings of it
+-- A number by its sign and its magnitude: how an i64 holds it (sign, Minus, Flip, keep), and differences, sums and roundings of it
 -- (diff, diff-neg, with-part-is, nearest-signed, nearest-times).
 use mathlib.Core.Path.{_≡_, refl, sym, ap, _∙_}
 use mathlib.Core.Bool.{Bool, true, false}
@@ -19,6 +19,10 @@ use Rattle.algebra.specs.Solver.{_⊕_, _⊝_, _:=_, ring3}
 use Rattle.whole.specs.declared.Sums.{Sums}
 use Rattle.whole.specs.Sign.{signed}
 use Rattle.whole.specs.Sums.{withPart, PartFits, WithPart}
+
+-- the test of the sign is made on the word's bits
+pub sign : (z : ℤ) {b : Bool} → SFits w64 z → ltZ (toZ w64 (ofZ w64 z)) (pos 0) ≡ b → ltZ z (pos 0) ≡ b
+sign z f t = ap (λ k. ltZ k (pos 0)) (sym (toZ-ofZ f)) ∙ t
 
 -- 0 - m, for a magnitude m
 neg-fits : (m : ℕ) → m < 2 ^ 63 → SFits w64 (negℤ (pos m))
@@ -53,7 +57,7 @@ flip-at (negsuc n) f t =
     record { fits = rw e g; is = rw e (toZ-ofZ g ∙ ap pos s); low = omega arith; high = f .sfits }
 
 pub flip : (z : ℤ) → SFits w64 z → ltZ (toZ w64 (ofZ w64 z)) (pos 0) ≡ true → Flip z
-flip z f t = flip-at z f (ap (λ k. ltZ k (pos 0)) (sym (toZ-ofZ f)) ∙ t)
+flip z f t = flip-at z f (sign z f t)
 
 -- a number that is not negative
 keep-at : (z : ℤ) → SFits w64 z → ltZ z (pos 0) ≡ false → T (nonNeg z) × (natAbs z < 2 ^ 64)
@@ -64,7 +68,7 @@ keep-at (negsuc n) f t = absurd (clash t)
     clash e = let u : _≡_ {A = ℕ} 0 1 = cc in omega arith
 
 pub keep : (z : ℤ) → SFits w64 z → ltZ (toZ w64 (ofZ w64 z)) (pos 0) ≡ false → T (nonNeg z) × (natAbs z < 2 ^ 64)
-keep z f t = keep-at z f (ap (λ k. ltZ k (pos 0)) (sym (toZ-ofZ f)) ∙ t)
+keep z f t = keep-at z f (sign z f t)
 
 -- differences
 pub diff : (m n : ℕ) → n ≤ m → pos (m - n) ≡ pos m -ℤ pos n

@@ -1,9 +1,9 @@
--- `tariff::gross_premium`: outside the worth's range, else the sum's product with the price.
+-- `tariff::gross_premium`: outside the worth's range, else the sum's product with the loaded worth.
 use Prim.Native.Nat.{_*_, _≤_}
 use native.Mathlib.Omega.{arith}
 use borrow.Author.Needs.{needs}
 use mir.Facts.{toZ-ofZ}
-use Rattle.tariff.proofs.Answering.{price-le, gross-low, gross-high, gross-from}
+use Rattle.tariff.proofs.Answering.{loaded-le, gross-low, gross-high, gross-from}
 use Rattle.tariff.proofs.gross_premium.Statement.{statement}
 use Rattle.tariff.proofs.gross_premium.Tie as tie
 
@@ -16,20 +16,20 @@ returns-2 c = let a = c .before .before .before .before .args in gross-high (a .
 loading-requires : tie.Need-loading-requires
 loading-requires c κs = search needs
 
--- the price fits a word
-price-small : (c : tie.After-loading) → let f = c .before .before .before .before .before .args .fund in f .worth * c .loading .result ≤ 21000000000
-price-small c =
+-- the loaded worth fits a word
+loaded-small : (c : tie.After-loading) → let f = c .before .before .before .before .before .args .fund in f .worth * c .loading .result ≤ 21000000000
+loaded-small c =
     let f = c .before .before .before .before .before .args .fund in
-    rw (c .loading .ensures) (price-le (f .worth) _ (omega arith))
+    rw (c .loading .ensures) (loaded-le (f .worth) _ (omega arith))
 
-mul-price : tie.Need-mul-price
-mul-price c = omega (arith, price-small (c .before))
+mul-loaded : tie.Need-mul-loaded
+mul-loaded c = omega (arith, loaded-small (c .before))
 
-covered-by-requires : tie.Need-covered-by-requires
-covered-by-requires c κs = search needs
+with-bound-requires : tie.Need-with-bound-requires
+with-bound-requires c κs = search needs
 
 centimes-requires : tie.Need-centimes-requires
-centimes-requires c κs = let k = c .covered-by .ensures in (k .high-le, k .low-lt, price-small (c .before .before))
+centimes-requires c κs = let k = c .with-bound .ensures in (k .high-le, k .low-lt, loaded-small (c .before .before))
 
 returns-3 : tie.Need-returns-3
 returns-3 c =
@@ -37,8 +37,8 @@ returns-3 c =
     let l = k .before .before in
     let s = l .before .before .before .before .before in
     let a = s .args in
-    rw (c .centimes .ensures, l .loading .ensures) (gross-from (a .fund) (a .premium) (a .within) (k .covered-by .result) (rw (toZ-ofZ (s .fits .premium)) at (k .covered-by .ensures)) (omega arith) (omega arith))
+    rw (c .centimes .ensures, l .loading .ensures) (gross-from (a .fund) (a .premium) (a .within) (k .with-bound .result) (rw (toZ-ofZ (s .fits .premium)) at (k .with-bound .ensures)) (omega arith) (omega arith))
 
 pub gross-premium-spec : {M : Type 1} → statement M
 gross-premium-spec =
-    tie.close (tie.spec returns returns-2 loading-requires mul-price covered-by-requires centimes-requires returns-3)
+    tie.close (tie.spec returns returns-2 loading-requires mul-loaded with-bound-requires centimes-requires returns-3)

@@ -1,9 +1,9 @@
--- `tariff::covered_by`: the premium and its bound, added where the premium is not negative, else what the bound leaves.
+-- `tariff::with_bound`: the premium and its bound, added where the premium is not negative, else what the bound leaves.
 use native.Mathlib.Omega.{arith}
 use borrow.Author.Needs.{needs}
-use Rattle.tariff.proofs.Covering.{size-le, covered-below, covered-above}
-use Rattle.tariff.proofs.covered_by.Statement.{statement}
-use Rattle.tariff.proofs.covered_by.Tie as tie
+use Rattle.tariff.proofs.WithBound.{size-le, withBound-below, withBound-above}
+use Rattle.tariff.proofs.with_bound.Statement.{statement}
+use Rattle.tariff.proofs.with_bound.Tie as tie
 
 magnitude-requires : tie.Need-magnitude-requires
 magnitude-requires c κs = search needs
@@ -13,7 +13,7 @@ returns c =
     let t = c .before in
     let m = t .before in
     let s = m .before in
-    let e = covered-below (s .args .premium) (s .args .within) _ (s .fits .premium) (m .magnitude .ensures) (t .if1 .taken) in
+    let e = withBound-below (s .args .premium) (s .args .within) _ (s .fits .premium) (m .magnitude .ensures) (t .if1 .taken) in
     record { sum-is = omega (arith, e); high-le = omega arith; low-lt = omega arith }
 
 returns-2 : tie.Need-returns-2
@@ -21,7 +21,7 @@ returns-2 c =
     let t = c .before in
     let m = t .before in
     let s = m .before in
-    let e = covered-below (s .args .premium) (s .args .within) _ (s .fits .premium) (m .magnitude .ensures) (t .if1 .taken) in
+    let e = withBound-below (s .args .premium) (s .args .within) _ (s .fits .premium) (m .magnitude .ensures) (t .if1 .taken) in
     record { sum-is = omega (arith, e); high-le = omega arith; low-lt = omega arith }
 
 add-t11 : tie.Need-add-t11
@@ -34,9 +34,9 @@ returns-3 : tie.Need-returns-3
 returns-3 c =
     let m = c .before in
     let s = m .before in
-    let e = covered-above (s .args .premium) (s .args .within) _ (s .fits .premium) (m .magnitude .ensures) (c .if1 .left) in
+    let e = withBound-above (s .args .premium) (s .args .within) _ (s .fits .premium) (m .magnitude .ensures) (c .if1 .left) in
     let l = size-le (s .args .premium) (s .args .within) _ (s .fits .premium) (m .magnitude .ensures) in
     record { sum-is = omega (arith, e); high-le = omega (arith, l); low-lt = omega arith }
 
-pub covered-by-spec : {M : Type 1} → statement M
-covered-by-spec = tie.close (tie.spec magnitude-requires returns returns-2 add-t11 add-t14 returns-3)
+pub with-bound-spec : {M : Type 1} → statement M
+with-bound-spec = tie.close (tie.spec magnitude-requires returns returns-2 add-t11 add-t14 returns-3)
