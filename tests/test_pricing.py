@@ -25,6 +25,7 @@ import pricing
 import quantile_funds
 import rate_funds
 import tariff_funds
+import triangle
 
 SHORT_SLICES = (26, 25, 27, 25, 28)     # the small funds have X up to 24
 
@@ -345,6 +346,31 @@ def even_added(D, H, n, x, v):
     H[x] += x
 
 
+def rounded_apart(row, q, i, p):
+    """The two parts of a v rounded each by itself."""
+    return [pricing.nearest(q * (row[l - 1] if l else 0), p) + pricing.nearest(i * row[l], p)
+            for l in range(len(row))]
+
+
+def neighbours_swapped(row, q, i, p):
+    return right_next_row(row, i, q, p)
+
+
+def over_the_row(row, q, i, p):
+    """Made in the row's own cells from the left: the neighbour is already the new one."""
+    row = list(row)
+    for l in range(len(row)):
+        row[l] = pricing.nearest(q * (row[l - 1] if l else 0) + i * row[l], p)
+    return row
+
+
+def last_column_left_out(row, q, i, p):
+    """As if row n + 1 ended at column n."""
+    made = right_next_row(row, q, i, p)
+    columns = max(l for l in range(len(row)) if row[l] or not l) + 1
+    return made[:columns] + [0] * (len(row) - columns)
+
+
 def equal_ages_pass(rate_rows, age, q, i):
     before = [row for row in rate_rows if row[0] != age]
     return right_rate_in_range(before, age, q, i)
@@ -488,6 +514,7 @@ def half_before_folding(member, q, i):
 
 right_is_placed = pricing.is_placed
 right_mean = pricing.mean
+right_next_row = pricing.next_row
 right_rate_in_range = pricing.rate_in_range
 right_fold = pricing.fold
 right_numbers_of = pricing.numbers_of
@@ -508,6 +535,10 @@ MUTATIONS = (
     ("r instead of r + 1 steps of w", "truncation_steps", lambda order: order),
     ("last term of an equal pair kept", "is_placed", last_of_pair),
     ("even terms added", "place_term", even_added),
+    ("a v rounded in two parts", "next_row", rounded_apart),
+    ("the neighbours of a v swapped", "next_row", neighbours_swapped),
+    ("a row made over the row above it", "next_row", over_the_row),
+    ("a row without its last column", "next_row", last_column_left_out),
     ("half tested before folding", "fold", half_before_folding),
     ("equal ages pass", "rate_in_range", equal_ages_pass),
     ("a last line without line feed passes", "numbers_of", open_line_passes),
@@ -700,6 +731,7 @@ def sections():
     yield "tariff", (tariff_funds.checks() + answer_checks(tariff_funds.cases() + steps)
                      + reading_checks(tariff_funds.cases()) + distance_checks(tariff_funds.cases())
                      + formula_checks(tariff_funds.cases()))
+    yield "triangle", triangle.checks()
     yield "larger funds", large_checks(generate.large_funds(9, 6) + steps[::6])
     yield "stored cases", case_tool_checks() + stream_checks()
     yield "exact rows", row_checks()

@@ -1,10 +1,8 @@
 -- The rounded triangle of a group 1 life against the exact one: |v(n,l) - U V(n,l)| ≤ n / 2 for l to 12, by induction on n, since
 -- q + i ≤ p keeps an error and each rounding adds a half (row-close). So a placed term is off by at most its place (placed-close).
 use mathlib.Core.Path.{_≡_, refl, sym, _∙_, ap, ap₂, subst}
-use mathlib.Core.List.{List, [], _∷_}
 use Prim.Native.Nat.{ℕ, zero, suc, _<_, _+_ as _+ⁿ_, _*_ as _*ⁿ_, _≤_ as _≤ⁿ_}
 use native.Mathlib.Omega.{arith}
-use lib.ListN.{length, getD, getD-replicate}
 use Rattle.algebra.specs.Solver.{𝟎, 𝟏, _⊕_, _⊗_, _⊝_, _:=_, ring1, ring2, ring3, ring4, ring7}
 use Rattle.algebra.specs.Q.{ℚ, ℚ-ring, zeroQ, _+_, _-_, _*_, _≤_, abs, ≤-trans, ≤-of-eq, ≤-mul-left, ≤-mul-right, mul-nn, abs-scale, abs-zero-le, abs-add-le, abs-subst}
 use Rattle.algebra.specs.Embedding.{nat, nat-zero, nat-suc, nat-add, nat-mul, nat-nn, nat-le}
@@ -13,35 +11,14 @@ use Rattle.expansion.specs.Triangle.{leftQ, rowsQ}
 use Rattle.rounding.specs.Rounding.{near}
 use Rattle.fund.specs.declared.Life.{Life}
 use Rattle.fund.specs.Folding.{claim, stay}
-use Rattle.fund.specs.Transform.{nextRow, row}
+use Rattle.fund.specs.Transform.{row}
+use Rattle.laws.specs.Triangle.{v, left, v-step, zeros-at}
 use Rattle.distance.specs.Errors.{U, near-step}
-
--- ---- a row of thirteen numbers
-length-nextRow : (m : Life) (left : ℕ) (vs : List ℕ) → length (nextRow m left vs) ≡ length vs
-unfolding nextRow
-length-nextRow m left [] = refl
-length-nextRow m left (v ∷ vs) = ap suc (length-nextRow m v vs)
-
-length-row : (m : Life) (n : ℕ) → length (row m n) ≡ 13
-unfolding row
-length-row m zero = refl
-length-row m (suc n) = length-nextRow m 0 (row m n) ∙ length-row m n
-
--- the neighbours of the place l: at l - 1 the list that starts with the one on the left
-getD-nextRow : (m : Life) (left : ℕ) (vs : List ℕ) (l : ℕ) → l < length vs →
-    getD (nextRow m left vs) l 0 ≡ near (m .q *ⁿ getD (left ∷ vs) l 0 +ⁿ m .i *ⁿ getD vs l 0) (stay m)
-unfolding nextRow
-getD-nextRow m left [] l h = absurd (omega arith)
-getD-nextRow m left (v ∷ vs) zero h = refl
-getD-nextRow m left (v ∷ vs) (suc l) h = getD-nextRow m v vs l (omega arith)
 
 nothing-close : (e : ℚ) → zeroQ ≤ e → abs (nat 0 - U * zeroQ) ≤ e
 nothing-close e h = abs-subst (ring1 ℚ-ring (λ u. 𝟎 := 𝟎 ⊝ u ⊗ 𝟎) tt U ∙ ap (λ x. x - U * zeroQ) (sym nat-zero)) (abs-zero-le h)
 
 module _ (m : Life) (stay-pos : 0 < stay m) (small : claim m ≤ⁿ stay m) where
-  abbrev v : ℕ → ℕ → ℕ
-  v n l = getD (row m n) l 0
-
   abbrev exactV : ℕ → ℕ → ℚ
   exactV n l = rowsQ (m .q) (m .i) (stay m) n l
 
@@ -72,39 +49,39 @@ module _ (m : Life) (stay-pos : 0 < stay m) (small : claim m ≤ⁿ stay m) wher
   halves-nn : (n : ℕ) → zeroQ ≤ nat n * halfQ
   halves-nn n = mul-nn (nat-nn n) half-nn
 
-  row-close : (n l : ℕ) → l ≤ⁿ 12 → abs (nat (v n l) - U * exactV n l) ≤ nat n * halfQ
+  row-close : (n l : ℕ) → l ≤ⁿ 12 → abs (nat (v m n l) - U * exactV n l) ≤ nat n * halfQ
   unfolding row rowsQ
   row-close zero zero h = abs-subst (ring1 ℚ-ring (λ u. 𝟎 := u ⊝ u ⊗ 𝟏) tt U) (abs-zero-le (halves-nn 0))
-  row-close zero (suc l) h = subst (λ x. abs (nat x - U * zeroQ) ≤ nat 0 * halfQ) (sym (getD-replicate 12 l 0 0 (omega arith)))
+  row-close zero (suc l) h = subst (λ x. abs (nat x - U * zeroQ) ≤ nat 0 * halfQ) (sym (zeros-at 12 l))
       (nothing-close (nat 0 * halfQ) (halves-nn 0))
   row-close (suc n) l h =
       subst (λ x. abs (nat x - U * exactV (suc n) l) ≤ nat (suc n) * halfQ)
-      (sym (getD-nextRow m 0 (row m n) l (let e = length-row m n in omega arith)))
-      (≤-trans (entry-close (getD (0 ∷ row m n) l 0) (v n l) (leftQ (exactV n) l) (exactV n l) (nat n * halfQ) (halves-nn n)
-      (left l h (row-close n)) (row-close n l h))
+      (sym (v-step m n l h))
+      (≤-trans (entry-close (left m n l) (v m n l) (leftQ (exactV n) l) (exactV n l) (nat n * halfQ) (halves-nn n)
+      (left-close l h (row-close n)) (row-close n l h))
       (≤-of-eq (ring2 ℚ-ring (λ n h. h ⊕ n ⊗ h := (n ⊕ 𝟏) ⊗ h) tt (nat n) halfQ ∙ ap (λ x. x * halfQ) (sym (nat-suc n)))))
     where
-      left : (l : ℕ) → l ≤ⁿ 12 → ((l : ℕ) → l ≤ⁿ 12 → abs (nat (v n l) - U * exactV n l) ≤ nat n * halfQ) →
-          abs (nat (getD (0 ∷ row m n) l 0) - U * leftQ (exactV n) l) ≤ nat n * halfQ
-      left zero h rest = nothing-close (nat n * halfQ) (halves-nn n)
-      left (suc l) h rest = rest l (omega arith)
+      left-close : (l : ℕ) → l ≤ⁿ 12 → ((l : ℕ) → l ≤ⁿ 12 → abs (nat (v m n l) - U * exactV n l) ≤ nat n * halfQ) →
+          abs (nat (left m n l) - U * leftQ (exactV n) l) ≤ nat n * halfQ
+      left-close zero h rest = nothing-close (nat n * halfQ) (halves-nn n)
+      left-close (suc l) h rest = rest l (omega arith)
 
   -- a term at the place x ≥ 1
   pub placed-close : (x n l : ℕ) → 0 < x → l ≤ⁿ 12 →
-      abs (nat (near (x *ⁿ v (suc n) l) (suc n)) - U * over (nat x * exactV (suc n) l) (suc n)) ≤ nat x
+      abs (nat (near (x *ⁿ v m (suc n) l) (suc n)) - U * over (nat x * exactV (suc n) l) (suc n)) ≤ nat x
   placed-close x n l x-pos h =
-      ≤-trans (near-step (x *ⁿ v (suc n) l) (suc n) (omega arith) (U * o) (nat x * halfQ)
+      ≤-trans (near-step (x *ⁿ v m (suc n) l) (suc n) (omega arith) (U * o) (nat x * halfQ)
       (abs-subst exact
-      (≤-trans (≤-of-eq (abs-scale (nat x) (nat (v (suc n) l) - U * exactV (suc n) l) (nat-nn x)))
+      (≤-trans (≤-of-eq (abs-scale (nat x) (nat (v m (suc n) l) - U * exactV (suc n) l) (nat-nn x)))
       (≤-trans (≤-mul-left (nat x) (nat-nn x) (row-close (suc n) l h))
       (≤-of-eq (ring3 ℚ-ring (λ x n h. x ⊗ (n ⊗ h) := n ⊗ (x ⊗ h)) tt (nat x) (nat (suc n)) halfQ)))))) most
     where
       o : ℚ
       o = over (nat x * exactV (suc n) l) (suc n)
 
-      exact : nat x * (nat (v (suc n) l) - U * exactV (suc n) l) ≡ nat (x *ⁿ v (suc n) l) - nat (suc n) * (U * o)
-      exact = ring4 ℚ-ring (λ x a u y. x ⊗ (a ⊝ u ⊗ y) := x ⊗ a ⊝ u ⊗ (x ⊗ y)) tt (nat x) (nat (v (suc n) l)) U (exactV (suc n) l)
-          ∙ ap₂ _-_ (sym (nat-mul x (v (suc n) l)))
+      exact : nat x * (nat (v m (suc n) l) - U * exactV (suc n) l) ≡ nat (x *ⁿ v m (suc n) l) - nat (suc n) * (U * o)
+      exact = ring4 ℚ-ring (λ x a u y. x ⊗ (a ⊝ u ⊗ y) := x ⊗ a ⊝ u ⊗ (x ⊗ y)) tt (nat x) (nat (v m (suc n) l)) U (exactV (suc n) l)
+          ∙ ap₂ _-_ (sym (nat-mul x (v m (suc n) l)))
           (ap (λ y. U * y) (sym (over-ok (nat x * exactV (suc n) l) (suc n) (omega arith)))
           ∙ ring3 ℚ-ring (λ u n o. u ⊗ (n ⊗ o) := n ⊗ (u ⊗ o)) tt U (nat (suc n)) o)
 

@@ -1,4 +1,5 @@
 pub mod Accepted
+pub mod Triangle
 pub mod Tables
 pub mod Cells
 pub mod Ranges

@@ -13,8 +13,7 @@ ghost use Rattle.rounding.specs.Rounding.{near};
 ghost use Rattle.fund.specs.Base.{alternate};
 ghost use Rattle.fund.specs.Limits.{half-rate, most-rate, most-order, most-frequency};
 ghost use Rattle.fund.specs.Folding.{claim, stay, single};
-ghost use Rattle.fund.specs.Transform.{nextRow, placeOf, placed as placedOf, replacedTerm, replacedTerms, row as rowOf, rowTerms, singleTerms, unit, weight};
-ghost use Rattle.laws.specs.Accepted.{All};
+ghost use Rattle.fund.specs.Transform.{placeOf, placed as placedOf, replacedTerm, replacedTerms, row as rowOf, rowTerms, singleTerms, weight};
 ghost use Rattle.widths.specs.Lives.{InRange};
 ghost use Rattle.widths.specs.Adding.{addD, addH, Room, RoomD, SingleRow, TermRoom, termsAt};
 ghost use Rattle.whole.specs.Sign.{signed};
@@ -27,9 +26,9 @@ pub(crate) struct Filling {
     pub(crate) frequency: u64,
 }
 
-// A number of a row, from the two above it. Most are 0, and are not divided.
+// A number of a row, from the two above it. Many are 0, and are not divided.
 fn entry(m: Life, left: u64, v: u64) -> u64
-    requires { ⌜ (claim m < half-rate) × (left ≤ unit) × (v ≤ unit) ⌝ }
+    requires { ⌜ (claim m < half-rate) × (m .q * left + m .i * v < 5 * 10 ^ 17) ⌝ }
     ensures { λ r. ⌜ r ≡ near (m .q * left + m .i * v) (stay m) ⌝ }
 {
     let sum = m.q * left + m.i * v;
@@ -39,15 +38,16 @@ fn entry(m: Life, left: u64, v: u64) -> u64
     nearest(sum, MILLION - (m.q + m.i))
 }
 
-// The row after `row`: v(n,l) comes from v(n-1,l-1) by q and from v(n-1,l) by i.
-fn next_row(row: [u64; 13], m: Life) -> [u64; 13]
-    requires { ⌜ (claim m < half-rate) × All (λ v. v ≤ unit) row ⌝ }
-    ensures { λ r. ⌜ r ≡ nextRow m 0 row ⌝ }
+// The row after row n, in its columns 0 to n + 1: v(n+1,l) comes from v(n,l-1) by q and from v(n,l) by i.
+fn next_row(row: [u64; 13], m: Life, n: u64) -> [u64; 13]
+    requires { ⌜ (claim m < half-rate) × (n < most-order) × (row ≡ rowOf m n) ⌝ }
+    ensures { λ r. ⌜ r ≡ rowOf m (n + 1) ⌝ }
 {
     let mut out = [0u64; 13];
+    let last = n as usize + 1;
     let mut left: u64 = 0;
     let mut l: usize = 0;
-    while l < 13 {
+    while l <= last {
         let v = row[l];
         out[l] = entry(m, left, v);
         left = v;
@@ -161,7 +161,7 @@ fn add_single(d: &mut [i64], h: &mut [u64], horizon: u64, m: Life, order: u64)
     let mut row = [UNIT, 0, 0, 0, 0, 0, 0, 0, 0, 0, 0, 0, 0];
     let mut n: u64 = 0;
     while n < order {
-        let next = next_row(row, m);
+        let next = next_row(row, m, n);
         n += 1;
         add_row(d, h, horizon, m, next, n);
         row = next;

@@ -11,7 +11,7 @@ use Rattle.fund.specs.declared.Life.{Life}
 use Rattle.fund.specs.Base.{if_then_else_, total}
 use Rattle.fund.specs.Limits.{most-horizon, most-order}
 use Rattle.fund.specs.Folding.{single}
-use Rattle.fund.specs.Transform.{Term, unit, placed, termOf, singleTerms, replacedTerms}
+use Rattle.fund.specs.Transform.{Term, placed, termOf, singleTerms, replacedTerms}
 use Rattle.widths.specs.Lives.{InRange}
 
 unfoldable pub addD : List ℤ → List Term → List ℤ
@@ -54,7 +54,7 @@ pub record TermRoom (d : List ℤ) (h : List ℕ) (x v n : ℕ) : Type 0 where
   pub n-least : 1 ≤ n
   pub n-most : n ≤ most-order
   pub place-most : x ≤ most-horizon
-  pub number-most : v ≤ unit
+  pub number-most : v ≤ 10 ^ 12
   pub d-long : x < length d
   pub h-long : x < length h
   pub d-room : natAbs (getD d x (pos 0)) + near (x * v) n ≤ 2 ^ 62

@@ -18,11 +18,11 @@ use Rattle.fund.specs.declared.Life.{Life}
 use Rattle.fund.specs.Base.{if_then_else_, total, alternate}
 use Rattle.fund.specs.Folding.{single}
 use Rattle.fund.specs.Transform.{row, placeOf, placed, termOf, rowTerms, singleTerms, weight, replacedTerm, replacedTerms}
+use Rattle.laws.specs.Triangle.{v-most}
 use Rattle.widths.specs.Adding.{addD, addH, sizeD, sizeH, Room, TermRoom, SingleRow, termsAt, lifeTerms}
 use Rattle.whole.specs.Sign.{signed}
 use Rattle.widths.specs.AddingLaws.{addH-append}
 use Rattle.widths.specs.Signed.{natAbs-neg}
-use Rattle.widths.specs.Triangle.{row-within, within-at}
 
 -- ---- the sign of a row
 pub alternate-signed : (n s : ℕ) → alternate (suc n) (pos s) ≡ signed (eqb (n % 2) 0) s
@@ -95,7 +95,7 @@ module _ (X : ℕ) (m : Life) (n l : ℕ) where
         n-least = r .n-least;
         n-most = r .n-most;
         place-most = omega (arith, x, o .inD .horizon);
-        number-most = rw g (within-at l (row m n) (row-within m (r .life .limited (r .alone)) n));
+        number-most = rw g (v-most m (r .life .limited (r .alone)) n l);
         d-long = omega (arith, x, o .inD .long);
         h-long = omega (arith, x, o .inH .long);
         d-room = rw (g, ← placed-sizeD e) (o .inD .room (placeOf m n l) x);

@@ -1,89 +1,41 @@
--- The rows of the triangle: a loop that makes the next row, the length and the largest number of a row, and the sum of a row,
--- which is at most the load of the life and a little for each rounding.
+-- The rows of the triangle: a loop that makes the next row, and the sum of a row, which is at most the load of the life and a little for
+-- each rounding.
 use mathlib.Core.Path.{_≡_, refl, sym, ap, _∙_}
-use mathlib.Core.List.{List, [], _∷_, _++_, append-assoc, append-nil}
-use Prim.Native.Nat.{ℕ, zero, suc, _+_, _*_, _≤_, _<_}
+use mathlib.Core.List.{List, [], _∷_, _++_}
+use Prim.Native.Nat.{ℕ, zero, suc, _+_, _-_, _*_, _≤_, _<_}
 use native.Mathlib.Nat as N
 use native.Mathlib.Numerals.{add-one}
 use native.Mathlib.Omega.{arith}
-use lib.ListN.{length, getD, take, drop, set, replicate, drop-of-length-le}
-use lib.Seq.{drop-cons, take-suc-set, take-all}
+use lib.ListN.{length, getD, take, drop, set, replicate, take-append-drop, length-drop}
+use lib.Seq.{paste-suc, getD-drop, ext-getD}
 use Rattle.rounding.specs.Rounding.{near, up}
-use Rattle.rounding.proofs.Laws.{near-below, near-low, up-low}
+use Rattle.rounding.proofs.Laws.{near-low, up-low}
 use Rattle.fund.specs.declared.Life.{Life}
 use Rattle.fund.specs.Base.{total}
 use Rattle.fund.specs.Folding.{claim, stay}
 use Rattle.fund.specs.Transform.{unit, nextRow, row}
-use Rattle.laws.specs.Accepted.{All}
-
--- ---- the loop: what is done, and the definition of the rest, are the whole
-pub row-step : (m : Life) (left l v : ℕ) (above out whole : List ℕ) → l < length above → l < length out
-    → v ≡ near (m .q * left + m .i * getD above l 0) (stay m)
-    → take l out ++ nextRow m left (drop l above) ≡ whole
-    → take (l + 1) (set out l v) ++ nextRow m (getD above l 0) (drop (l + 1) above) ≡ whole
-unfolding nextRow
-row-step m left l v above out whole h k g e =
-    let e′ = rw (drop-cons above l 0 h) at e in
-    rw (g, add-one, take-suc-set, append-assoc) e′
-
-pub row-end : (m : Life) (left l : ℕ) (above out whole : List ℕ) → length above ≤ l → length out ≤ l
-    → take l out ++ nextRow m left (drop l above) ≡ whole → out ≡ whole
-unfolding nextRow
-row-end m left l above out whole h k e = sym (append-nil out) ∙ rw (drop-of-length-le above h, take-all) at e
-
--- ---- every number of a row is at most a unit
-abbrev pub Within : List ℕ → Type 0
-Within vs = All (λ v. v ≤ unit) vs
-
-pub within-here : (l : ℕ) (vs : List ℕ) → l < length vs → Within (drop l vs) → (getD vs l 0 ≤ unit) × Within (drop (l + 1) vs)
-within-here l vs h a = rw add-one (rw (drop-cons vs l 0 h) at a)
-
-pub within-at : (l : ℕ) (vs : List ℕ) → Within vs → getD vs l 0 ≤ unit
-within-at l [] a = omega arith
-within-at zero (v ∷ vs) a = a .0
-within-at (suc l) (v ∷ vs) a = within-at l vs (a .1)
-
-zeros : (n : ℕ) → Within (replicate n 0)
-zeros zero = tt
-zeros (suc n) = (omega arith, zeros n)
-
--- a weighted sum of two numbers, at weights that are at most p together
-pub weighted : (q i p k x y : ℕ) → q + i ≤ p → x ≤ k → y ≤ k → q * x + i * y ≤ p * k
-weighted q i p k x y s hx hy =
-    omega (arith, N.mul-le-mul-left q hx, N.mul-le-mul-left i hy, N.mul-le-mul-right k s)
-
-module _ (m : Life) (c : claim m < 500000) where
-  next-within : (left : ℕ) (vs : List ℕ) → left ≤ unit → Within vs → Within (nextRow m left vs)
-  unfolding nextRow
-  next-within left [] h a = tt
-  next-within left (v ∷ vs) h a = (
-    near-below (m .q * left + m .i * v) (stay m) unit (omega arith) (weighted (m .q) (m .i) (stay m) unit left v (omega arith) h (a .0)),
-    next-within v vs (a .0) (a .1),
-  )
-
-  pub row-within : (n : ℕ) → Within (row m n)
-  unfolding row
-  row-within zero = (N.le-refl unit, zeros 12)
-  row-within (suc n) = next-within 0 (row m n) (omega arith) (row-within n)
-
--- ---- every row has thirteen numbers
-length-next : (m : Life) (left : ℕ) (vs : List ℕ) → length (nextRow m left vs) ≡ length vs
-unfolding nextRow
-length-next m left [] = refl
-length-next m left (v ∷ vs) = ap suc (length-next m v vs)
-
-pub length-row : (m : Life) (n : ℕ) → length (row m n) ≡ 13
-unfolding row
-length-row m zero = refl
-length-row m (suc n) = length-next m 0 (row m n) ∙ length-row m n
+use Rattle.laws.specs.Triangle.{v, length-row, zeros-at, beyond}
 
 pub row-first : (m : Life) → 1000000000000 ∷ replicate 12 0 ≡ row m 0
 unfolding row unit
 row-first m = refl
 
-pub row-next : (m : Life) (n : ℕ) (vs next : List ℕ) → vs ≡ row m n → next ≡ nextRow m 0 vs → next ≡ row m (n + 1)
-unfolding row
-row-next m n vs next e h = rw (add-one n, ← e) h
+-- ---- a loop that makes a row: the numbers before the column l, and zeros from there
+abbrev pub rowUpTo : Life → ℕ → ℕ → List ℕ
+rowUpTo m n l = take l (row m n) ++ drop l (replicate 13 0)
+
+pub row-goes-on : (m : Life) (n l x : ℕ) → l < 13 → x ≡ v m n l → set (rowUpTo m n l) l x ≡ rowUpTo m n (l + 1)
+row-goes-on m n l x h e =
+    rw (e, add-one)
+    (rw (N.zero-add l, N.zero-add (suc l)) at (paste-suc (replicate 13 0) 0 (row m n) l 0 (omega arith) (let g = length-row m n in omega arith)))
+
+pub row-made : (m : Life) → claim m < 500000 → (n l : ℕ) → n < l → rowUpTo m n l ≡ row m n
+row-made m c n l h =
+    ap (λ (r : List ℕ). take l (row m n) ++ r)
+    (ext-getD 0 (drop l (replicate 13 0)) (drop l (row m n))
+    (length-drop l (replicate 13 0) ∙ sym (length-drop l (row m n) ∙ ap (λ k. k - l) (length-row m n)))
+    (λ i g. getD-drop l (replicate 13 0) i 0 ∙ zeros-at 13 (l + i) ∙ sym (getD-drop l (row m n) i 0 ∙ beyond m c n (l + i) (omega arith))))
+    ∙ take-append-drop l (row m n)
 
 -- ---- the sum of a row
 abbrev pub sumRow : List ℕ → ℕ

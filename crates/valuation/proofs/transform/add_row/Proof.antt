@@ -5,7 +5,7 @@ use native.Mathlib.Omega.{arith}
 use lib.ListN.{length, getD}
 use Rattle.fund.specs.Transform.{row as rowOf, rowTerms}
 use Rattle.widths.specs.Adding.{SingleRow, termsAt}
-use Rattle.widths.specs.Triangle.{length-row}
+use Rattle.laws.specs.Triangle.{length-row}
 use Rattle.widths.specs.Placing.{row-start, row-goes}
 use Rattle.widths.specs.Filling.{Filling, begin, turn-room, turn, end-d, end-h, long-d, long-h}
 use Rattle.valuation.proofs.transform.add_row.Statement.{statement}

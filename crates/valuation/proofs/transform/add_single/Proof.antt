@@ -7,7 +7,7 @@ use Rattle.fund.specs.Folding.{single}
 use Rattle.fund.specs.Transform.{row as rowOf, rowTerms, singleTerms}
 use Rattle.widths.specs.Lives.{InRange}
 use Rattle.widths.specs.Adding.{SingleRow}
-use Rattle.widths.specs.Triangle.{row-within, row-first, row-next}
+use Rattle.widths.specs.Triangle.{row-first}
 use Rattle.widths.specs.Placing.{single-start, single-goes}
 use Rattle.widths.specs.Filling.{Filling, begin, turn-room, turn, end-d, end-h, long-d, long-h}
 use Rattle.valuation.proofs.transform.add_single.Statement.{statement}
@@ -38,17 +38,10 @@ loop-holds c =
 next-row-requires : tie.Need-next-row-requires Inv-loop μ-loop
 next-row-requires c κs =
     let v = c .before .loop .inv in
-    let limited = v .1 .limited (v .2) in
-    (limited, rw (v .4) (row-within _ limited _))
+    (v .1 .limited (v .2), omega (arith, v .3, c .loop-test .taken), v .4)
 
 add-n : tie.Need-add-n Inv-loop μ-loop
 add-n c = let v = c .before .before .loop .inv in omega arith
-
--- the row after
-next-is : (c : tie.After-next-row Inv-loop μ-loop) → c .next-row .result ≡ rowOf (c .before .before .before .before .args .m) (c .before .before .loop .n + 1)
-next-is c =
-    let l = c .before .before .loop in
-    row-next (c .before .before .before .before .args .m) (l .n) (l .row) (c .next-row .result) (l .inv .4) (c .next-row .ensures)
 
 add-row-requires : tie.Need-add-row-requires Inv-loop μ-loop
 add-row-requires c κs =
@@ -56,7 +49,7 @@ add-row-requires c κs =
     let a = c .before .before .before .before .before .before .args in
     let r : SingleRow (a .m) (c .before .before .before .before .loop .n + 1) = record { life = v .1; alone = v .2; n-least = omega arith; n-most = omega (arith, v .3, c .before .before .before .loop-test .taken) } in (
       r,
-      next-is (c .before .before),
+      c .before .before .next-row .ensures,
       turn-room (singleTerms (a .horizon) (a .m)) (λ n. rowTerms (a .horizon) (a .m) (n + 1) (n + 1 + 1)) (single-goes (a .horizon) (a .m)) (v .0) (c .before .before .before .loop-test .taken),
     )
 
@@ -73,7 +66,7 @@ loop-again c =
       v .1,
       v .2,
       v .3,
-      next-is i,
+      i .next-row .ensures,
     )
 
 same-length : tie.Need-same-length Inv-loop μ-loop

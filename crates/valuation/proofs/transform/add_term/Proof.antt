@@ -5,7 +5,6 @@ use Prim.Native.Nat.{_*_, _≤_, _<_}
 use native.Mathlib.Nat.{mul-le-mul, mul-zero}
 use native.Mathlib.Omega.{arith}
 use Rattle.rounding.specs.Rounding.{near}
-use Rattle.fund.specs.Transform.{unit}
 use Rattle.widths.specs.Placing.{alternate-signed, term-zero, add-nothing}
 use Rattle.valuation.proofs.transform.add_term.Statement.{statement}
 use Rattle.valuation.proofs.transform.add_term.Tie as tie
@@ -35,7 +34,6 @@ returns c =
     (add-nothing (a .d .now) (a .x) _ (term-zero (a .n) (a .x) (a .v) n (ap (λ v. a .x * v) (c .if1 .taken) ∙ mul-zero (a .x))), refl)
 
 product : (c : tie.Start) → c .args .x * c .args .v ≤ 4095 * 1000000000000
-unfolding unit
 product c = mul-le-mul (c .pre .place-most) (c .pre .number-most)
 
 mul-nearest : tie.Need-mul-nearest

@@ -1,28 +1,22 @@
--- The two products are at most 10^6 × 10^12 together.
+-- The sum before the division is below 5×10^17, and both products with it.
 use borrow.Author.Needs.{needs}
 use mathlib.Core.Path.{sym, _∙_, ap}
-use Prim.Native.Nat.{ℕ, _+_, _*_, _≤_}
+use Prim.Native.Nat.{ℕ}
 use native.Mathlib.Omega.{arith}
 use Rattle.rounding.specs.Rounding.{near}
 use Rattle.rounding.proofs.Laws.{near-zero}
 use Rattle.fund.specs.Folding.{stay}
-use Rattle.fund.specs.Transform.{unit}
-use Rattle.widths.specs.Triangle.{weighted}
 use Rattle.valuation.proofs.transform.entry.Statement.{statement}
 use Rattle.valuation.proofs.transform.entry.Tie as tie
 
-products : (c : tie.Start) → c .args .m .q * c .args .left + c .args .m .i * c .args .v ≤ 500000 * 1000000000000
-unfolding unit
-products c = weighted _ _ 500000 1000000000000 _ _ (omega arith) (c .pre .1) (c .pre .2)
-
 mul-sum : tie.Need-mul-sum
-mul-sum c = omega (arith, products (c .before))
+mul-sum c = omega (arith, c .before .pre .1)
 
 mul-sum-2 : tie.Need-mul-sum-2
-mul-sum-2 c = omega (arith, products (c .before .before))
+mul-sum-2 c = omega (arith, c .before .before .pre .1)
 
 add-sum : tie.Need-add-sum
-add-sum c = omega (arith, products (c .before .before))
+add-sum c = omega (arith, c .before .before .pre .1)
 
 returns : tie.Need-returns
 returns c =
