@@ -16,6 +16,7 @@ import pricing
 import quantile_funds
 import rate_funds
 import tariff_funds
+import triangle_funds
 
 FIGURES = "number place start length truncation mean premium within gross horizon reached quantile".split()
 
@@ -64,7 +65,7 @@ def calls(count, seed):
     known = generate.limit_funds() + generate.damaged_files() + generate.large_funds(seed, 20)
     known += quantile_funds.cases(quantile_funds.ROWS + quantile_funds.MORE_ROWS)
     known += rate_funds.cases() + generate.gap_funds(seed, 300)
-    known += tariff_funds.cases() + generate.step_funds(seed, 100)
+    known += tariff_funds.cases() + triangle_funds.cases() + generate.step_funds(seed, 100)
     for case in known + list(heavy_funds(rng, 60)):
         yield case, case.lengths
 

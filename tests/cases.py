@@ -18,7 +18,7 @@ a space, its level as thirteen decimal digits and a line feed, then its bytes.
 stdout has each listing, then `line=` and the part of the file that is handed
 back, then the line that the program `level` prints, and an empty line.  The last cases
 of a stream are those of quantile_funds.py and rate_funds.py, funds with rates for
-some ages only, and those of tariff_funds.py.
+some ages only, and those of tariff_funds.py and triangle_funds.py.
 
 The programs `listing` and `overlong` of CRATES are one program, run on a full fund
 and on a file that is longer than what is read; `level` is asked at the level in its
@@ -36,6 +36,7 @@ import pricing
 import quantile_funds
 import rate_funds
 import tariff_funds
+import triangle_funds
 
 
 LONGEST = 65536      # what the program that reads a stream has room for
@@ -139,7 +140,7 @@ def stream_pairs(count, seed):
     rng = random.Random(seed)
     made = chosen(count, seed) + quantile_funds.cases() + rate_funds.cases() + generate.gap_funds(seed, GAPS)
     return [(case.data, generate.level_of(case, rng, pricing.price(case.data), MOST_LEVEL))
-            for case in made + tariff_funds.cases() if len(case.data) <= LONGEST]
+            for case in made + tariff_funds.cases() + triangle_funds.cases() if len(case.data) <= LONGEST]
 
 
 def write_stream(directory, count, seed):

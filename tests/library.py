@@ -22,6 +22,7 @@ import pricing
 import quantile_funds
 import rate_funds
 import tariff_funds
+import triangle_funds
 
 ROOT = Path(__file__).resolve().parent.parent
 BEHIND = 3               # cells behind each slice
@@ -93,7 +94,7 @@ def cases(count, seed):
     rng = random.Random(seed)
     known = quantile_funds.cases(quantile_funds.ROWS + quantile_funds.MORE_ROWS)
     known += [generate.Case(name, text.data()) for name, text in document_funds.FUNDS.items()]
-    known += rate_funds.cases() + tariff_funds.cases() + generate.limit_funds() + generate.damaged_files()
+    known += rate_funds.cases() + tariff_funds.cases() + triangle_funds.cases() + generate.limit_funds() + generate.damaged_files()
     known += generate.step_funds(seed, 100)
     for case in known[:count]:
         yield case.data, case.lengths, generate.level_of(case, rng, pricing.price(case.data))

@@ -25,7 +25,7 @@ import pricing
 import quantile_funds
 import rate_funds
 import tariff_funds
-import triangle
+import triangle_funds
 
 SHORT_SLICES = (26, 25, 27, 25, 28)     # the small funds have X up to 24
 
@@ -609,6 +609,7 @@ def noticed(small, limits, damaged):
         "quantiles": failures(quantile_funds.checks()),
         "rates": failures(rate_funds.checks()),
         "tariff": failures(tariff_funds.checks()),
+        "triangle": failures(triangle_funds.fund_checks()),
     }
 
 
@@ -731,7 +732,8 @@ def sections():
     yield "tariff", (tariff_funds.checks() + answer_checks(tariff_funds.cases() + steps)
                      + reading_checks(tariff_funds.cases()) + distance_checks(tariff_funds.cases())
                      + formula_checks(tariff_funds.cases()))
-    yield "triangle", triangle.checks()
+    yield "triangle", (triangle_funds.checks() + answer_checks(triangle_funds.cases())
+                       + distance_checks(triangle_funds.cases()) + formula_checks(triangle_funds.cases()))
     yield "larger funds", large_checks(generate.large_funds(9, 6) + steps[::6])
     yield "stored cases", case_tool_checks() + stream_checks()
     yield "exact rows", row_checks()

@@ -168,6 +168,12 @@ wrongTurns =
       listing = text ("truncation=0" ∷ "mean=6000000000000" ∷ "cell=0,49787068368,135" ∷ "cell=1,0,1" ∷ "cell=2,149361205104,406" ∷ "cell=3,0,3" ∷ "cell=4,224041807656,610" ∷ "premium=5049787068368" ∷ "within=135" ∷ "gross=758" ∷ []);
       bounds = 135 ∷ 1 ∷ 406 ∷ 3 ∷ 610 ∷ [];
     }
+    -- A v is one sum, divided and rounded once: its two products rounded apart would give f(3) = 1.
+    ∷ record {
+      file = file "horizon=3" "order=12" "deductible=2" ("rate=40,100000,100004" ∷ "member=40,1,1,2" ∷ "end=1" ∷ []);
+      listing = text ("truncation=1529" ∷ "mean=300008000000" ∷ "cell=0,799996000000,3059" ∷ "cell=1,100000000000,3061" ∷ "cell=2,100004000000,3063" ∷ "cell=3,0,3063" ∷ "premium=0" ∷ "within=6121" ∷ "gross=1" ∷ []);
+      bounds = 1 ∷ 3 ∷ 5 ∷ 5 ∷ [];
+    }
     ∷ []
 
 -- Document 02, §2: the first fund with other rate rows, and a member of some age whose rate in force is that of the first fund.

@@ -26,7 +26,7 @@ pub(crate) struct Filling {
     pub(crate) frequency: u64,
 }
 
-// A number of a row, from the two above it. Many are 0, and are not divided.
+// A number of a row, from the two above it. Their sum is below 5×10^17, so one word is enough; where it is 0, nothing is divided.
 fn entry(m: Life, left: u64, v: u64) -> u64
     requires { ⌜ (claim m < half-rate) × (m .q * left + m .i * v < 5 * 10 ^ 17) ⌝ }
     ensures { λ r. ⌜ r ≡ near (m .q * left + m .i * v) (stay m) ⌝ }

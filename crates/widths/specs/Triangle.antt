@@ -12,6 +12,7 @@ use Rattle.rounding.specs.Rounding.{near, up}
 use Rattle.rounding.proofs.Laws.{near-low, up-low}
 use Rattle.fund.specs.declared.Life.{Life}
 use Rattle.fund.specs.Base.{total}
+use Rattle.fund.specs.Limits.{half-rate}
 use Rattle.fund.specs.Folding.{claim, stay}
 use Rattle.fund.specs.Transform.{unit, nextRow, row}
 use Rattle.laws.specs.Triangle.{v, length-row, zeros-at, beyond}
@@ -29,7 +30,7 @@ row-goes-on m n l x h e =
     rw (e, add-one)
     (rw (N.zero-add l, N.zero-add (suc l)) at (paste-suc (replicate 13 0) 0 (row m n) l 0 (omega arith) (let g = length-row m n in omega arith)))
 
-pub row-made : (m : Life) → claim m < 500000 → (n l : ℕ) → n < l → rowUpTo m n l ≡ row m n
+pub row-made : (m : Life) → claim m < half-rate → (n l : ℕ) → n < l → rowUpTo m n l ≡ row m n
 row-made m c n l h =
     ap (λ (r : List ℕ). take l (row m n) ++ r)
     (ext-getD 0 (drop l (replicate 13 0)) (drop l (row m n))
@@ -67,7 +68,7 @@ next-sum m left (v ∷ vs) =
     let g = near-low (m .q * left + m .i * v) (stay m) in
     omega arith
 
-module _ (m : Life) (c : claim m < 500000) where
+module _ (m : Life) (c : claim m < half-rate) where
   next-sum-le : (vs : List ℕ) (k : ℕ) → length vs ≡ 13 → claim m * sumRow vs ≤ stay m * k → sumRow (nextRow m 0 vs) ≤ k + 7
   next-sum-le vs k e h =
       let p : 0 < stay m = omega arith in
