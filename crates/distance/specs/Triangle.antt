@@ -1,6 +1,6 @@
 -- The rounded triangle of a group 1 life against the exact one: |v(n,l) - U V(n,l)| ≤ n / 2 for l to 12, by induction on n, since
 -- q + i ≤ p keeps an error and each rounding adds a half (row-close). So a placed term is off by at most its place (placed-close).
-use mathlib.Core.Path.{_≡_, refl, sym, _∙_, ap, ap₂, subst}
+use mathlib.Core.Path.{_≡_, sym, _∙_, ap, ap₂, subst}
 use Prim.Native.Nat.{ℕ, zero, suc, _<_, _+_ as _+ⁿ_, _*_ as _*ⁿ_, _≤_ as _≤ⁿ_}
 use native.Mathlib.Omega.{arith}
 use Rattle.algebra.specs.Solver.{𝟎, 𝟏, _⊕_, _⊗_, _⊝_, _:=_, ring1, ring2, ring3, ring4, ring7}
