@@ -5,7 +5,7 @@ use mathlib.Core.Path.{_≡_, refl, sym, _∙_, ap, ap₂, fun-ext}
 use mathlib.Core.Bool.{Bool, true, false}
 use mathlib.Core.List.{List, [], _∷_}
 use Prim.Native.Nat.{ℕ, suc, _≤_ as _≤ⁿ_, _+_ as _+ⁿ_, _*_ as _*ⁿ_, _-_ as _∸_, _^_}
-use native.Mathlib.Nat.{add-mul, mul-assoc, mul-comm, mul-left-comm}
+use native.Mathlib.Nat.{mul-assoc, mul-comm, zero-mul}
 use native.Mathlib.Omega.{arith}
 use lib.IntN.{ℤ, pos, _+ℤ_, _-ℤ_, _*ℤ_}
 use Rattle.algebra.specs.Laws as L
@@ -21,10 +21,11 @@ use Rattle.algebra.specs.Solver.{ring2, ring3, ring4, ring5, ring6, _⊕_, _⊗
 use Rattle.expansion.specs.Member.{ownProduct}
 use Rattle.expansion.specs.Poisson.{poisson}
 use Rattle.expansion.specs.Exponential.{expSum}
+use Rattle.fund.specs.declared.Frequencies.{Frequencies}
 use Rattle.fund.specs.declared.Life.{Life}
 use Rattle.fund.specs.Base.{if_then_else_, total, sumℤ}
-use Rattle.fund.specs.Folding.{claim, single}
-use Rattle.fund.specs.Transform.{unit, weight, lambda, mean}
+use Rattle.fund.specs.Folding.{single}
+use Rattle.fund.specs.Transform.{unit, deathWeight, disabilityWeight, lambda, mean}
 use Rattle.fund.specs.Exact.{singles, denominator, singlePart, weightAt, exact, exactPremium, outcomes, excess}
 use Rattle.laws.specs.Accepted.{All, Limited}
 use Rattle.laws.specs.Cells.{sumℤ-is}
@@ -35,11 +36,11 @@ use Rattle.distance.specs.Members.{weights-within}
 use Rattle.distance.specs.Outcomes.{expect, below, claims, claims-are, excess-whole}
 
 -- ---- no weight is left
-no-weight : (a : ℕ) (ms : List Life) → lambda a ms ≡ 0 → (k : ℕ) → weightAt a ms k ≡ 0
+no-weight : (a : Frequencies) (ms : List Life) → lambda a ms ≡ 0 → (k : ℕ) → weightAt a ms k ≡ 0
 no-weight a ms z k = let h = weights-within a ms (suc k) in let l = sumN-term (suc k) k (weightAt a ms) (omega arith) in omega arith
 
 -- group 2 adds nothing to the mean
-pub mean-claims : (a : ℕ) (ms : List Life) → lambda a ms ≡ 0 → mean a ms ≡ 1000000 *ⁿ claims ms
+pub mean-claims : (a : Frequencies) (ms : List Life) → lambda a ms ≡ 0 → mean a ms ≡ 1000000 *ⁿ claims ms
 unfolding mean lambda claims total
 mean-claims a [] h = refl
 mean-claims a (m ∷ ms) h = go (single m) h (mean-claims a ms)
@@ -47,19 +48,14 @@ mean-claims a (m ∷ ms) h = go (single m) h (mean-claims a ms)
     A : ℕ
     A = m .q *ⁿ m .d +ⁿ m .i *ⁿ m .e
 
-    none : weight a (claim m) ≡ 0 → weight a A ≡ 0
-    none z =
-        let q0 : m .q *ⁿ a ≡ 0 = omega (arith, add-mul (m .q) (m .i) a) in
-        let i0 : m .i *ⁿ a ≡ 0 = omega (arith, add-mul (m .q) (m .i) a) in
-        omega (arith, add-mul (m .q *ⁿ m .d) (m .i *ⁿ m .e) a, times (m .q) (m .d) q0, times (m .i) (m .e) i0)
-      where
-        times : (q d : ℕ) → q *ⁿ a ≡ 0 → q *ⁿ d *ⁿ a ≡ 0
-        times q d z = mul-assoc q d a ∙ mul-left-comm q d a ∙ ap (λ y. d *ⁿ y) z ∙ (let e : d *ⁿ 0 ≡ 0 = omega arith in e)
+    times : (w d : ℕ) → w ≡ 0 → w *ⁿ d ≡ 0
+    times w d z = ap (λ y. y *ⁿ d) z ∙ zero-mul d
 
-    go : (b : Bool) → (if b then 0 else weight a (claim m)) +ⁿ lambda a ms ≡ 0 → (lambda a ms ≡ 0 → mean a ms ≡ 1000000 *ⁿ claims ms) →
-        (if b then A *ⁿ 10 ^ 6 else weight a A) +ⁿ mean a ms ≡ 1000000 *ⁿ ((if b then A else 0) +ⁿ claims ms)
+    go : (b : Bool) → (if b then 0 else deathWeight a m +ⁿ disabilityWeight a m) +ⁿ lambda a ms ≡ 0 → (lambda a ms ≡ 0 → mean a ms ≡ 1000000 *ⁿ claims ms) →
+        (if b then A *ⁿ 10 ^ 6 else deathWeight a m *ⁿ m .d +ⁿ disabilityWeight a m *ⁿ m .e) +ⁿ mean a ms ≡ 1000000 *ⁿ ((if b then A else 0) +ⁿ claims ms)
     go true h ih = let e = ih (omega arith) in omega arith
-    go false h ih = let e = ih (omega arith) in let z = none (omega arith) in omega arith
+    go false h ih =
+        omega (arith, ih (omega arith), times (deathWeight a m) (m .d) (omega arith), times (disabilityWeight a m) (m .e) (omega arith))
 
 -- ---- the exact distribution without weights
 pow-none : (n x : ℕ) → pow zeroS (suc n) x ≡ zeroQ
@@ -77,7 +73,7 @@ exp-none K =
     ∙ ap₂ _+_ (ℚ-ring .mul-one oneQ) (sum-ext K (λ n. ifact (suc n) * powQ zeroQ (suc n)) (λ n. zeroQ) (λ n l. ap (λ y. ifact (suc n) * y) (L.zero-mul ℚ-ring (powQ zeroQ n)) ∙ L.mul-zero ℚ-ring (ifact (suc n))) ∙ sum-zero K)
     ∙ ℚ-ring .add-zero oneQ
 
-module _ (X r a : ℕ) (ms : List Life) (limited : All Limited ms) (folded : All FoldedLife ms) (none : lambda a ms ≡ 0) where
+module _ (X r : ℕ) (a : Frequencies) (ms : List Life) (limited : All Limited ms) (folded : All FoldedLife ms) (none : lambda a ms ≡ 0) where
   no-weights : W a ms ≡ zeroS
   unfolding W
   no-weights = fun-ext (λ k. ap (λ y. over (nat y) unit) (no-weight a ms none k) ∙ ap (λ y. over y unit) nat-zero ∙ over-zero unit)

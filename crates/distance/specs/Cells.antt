@@ -14,6 +14,7 @@ use Rattle.algebra.specs.PowerSeries.{Ser, θ-zero}
 use Rattle.expansion.specs.Member.{logs, transform}
 use Rattle.expansion.specs.Solution.{solution, solution-zero, solution-step}
 use Rattle.expansion.specs.Total.{exactSeries, total-63}
+use Rattle.fund.specs.declared.Frequencies.{Frequencies}
 use Rattle.fund.specs.declared.Life.{Life}
 use Rattle.fund.specs.Limits.{most-truncation}
 use Rattle.fund.specs.Transform.{unit, terms, D, H, lambda, truncation}
@@ -31,7 +32,7 @@ seven : (E : ℕ) → E ≤ⁿ most-truncation → 7 *ⁿ E ≤ⁿ unit *ⁿ 3
 unfolding unit
 seven E h = omega arith
 
-module _ (X r a : ℕ) (ms : List Life) (small : r ≤ⁿ 12) (p : Priceable r a ms) where
+module _ (X r : ℕ) (a : Frequencies) (ms : List Life) (small : r ≤ⁿ 12) (p : Priceable r a ms) where
   abbrev first : Cell
   first = record { f = start (lambda a ms) ms; R = startBound (lambda a ms) ms }
 

@@ -22,6 +22,7 @@ use Rattle.expansion.specs.Member.{ownProduct, distribution}
 use Rattle.expansion.specs.FoldedMember.{own-step}
 use Rattle.expansion.specs.Poisson.{poisson, exp-poisson}
 use Rattle.expansion.specs.Exponential.{expSum}
+use Rattle.fund.specs.declared.Frequencies.{Frequencies}
 use Rattle.fund.specs.declared.Life.{Life}
 use Rattle.fund.specs.Base.{if_then_else_, total, sumℤ}
 use Rattle.fund.specs.Folding.{stay, single}
@@ -136,7 +137,7 @@ series-is u v h (suc n) =
     S = sum (suc n) (λ k. ifact k * v k)
 
 -- the n-fold convolution of weights over 10^12
-module _ (a : ℕ) (ms : List Life) where
+module _ (a : Frequencies) (ms : List Life) where
   weight-is : (k : ℕ) → nat (weightAt a ms k) ≡ U * W a ms k
   unfolding W
   weight-is k = sym (over-ok (nat (weightAt a ms k)) unit unit-pos)
@@ -191,10 +192,10 @@ denominator-is X ms =
 
 -- ---- the exact values
 -- the exact distribution of the expansion
-abbrev pub P : ℕ → ℕ → List Life → Ser
+abbrev pub P : ℕ → Frequencies → List Life → Ser
 P r a ms = distribution (expSum 63 (negQ (rate a ms))) (poisson (W a ms)) (members r ms)
 
-pub exact-is : (X r a : ℕ) (ms : List Life) → All Limited ms → All FoldedLife ms → (x : ℕ) → x ≤ⁿ X → ofℤ (exact X a ms x) ≡ nat (denominator X ms) * P r a ms x
+pub exact-is : (X r : ℕ) (a : Frequencies) (ms : List Life) → All Limited ms → All FoldedLife ms → (x : ℕ) → x ≤ⁿ X → ofℤ (exact X a ms x) ≡ nat (denominator X ms) * P r a ms x
 unfolding exact
 exact-is X r a ms c f x l =
     ofℤ-mul (exponential a ms) (sumℤ (suc x) g)

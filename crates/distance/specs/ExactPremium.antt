@@ -20,6 +20,7 @@ use Rattle.expansion.specs.Exponential.{expSum}
 use Rattle.expansion.specs.ExponentialProduct.{exp-63-nn, exp-63-low}
 use Rattle.expansion.specs.Shortfall.{shortfall, shortfall-sum, shortfall-low}
 use Rattle.expansion.specs.Total.{Group, exactSeries}
+use Rattle.fund.specs.declared.Frequencies.{Frequencies}
 use Rattle.fund.specs.declared.Life.{Life}
 use Rattle.fund.specs.Limits.{most-deductible}
 use Rattle.fund.specs.Transform.{unit, mean}
@@ -66,10 +67,10 @@ above e s S t e-nn S-nn low near few = ≤-total zeroQ t (negQ oneQ ≤ nat 2 * 
 
 -- ---- the exact premium
 -- group 2's part of the mean, in whole
-abbrev restMean : ℕ → List Life → ℚ
+abbrev restMean : Frequencies → List Life → ℚ
 restMean a ms = over (nat (replacedMean a ms)) unit
 
-mean-is : (a : ℕ) (ms : List Life) → nat (mean a ms) ≡ U * (ownMean ms + restMean a ms)
+mean-is : (a : Frequencies) (ms : List Life) → nat (mean a ms) ≡ U * (ownMean ms + restMean a ms)
 unfolding unit
 mean-is a ms =
     ap nat (mean-parts a ms) ∙ nat-add (1000000 *ⁿ claims ms) (replacedMean a ms)
@@ -78,7 +79,7 @@ mean-is a ms =
     ∙ ap (λ y. y * ownMean ms + U * restMean a ms) (sym (nat-mul 1000000 1000000))
     ∙ sym (ℚ-ring .distrib U (ownMean ms) (restMean a ms))
 
-module _ (X r a : ℕ) (ms : List Life) (small : r ≤ⁿ 12) (p : Priceable r a ms) (M : ℕ) (below : M ≤ⁿ suc X) where
+module _ (X r : ℕ) (a : Frequencies) (ms : List Life) (small : r ≤ⁿ 12) (p : Priceable r a ms) (M : ℕ) (below : M ≤ⁿ suc X) where
   abbrev e : ℚ
   e = expSum 63 (negQ (rate a ms))
 

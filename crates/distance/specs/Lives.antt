@@ -14,6 +14,7 @@ use Rattle.expansion.specs.FoldedMember.{Folded, member}
 use Rattle.rounding.specs.Rounding.{up}
 use Rattle.fund.specs.declared.Rate.{Rate}
 use Rattle.fund.specs.declared.Member.{Member as MemberRow}
+use Rattle.fund.specs.declared.Frequencies.{Frequencies}
 use Rattle.fund.specs.declared.Life.{Life}
 use Rattle.fund.specs.Base.{if_then_else_}
 use Rattle.fund.specs.Reading.{FundFile}
@@ -34,10 +35,10 @@ members r [] = []
 members r (m ∷ ms) = if single m then memberOf r m ∷ members r ms else members r ms
 
 -- the weight at k and lambda, in whole
-unfoldable pub W : ℕ → List Life → ℕ → ℚ
+unfoldable pub W : Frequencies → List Life → ℕ → ℚ
 W a ms k = over (nat (weightAt a ms k)) unit
 
-unfoldable pub rate : ℕ → List Life → ℚ
+unfoldable pub rate : Frequencies → List Life → ℚ
 rate a ms = over (nat (lambda a ms)) unit
 
 -- a rate with amount 0 is 0

@@ -5,7 +5,7 @@ use mathlib.Core.Path.{_≡_, refl, sym, _∙_, ap, ap₂}
 use mathlib.Core.Bool.{Bool, true, false}
 use mathlib.Core.List.{List, [], _∷_}
 use Prim.Native.Nat.{ℕ, zero, suc, _<_, _≤_ as _≤ⁿ_, _+_ as _+ⁿ_, _*_ as _*ⁿ_, _-_ as _∸_}
-use native.Mathlib.Nat.{mul-comm, add-mul}
+use native.Mathlib.Nat.{mul-comm}
 use native.Mathlib.Omega.{arith}
 use lib.Dec.{eqb, eqb·suc-zero, eqb·zero-suc, eqb·suc-suc}
 use Rattle.algebra.specs.Laws as L
@@ -24,11 +24,12 @@ use Rattle.expansion.specs.Figure.{figure-good}
 use Rattle.expansion.specs.Exponential.{expSum}
 use Rattle.expansion.specs.Total.{Group, exactSeries}
 use Rattle.rounding.proofs.Laws.{up-low}
+use Rattle.fund.specs.declared.Frequencies.{Frequencies}
 use Rattle.fund.specs.declared.Life.{Life}
 use Rattle.fund.specs.Base.{if_then_else_, total}
 use Rattle.fund.specs.Folding.{claim, stay, single}
 use Rattle.fund.specs.Limits.{most-load, most-truncation}
-use Rattle.fund.specs.Transform.{unit, weight, lambda, load, w, truncation}
+use Rattle.fund.specs.Transform.{unit, deathWeight, disabilityWeight, lambda, load, w, truncation}
 use Rattle.fund.specs.Exact.{weightAt}
 use Rattle.laws.specs.Accepted.{All, Limited}
 use Rattle.distance.specs.Errors.{U, unit-pos}
@@ -37,7 +38,7 @@ use Rattle.distance.specs.Lives.{shareOf, memberOf, members, W, rate, Fo
 use Rattle.distance.specs.Exact.{W-zero}
 
 -- what refusals 6 to 8 leave
-pub record Priceable (r a : ℕ) (ms : List Life) : Type 0 where
+pub record Priceable (r : ℕ) (a : Frequencies) (ms : List Life) : Type 0 where
   pub limited : All Limited ms
   pub folded : All FoldedLife ms
   pub load-within : load a ms ≤ⁿ most-load
@@ -104,7 +105,7 @@ at-most-once (suc d) c (suc n) =
       at-most-once d c n,
     )
 
-pub weights-within : (a : ℕ) (ms : List Life) (n : ℕ) → sumN n (weightAt a ms) ≤ⁿ lambda a ms
+pub weights-within : (a : Frequencies) (ms : List Life) (n : ℕ) → sumN n (weightAt a ms) ≤ⁿ lambda a ms
 unfolding lambda total weightAt
 weights-within a [] n = go n
   where
@@ -115,43 +116,39 @@ weights-within a [] n = go n
 weights-within a (m ∷ ms) n = go (single m) refl (weights-within a ms n)
   where
     dead : ℕ → ℕ
-    dead k = if eqb (m .d) k then weight a (m .q) else 0
+    dead k = if eqb (m .d) k then deathWeight a m else 0
 
     disabled : ℕ → ℕ
-    disabled k = if eqb (m .e) k then weight a (m .i) else 0
-
-    both : weight a (claim m) ≡ weight a (m .q) +ⁿ weight a (m .i)
-    both = omega (arith, add-mul (m .q) (m .i) a)
+    disabled k = if eqb (m .e) k then disabilityWeight a m else 0
 
     -- what this life adds at k
     step : (b : Bool) → single m ≡ b → (k : ℕ) → weightAt a (m ∷ ms) k ≤ⁿ (if b then 0 else dead k +ⁿ disabled k) +ⁿ weightAt a ms k
     step b s zero = omega arith
     step b s (suc k) = omega (arith, ap (λ c. (if c then 0 else dead (suc k) +ⁿ disabled (suc k)) +ⁿ weightAt a ms (suc k)) s)
 
-    go : (b : Bool) → single m ≡ b → sumN n (weightAt a ms) ≤ⁿ lambda a ms → sumN n (weightAt a (m ∷ ms)) ≤ⁿ (if b then 0 else weight a (claim m)) +ⁿ lambda a ms
+    go : (b : Bool) → single m ≡ b → sumN n (weightAt a ms) ≤ⁿ lambda a ms → sumN n (weightAt a (m ∷ ms)) ≤ⁿ (if b then 0 else deathWeight a m +ⁿ disabilityWeight a m) +ⁿ lambda a ms
     go true s h = omega (arith, sumN-add-le n (weightAt a (m ∷ ms)) (λ k. 0) (weightAt a ms) (step true s), sumN-zero n)
     go false s h =
         omega (
           arith,
-          both,
           sumN-add-le n (weightAt a (m ∷ ms)) (λ k. dead k +ⁿ disabled k) (weightAt a ms) (step false s),
           sumN-add-le n (λ k. dead k +ⁿ disabled k) dead disabled (λ k. omega arith),
-          at-most-once (m .d) (weight a (m .q)) n,
-          at-most-once (m .e) (weight a (m .i)) n,
+          at-most-once (m .d) (deathWeight a m) n,
+          at-most-once (m .e) (disabilityWeight a m) n,
         )
 
-pub lambda-within : (r a : ℕ) (ms : List Life) → Priceable r a ms → lambda a ms ≤ⁿ 8 *ⁿ unit
+pub lambda-within : (r : ℕ) (a : Frequencies) (ms : List Life) → Priceable r a ms → lambda a ms ≤ⁿ 8 *ⁿ unit
 unfolding load unit
 lambda-within r a ms p = let h = p .load-within in omega arith
 
-pub weights-units : (a : ℕ) (ms : List Life) (n : ℕ) → U * sum n (W a ms) ≡ nat (sumN n (weightAt a ms))
+pub weights-units : (a : Frequencies) (ms : List Life) (n : ℕ) → U * sum n (W a ms) ≡ nat (sumN n (weightAt a ms))
 unfolding W
 weights-units a ms n =
     sym (sum-mul n U (W a ms))
     ∙ sum-ext n (λ k. U * over (nat (weightAt a ms k)) unit) (λ k. nat (weightAt a ms k)) (λ k l. over-ok (nat (weightAt a ms k)) unit unit-pos)
     ∙ sym (nat-sum n (weightAt a ms))
 
-pub group : (r a : ℕ) (ms : List Life) → Priceable r a ms → Group (W a ms) (rate a ms)
+pub group : (r : ℕ) (a : Frequencies) (ms : List Life) → Priceable r a ms → Group (W a ms) (rate a ms)
 unfolding W rate
 group r a ms p =
     record {
@@ -172,5 +169,5 @@ own-start r (m ∷ ms) c f = go (single m) refl (own-start r ms (c .1) (f .1))
     go true s h = ap₂ _*_ (ap (λ z. over (nat (stay m)) 1000000 * (oneQ + z)) (life-good r m (c .0) (f .0) s .z-zero) ∙ ring1 ℚ-ring (λ p. p ⊗ (𝟏 ⊕ 𝟎) := p) tt (over (nat (stay m)) 1000000)) h
     go false s h = h
 
-pub start-is : (r a : ℕ) (ms : List Life) → All Limited ms → All FoldedLife ms → exactSeries 63 (rate a ms) (W a ms) (members r ms) 0 ≡ expSum 63 (negQ (rate a ms)) * stays ms
+pub start-is : (r : ℕ) (a : Frequencies) (ms : List Life) → All Limited ms → All FoldedLife ms → exactSeries 63 (rate a ms) (W a ms) (members r ms) 0 ≡ expSum 63 (negQ (rate a ms)) * stays ms
 start-is r a ms c f = ap (λ x. expSum 63 (negQ (rate a ms)) * x) (ap₂ _*_ (ring1 ℚ-ring (λ x. 𝟎 ⊕ 𝟏 ⊗ x := x) tt oneQ) (own-start r ms c f) ∙ L.one-mul ℚ-ring (stays ms))

@@ -23,10 +23,11 @@ use Rattle.expansion.specs.Member.{logs, transform}
 use Rattle.expansion.specs.Triangle.{rowsQ, rowsQ-no-q, rowsQ-no-i}
 use Rattle.expansion.specs.RowPower.{odds, logEntry, log-rows}
 use Rattle.rounding.specs.Rounding.{near}
+use Rattle.fund.specs.declared.Frequencies.{Frequencies}
 use Rattle.fund.specs.declared.Life.{Life}
 use Rattle.fund.specs.Base.{if_then_else_, total, alternate}
 use Rattle.fund.specs.Folding.{claim, stay, single}
-use Rattle.fund.specs.Transform.{unit, row, Term, placeOf, placed, termOf, rowTerms, singleTerms, weight, replacedTerm, replacedTerms, terms, sumD, sumH, D, H}
+use Rattle.fund.specs.Transform.{unit, row, Term, placeOf, placed, termOf, rowTerms, singleTerms, deathWeight, disabilityWeight, replacedTerm, replacedTerms, terms, sumD, sumH, D, H}
 use Rattle.fund.specs.Exact.{weightAt}
 use Rattle.laws.specs.Accepted.{All, Limited}
 use Rattle.distance.specs.Errors.{U, unit-pos, alternate-close}
@@ -211,27 +212,27 @@ replaced-term-close X w d k k-pos k-le =
     u = if eqb d k then w else 0
 
 -- the weight of a life at k, in units
-abbrev weightOf : ℕ → Life → ℕ → ℕ
-weightOf a m k = (if eqb (m .d) k then weight a (m .q) else 0) +ⁿ (if eqb (m .e) k then weight a (m .i) else 0)
+abbrev weightOf : Frequencies → Life → ℕ → ℕ
+weightOf a m k = (if eqb (m .d) k then deathWeight a m else 0) +ⁿ (if eqb (m .e) k then disabilityWeight a m else 0)
 
-replaced-close : (X a : ℕ) (m : Life) (k : ℕ) → 0 < k → k ≤ⁿ X → Close k (replacedTerms X a m) (nat k * over (nat (weightOf a m k)) unit)
+replaced-close : (X : ℕ) (a : Frequencies) (m : Life) (k : ℕ) → 0 < k → k ≤ⁿ X → Close k (replacedTerms X a m) (nat k * over (nat (weightOf a m k)) unit)
 unfolding replacedTerms
 replaced-close X a m k k-pos k-le =
     subst (Close k (replacedTerms X a m))
     (sym (ℚ-ring .distrib (nat k) (over (nat u) unit) (over (nat v) unit))
     ∙ ap (λ x. nat k * x) (sym (over-add (nat u) (nat v) unit) ∙ ap (λ x. over x unit) (sym (nat-add u v))))
-    (append-close k (replacedTerm X (weight a (m .q)) (m .d)) (replacedTerm X (weight a (m .i)) (m .e)) (nat k * over (nat u) unit)
+    (append-close k (replacedTerm X (deathWeight a m) (m .d)) (replacedTerm X (disabilityWeight a m) (m .e)) (nat k * over (nat u) unit)
     (nat k * over (nat v) unit)
-    (replaced-term-close X (weight a (m .q)) (m .d) k k-pos k-le) (replaced-term-close X (weight a (m .i)) (m .e) k k-pos k-le))
+    (replaced-term-close X (deathWeight a m) (m .d) k k-pos k-le) (replaced-term-close X (disabilityWeight a m) (m .e) k k-pos k-le))
   where
     u : ℕ
-    u = if eqb (m .d) k then weight a (m .q) else 0
+    u = if eqb (m .d) k then deathWeight a m else 0
 
     v : ℕ
-    v = if eqb (m .e) k then weight a (m .i) else 0
+    v = if eqb (m .e) k then disabilityWeight a m else 0
 
 -- ---- all lives
-terms-close : (X r a : ℕ) → r ≤ⁿ 12 → (k : ℕ) → suc k ≤ⁿ X → (ms : List Life) → All Fair ms →
+terms-close : (X r : ℕ) (a : Frequencies) → r ≤ⁿ 12 → (k : ℕ) → suc k ≤ⁿ X → (ms : List Life) → All Fair ms →
     Close (suc k) (terms X r a ms) (transform r (members r ms) (W a ms) (suc k))
 unfolding terms members W weightAt total
 terms-close X r a h k k-le [] fair = nil-close (suc k) (K * zeroQ + K * over (nat 0) unit)
@@ -272,7 +273,7 @@ terms-close X r a h k k-le (m ∷ ms) fair = go (single m) (fair .0) (terms-clos
         (append-close (suc k) (replacedTerms X a m) (terms X r a ms) (K * over (nat (weightOf a m (suc k))) unit)
         (K * rest + K * over (nat u) unit) (replaced-close X a m (suc k) (omega arith) k-le) later)
 
-pub transform-close : (X r a : ℕ) (ms : List Life) → r ≤ⁿ 12 → All Fair ms → (k : ℕ) → 0 < k → k ≤ⁿ X →
+pub transform-close : (X r : ℕ) (a : Frequencies) (ms : List Life) → r ≤ⁿ 12 → All Fair ms → (k : ℕ) → 0 < k → k ≤ⁿ X →
     abs (ofℤ (D (terms X r a ms) k) - nat unit * transform r (members r ms) (W a ms) k) ≤ nat (H (terms X r a ms) k)
 unfolding D H
 transform-close X r a ms h fair zero k-pos k-le = absurd (omega arith)

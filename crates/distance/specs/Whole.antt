@@ -10,6 +10,7 @@ use Rattle.algebra.specs.Solver.{ring3, ring4, _⊕_, _⊗_, _⊝_, _:=_}
 use Rattle.algebra.specs.Q.{ℚ, ℚ-ring, _+_, _-_, _*_, _≤_, abs, ≤-refl, ≤-trans, ≤-of-eq, ≤-add, ≤-mul-left, ≤-mul-right, abs-scale}
 use Rattle.algebra.specs.Embedding.{ofℤ, nat, ofℤ-add, ofℤ-mul, ofℤ-sub, nat-add, nat-mul, nat-nn, nat-le, nat-reflect, abs-ofℤ}
 use Rattle.algebra.specs.RationalSum.{sum, sumN, sum-ext, sum-add, sum-mul, sum-mono, sum-grow, sum-abs, nat-sum, ofℤ-sum}
+use Rattle.fund.specs.declared.Frequencies.{Frequencies}
 use Rattle.fund.specs.declared.Life.{Life}
 use Rattle.fund.specs.Base.{table, sumℤ}
 use Rattle.fund.specs.Transform.{unit, truncation}
@@ -22,7 +23,7 @@ use Rattle.distance.specs.Exact.{exact-is}
 use Rattle.distance.specs.Members.{Priceable}
 use Rattle.distance.specs.Cells.{cell, P, F, apart, gap-nn, cut, cell-near, cells-near}
 
-module _ (X r a : ℕ) (ms : List Life) (small : r ≤ⁿ 12) (p : Priceable r a ms) where
+module _ (X r : ℕ) (a : Frequencies) (ms : List Life) (small : r ≤ⁿ 12) (p : Priceable r a ms) where
   abbrev y : ℕ → Cell
   y = cell X r a ms small p
 

@@ -13,6 +13,7 @@ use Rattle.algebra.specs.Quotient.{over, over-ok}
 use Rattle.algebra.specs.NatSum.{sumN, sumN-bound, sumN-term}
 use Rattle.algebra.specs.RationalSum.{sum, sum-add, sum-mul, sum-mono, nat-sum}
 use Rattle.expansion.specs.Total.{mass-63}
+use Rattle.fund.specs.declared.Frequencies.{Frequencies}
 use Rattle.fund.specs.declared.Life.{Life}
 use Rattle.fund.specs.Limits.{most-truncation, most-bound, most-horizon}
 use Rattle.fund.specs.Transform.{unit, truncation}
@@ -31,7 +32,7 @@ small-enough : (s b E : ℕ) → 7 *ⁿ s ≤ⁿ 8 *ⁿ unit +ⁿ 7 *ⁿ (b +ⁿ
 unfolding unit
 small-enough s b E h k l = omega arith
 
-module _ (X r a : ℕ) (ms : List Life) (small : r ≤ⁿ 12) (p : Priceable r a ms) where
+module _ (X r : ℕ) (a : Frequencies) (ms : List Life) (small : r ≤ⁿ 12) (p : Priceable r a ms) where
   abbrev y : ℕ → Cell
   y = cell X r a ms small p
 

@@ -1,7 +1,7 @@
--- Document 01's steps give every row of the table of starred funds, from the file's bytes to the text that is printed.
+-- The definitions give every row of the tables of funds, from the file's bytes to the text that is printed.
 -- By computing both sides.
 use mathlib.Core.Path.{_≡_, refl}
-use mathlib.Core.List.{List, [], map}
+use mathlib.Core.List.{List, [], _++_, map}
 use Prim.Native.Nat.{ℕ}
 use lib.ListN.{length, take}
 use Rattle.rounding.specs.Rounding.{near, nearest, up}
@@ -10,14 +10,14 @@ use Rattle.fund.specs.Lines.{begun, linesFrom, lines}
 use Rattle.fund.specs.Spelling.{digits, isNumber, valueFrom, value, inFirst, fields, allNumbers, numbers, behind, spelled}
 use Rattle.fund.specs.Reading.{Reading, read, stopped, between, inRanges, headerLines, headerOf, rowOf, rising, rateInRange, memberInRange, noMember, atEnd, readRows, readHeader, reading}
 use Rattle.fund.specs.Folding.{heldUntil, rateInForce, folded, life, lives}
-use Rattle.fund.specs.Transform.{unit, nextRow, row, placed, termOf, rowTerms, singleTerms, replacedTerm, replacedTerms, terms, sumD, sumH, D, H, lambda, load, w, truncation, mean}
+use Rattle.fund.specs.Transform.{unit, nextRow, row, placed, termOf, rowTerms, singleTerms, deathWeight, disabilityWeight, replacedTerm, replacedTerms, terms, sumD, sumH, D, H, lambda, load, w, truncation, mean}
 use Rattle.fund.specs.Recursion.{Cell, t, alternating, multiplied, start, c, startBound, entries, sumR, sumF, nextCell, cells}
 use Rattle.fund.specs.Premium.{sumBelow, boundBelow, premium, within}
 use Rattle.fund.specs.Tariff.{loading, withBound, gross}
 use Rattle.fund.specs.Refusals.{first, unmatched, half, wide, anyShort, short, refuse, at0, firstMember, valued, matched, verdict}
 use Rattle.fund.specs.Answer.{fundTerms, fundStart, fundCells, fundTruncation, fundMean, fundPremium, fundWithin, fundFigures, lineAt, part, refused, lent, accepted, answerOf, answerTo, answer}
 use Rattle.fund.specs.Listing.{digitsWithin, decimal, signedDecimal, joined, cellLines, listed, refusedLine, printed, horizonIn, listing}
-use Rattle.fund.specs.Starred.{StarredRow, text, file, eight, atOrder, starred, wrongTurns, inForce, someAges, withLines, worths}
+use Rattle.fund.specs.Starred.{StarredRow, text, file, eight, atOrder, starred, wrongTurns, inForce, someAges, withLines, worths, replacedAt, refusedAt, frequencies}
 
 -- The bounds of the cells, R(0) to R(X), of a file that can be read.
 abbrev boundsOf : Reading → List ℕ
@@ -28,18 +28,10 @@ boundsOf (stopped why place) = []
 abbrev given : StarredRow → StarredRow
 given r = record { file = r .file; listing = listing (r .file); bounds = take (length (r .bounds)) (boundsOf (reading (r .file))) }
 
-pub every-row : map given starred ≡ starred
-unfolding near nearest up bytes total sum sumℤ table alternate begun linesFrom lines digits isNumber valueFrom value inFirst fields allNumbers numbers behind spelled between inRanges headerLines headerOf rowOf rising rateInRange memberInRange noMember atEnd readRows readHeader reading heldUntil rateInForce folded life lives unit nextRow row placed termOf rowTerms singleTerms replacedTerm replacedTerms terms sumD sumH D H lambda load w truncation mean t alternating multiplied start c startBound entries sumR sumF nextCell cells sumBelow boundBelow premium within loading withBound gross first unmatched half wide anyShort short refuse at0 firstMember valued matched verdict fundTerms fundStart fundCells fundTruncation fundMean fundPremium fundWithin fundFigures lineAt part refused lent accepted answerOf answerTo answer digitsWithin decimal signedDecimal joined cellLines listed refusedLine printed horizonIn listing text file eight atOrder starred
+-- All tables of funds: document 01's, and those of the wrong turns and of the requests.
+abbrev rows : List StarredRow
+rows = starred ++ (wrongTurns ++ (someAges ++ (worths ++ frequencies)))
+
+pub every-row : map given rows ≡ rows
+unfolding near nearest up bytes total sum sumℤ table alternate begun linesFrom lines digits isNumber valueFrom value inFirst fields allNumbers numbers behind spelled between inRanges headerLines headerOf rowOf rising rateInRange memberInRange noMember atEnd readRows readHeader reading heldUntil rateInForce folded life lives unit nextRow row placed termOf rowTerms singleTerms deathWeight disabilityWeight replacedTerm replacedTerms terms sumD sumH D H lambda load w truncation mean t alternating multiplied start c startBound entries sumR sumF nextCell cells sumBelow boundBelow premium within loading withBound gross first unmatched half wide anyShort short refuse at0 firstMember valued matched verdict fundTerms fundStart fundCells fundTruncation fundMean fundPremium fundWithin fundFigures lineAt part refused lent accepted answerOf answerTo answer digitsWithin decimal signedDecimal joined cellLines listed refusedLine printed horizonIn listing text file eight atOrder starred wrongTurns inForce someAges withLines worths replacedAt refusedAt frequencies
 every-row = refl
-
-pub every-turn : map given wrongTurns ≡ wrongTurns
-unfolding near nearest up bytes total sum sumℤ table alternate begun linesFrom lines digits isNumber valueFrom value inFirst fields allNumbers numbers behind spelled between inRanges headerLines headerOf rowOf rising rateInRange memberInRange noMember atEnd readRows readHeader reading heldUntil rateInForce folded life lives unit nextRow row placed termOf rowTerms singleTerms replacedTerm replacedTerms terms sumD sumH D H lambda load w truncation mean t alternating multiplied start c startBound entries sumR sumF nextCell cells sumBelow boundBelow premium within loading withBound gross first unmatched half wide anyShort short refuse at0 firstMember valued matched verdict fundTerms fundStart fundCells fundTruncation fundMean fundPremium fundWithin fundFigures lineAt part refused lent accepted answerOf answerTo answer digitsWithin decimal signedDecimal joined cellLines listed refusedLine printed horizonIn listing text file wrongTurns
-every-turn = refl
-
-pub every-rate : map given someAges ≡ someAges
-unfolding near nearest up bytes total sum sumℤ table alternate begun linesFrom lines digits isNumber valueFrom value inFirst fields allNumbers numbers behind spelled between inRanges headerLines headerOf rowOf rising rateInRange memberInRange noMember atEnd readRows readHeader reading heldUntil rateInForce folded life lives unit nextRow row placed termOf rowTerms singleTerms replacedTerm replacedTerms terms sumD sumH D H lambda load w truncation mean t alternating multiplied start c startBound entries sumR sumF nextCell cells sumBelow boundBelow premium within loading withBound gross first unmatched half wide anyShort short refuse at0 firstMember valued matched verdict fundTerms fundStart fundCells fundTruncation fundMean fundPremium fundWithin fundFigures lineAt part refused lent accepted answerOf answerTo answer digitsWithin decimal signedDecimal joined cellLines listed refusedLine printed horizonIn listing text file inForce someAges
-every-rate = refl
-
-pub every-worth : map given worths ≡ worths
-unfolding near nearest up bytes total sum sumℤ table alternate begun linesFrom lines digits isNumber valueFrom value inFirst fields allNumbers numbers behind spelled between inRanges headerLines headerOf rowOf rising rateInRange memberInRange noMember atEnd readRows readHeader reading heldUntil rateInForce folded life lives unit nextRow row placed termOf rowTerms singleTerms replacedTerm replacedTerms terms sumD sumH D H lambda load w truncation mean t alternating multiplied start c startBound entries sumR sumF nextCell cells sumBelow boundBelow premium within loading withBound gross first unmatched half wide anyShort short refuse at0 firstMember valued matched verdict fundTerms fundStart fundCells fundTruncation fundMean fundPremium fundWithin fundFigures lineAt part refused lent accepted answerOf answerTo answer digitsWithin decimal signedDecimal joined cellLines listed refusedLine printed horizonIn listing text withLines worths
-every-worth = refl

@@ -1,13 +1,14 @@
 -- The exact values, from the fund's input alone: whole numbers over the one denominator 10^(6g + 12X + 756)×X!×63! for g
--- group 1 members. They use folding and lambda's weights, and nothing else of the method's figures.
+-- group 1 members. They use folding and the members' weights, and nothing else of the method's figures.
 use mathlib.Core.List.{List, [], _∷_, _++_}
 use Prim.Native.Nat.{ℕ, zero, suc, _+_, _-_, _*_, _^_}
 use lib.Dec.{eqb, leb}
 use lib.IntN.{ℤ, pos, negℤ, _+ℤ_, _-ℤ_, _*ℤ_}
+use Rattle.fund.specs.declared.Frequencies.{Frequencies}
 use Rattle.fund.specs.declared.Life.{Life}
 use Rattle.fund.specs.Base.{if_then_else_, total, sum, sumℤ}
 use Rattle.fund.specs.Folding.{stay, single}
-use Rattle.fund.specs.Transform.{weight, lambda}
+use Rattle.fund.specs.Transform.{deathWeight, disabilityWeight, lambda}
 
 unfoldable pub factorial : ℕ → ℕ
 factorial zero = 1
@@ -36,12 +37,12 @@ singlePart (m ∷ ms) x =
     let g = singlePart ms in
     if single m then stay m * g x + m .q * shifted (m .d) g x + m .i * shifted (m .e) g x else g x
 
--- "The weight at k, from 1 on, is the sum over group 2 of q×a×1000 where d = k and of i×a×1000 where e = k":
--- numerators over 10^12.
-unfoldable pub weightAt : ℕ → List Life → ℕ → ℕ
-weightAt a ms zero = 0
-weightAt a ms (suc k) =
-    total (λ m. if single m then 0 else (if eqb (m .d) (suc k) then weight a (m .q) else 0) + (if eqb (m .e) (suc k) then weight a (m .i) else 0)) ms
+-- "The weight at k, from 1 on, is the sum over group 2 of" the death weight "where d = k and of" the disability weight "where e = k":
+-- numerators over 10^12. Document 02, §5: "the exact Poisson weights follow".
+unfoldable pub weightAt : Frequencies → List Life → ℕ → ℕ
+weightAt ab ms zero = 0
+weightAt ab ms (suc k) =
+    total (λ m. if single m then 0 else (if eqb (m .d) (suc k) then deathWeight ab m else 0) + (if eqb (m .e) (suc k) then disabilityWeight ab m else 0)) ms
 
 -- the convolution of g and h: the sum of g(k)×h(x-k)
 unfoldable pub convolved : (ℕ → ℕ) → (ℕ → ℕ) → ℕ → ℕ
@@ -59,25 +60,25 @@ series u (suc n) = series u n *ℤ pos (10 ^ 12 * suc n) +ℤ u (suc n)
 
 -- "The Poisson part is the sum over n from 0 of the n-fold convolution of its weights divided by n!, times the sum of
 -- (-lambda)^j/j! for j to 63." "No weight stands at 0, so at place x only n up to x counts": n to X is enough for each x to X.
-unfoldable pub replacedPart : ℕ → ℕ → List Life → ℕ → ℤ
-replacedPart X a ms x = series (λ n. pos (fold n (weightAt a ms) x)) X
+unfoldable pub replacedPart : ℕ → Frequencies → List Life → ℕ → ℤ
+replacedPart X ab ms x = series (λ n. pos (fold n (weightAt ab ms) x)) X
 
 -- (z)^j, "for j = 0: 1"
 unfoldable pub power : ℤ → ℕ → ℤ
 power z zero = pos 1
 power z (suc j) = z *ℤ power z j
 
-unfoldable pub exponential : ℕ → List Life → ℤ
-exponential a ms = series (power (negℤ (pos (lambda a ms)))) 63
+unfoldable pub exponential : Frequencies → List Life → ℤ
+exponential ab ms = series (power (negℤ (pos (lambda ab ms)))) 63
 
 -- "Convolve the two." The exact value at x, times the denominator.
-unfoldable pub exact : ℕ → ℕ → List Life → ℕ → ℤ
-exact X a ms x = exponential a ms *ℤ sumℤ (suc x) (λ k. pos (singlePart ms k) *ℤ replacedPart X a ms (x - k))
+unfoldable pub exact : ℕ → Frequencies → List Life → ℕ → ℤ
+exact X ab ms x = exponential ab ms *ℤ sumℤ (suc x) (λ k. pos (singlePart ms k) *ℤ replacedPart X ab ms (x - k))
 
 -- "The exact premium is the premium formula with 10^12 times the exact value at x in place of f(x)", times the denominator.
-unfoldable pub exactPremium : ℕ → ℕ → ℕ → ℕ → List Life → ℤ
-exactPremium X M mean a ms =
-    (pos mean -ℤ pos (M * 10 ^ 12)) *ℤ pos (denominator X ms) +ℤ sumℤ M (λ x. pos ((M - x) * 10 ^ 12) *ℤ exact X a ms x)
+unfoldable pub exactPremium : ℕ → ℕ → ℕ → Frequencies → List Life → ℤ
+exactPremium X M mean ab ms =
+    (pos mean -ℤ pos (M * 10 ^ 12)) *ℤ pos (denominator X ms) +ℤ sumℤ M (λ x. pos ((M - x) * 10 ^ 12) *ℤ exact X ab ms x)
 
 -- All outcomes of the group 1 members: a weight, over 10^(6g), and the total claimed.
 pub record Outcome : Type 0 where

@@ -10,7 +10,7 @@ least-edition = 1900
 abbrev pub most-edition : ℕ
 most-edition = 2999
 
--- `horizon=` X, 0 to 4,095. `order=` r, 1 to 12. `frequency=` a, 0 to 5,000, in thousandths. `deductible=` M, 0 to 4,096.
+-- `horizon=` X, 0 to 4,095. `order=` r, 1 to 12. Document 02, §5: `frequency=a,b`, "both 0 to 5,000", in thousandths. `deductible=` M, 0 to 4,096.
 abbrev pub most-horizon : ℕ
 most-horizon = 4095
 

@@ -39,14 +39,14 @@ pub record HeaderLine : Type 0 where
   pub key : List ℕ
   pub ranges : List NumberRange
 
--- The header lines, in their order.
+-- The header lines, in their order. Document 02, §5: "The line becomes `frequency=a,b`"; "a single number there is now form".
 unfoldable pub headerLines : List HeaderLine
 headerLines =
     record { key = bytes "rates="; ranges = record { least = least-edition; most = most-edition } ∷ [] }
     ∷ record { key = bytes "members="; ranges = record { least = least-edition; most = most-edition } ∷ [] }
     ∷ record { key = bytes "horizon="; ranges = record { least = 0; most = most-horizon } ∷ [] }
     ∷ record { key = bytes "order="; ranges = record { least = least-order; most = most-order } ∷ [] }
-    ∷ record { key = bytes "frequency="; ranges = record { least = 0; most = most-frequency } ∷ [] }
+    ∷ record { key = bytes "frequency="; ranges = record { least = 0; most = most-frequency } ∷ record { least = 0; most = most-frequency } ∷ [] }
     ∷ record { key = bytes "deductible="; ranges = record { least = 0; most = most-deductible } ∷ [] }
     ∷ record { key = bytes "worth="; ranges = record { least = least-worth; most = most-worth } ∷ [] }
     ∷ []
@@ -66,9 +66,9 @@ headerOf ns =
       members = getD ns 1 0;
       horizon = getD ns 2 0;
       order = getD ns 3 0;
-      frequency = getD ns 4 0;
-      deductible = getD ns 5 0;
-      worth = getD ns 6 0;
+      frequency = record { death = getD ns 4 0; disability = getD ns 5 0 };
+      deductible = getD ns 6 0;
+      worth = getD ns 7 0;
     }
 
 -- The line of a row: `rate=age,q,i`, `member=age,group,d,e`, `end=` a number, or none of these.

@@ -1,6 +1,6 @@
 -- Document 01's starred funds: each file with what the program prints for it, and the bounds R(0), R(1), .. that the
 -- document states, whether or not the fund is accepted. Then rows for wrong turns that these funds would not show, rows for rates that are
--- printed for some ages only, and rows for the line of the worth.
+-- printed for some ages only, rows for the line of the worth, and rows for the line of the frequencies.
 use mathlib.Core.List.{List, [], _∷_, _++_, map}
 use Prim.Native.Nat.{ℕ}
 use Prim.Native.String.{String}
@@ -16,9 +16,9 @@ unfoldable pub text : List String → List ℕ
 text [] = []
 text (l ∷ ls) = bytes l ++ (10 ∷ text ls)
 
--- A file of edition 2030 with frequency 1,000. Document 02, §3: "Document 01's funds take `worth=100`".
+-- A file of edition 2030. Document 02, §3 and §5: document 01's funds "take `worth=100`", and "repeat" their frequency "as `frequency=1000,1000`".
 unfoldable pub file : String → String → String → List String → List ℕ
-file horizon order deductible rows = text ("rates=2030" ∷ "members=2030" ∷ horizon ∷ order ∷ "frequency=1000" ∷ deductible ∷ "worth=100" ∷ rows)
+file horizon order deductible rows = text ("rates=2030" ∷ "members=2030" ∷ horizon ∷ order ∷ "frequency=1000,1000" ∷ deductible ∷ "worth=100" ∷ rows)
 
 abbrev pub oneMember : List String
 oneMember = "rate=40,100000,0" ∷ "member=40,1,1,0" ∷ "end=1" ∷ []
@@ -118,7 +118,7 @@ starred =
     }
     -- Editions 2030 and 2031: refused 3. M = 4 with X = 2: refused 4; M = 3 accepted.
     ∷ record {
-      file = text ("rates=2030" ∷ "members=2031" ∷ "horizon=2" ∷ "order=3" ∷ "frequency=1000" ∷ "deductible=2" ∷ "worth=100" ∷ oneMember);
+      file = text ("rates=2030" ∷ "members=2031" ∷ "horizon=2" ∷ "order=3" ∷ "frequency=1000,1000" ∷ "deductible=2" ∷ "worth=100" ∷ oneMember);
       listing = text ("refused=3,0" ∷ []);
       bounds = [];
     }
@@ -211,7 +211,7 @@ someAges =
 unfoldable pub withLines : List String → List String → StarredRow
 withLines lines listed =
     record {
-      file = text ("rates=2030" ∷ "members=2030" ∷ "horizon=2" ∷ "order=3" ∷ "frequency=1000" ∷ "deductible=2" ∷ lines);
+      file = text ("rates=2030" ∷ "members=2030" ∷ "horizon=2" ∷ "order=3" ∷ "frequency=1000,1000" ∷ "deductible=2" ∷ lines);
       listing = text listed;
       bounds = [];
     }
@@ -231,4 +231,55 @@ worths =
     -- Rows begin at line 8.
     ∷ withLines ("worth=100" ∷ "rate=121,0,0" ∷ []) ("refused=2,8" ∷ [])
     ∷ withLines ("worth=100" ∷ []) ("refused=1,8" ∷ [])
+    ∷ []
+
+-- Document 02, §5: a fund with one member of group 2 and a line of frequencies.
+unfoldable pub replacedAt : String → String → String → List String → List ℕ → StarredRow
+replacedAt frequency rate member listed bounds =
+    record {
+      file = text ("rates=2030" ∷ "members=2030" ∷ "horizon=4" ∷ "order=3" ∷ frequency ∷ "deductible=2" ∷ "worth=100" ∷ rate ∷ member ∷ "end=1" ∷ []);
+      listing = text listed;
+      bounds = bounds;
+    }
+
+-- The same for a line that is refused.
+unfoldable pub refusedAt : String → String → StarredRow
+refusedAt frequency refused = replacedAt frequency "rate=40,30000,10000" "member=40,2,1,3" (refused ∷ []) []
+
+unfoldable pub frequencies : List StarredRow
+frequencies =
+    -- a with q and b with i. In lambda: amounts beyond X, and q×d = i×e, so that the mean does not tell a from b. In the mean: amounts beyond X, and q = i.
+    -- In D: q×d = i×e again, D(1) = 30,000,000,000 and D(3) = 15,000,000,000.
+    replacedAt "frequency=1000,500" "rate=40,20000,30000" "member=40,2,9,6"
+    ("truncation=0" ∷ "mean=270000000000" ∷ "cell=0,965605416258,125" ∷ "cell=1,0,1" ∷ "cell=2,0,1" ∷ "cell=3,0,1" ∷ "cell=4,0,1" ∷ "premium=201210832516" ∷ "within=251" ∷ "gross=31" ∷ [])
+    (125 ∷ 1 ∷ 1 ∷ 1 ∷ 1 ∷ [])
+    ∷ replacedAt "frequency=1000,500" "rate=40,20000,20000" "member=40,2,6,9"
+    ("truncation=0" ∷ "mean=210000000000" ∷ "cell=0,970445533548,125" ∷ "cell=1,0,1" ∷ "cell=2,0,1" ∷ "cell=3,0,1" ∷ "cell=4,0,1" ∷ "premium=150891067096" ∷ "within=251" ∷ "gross=23" ∷ [])
+    (125 ∷ 1 ∷ 1 ∷ 1 ∷ 1 ∷ [])
+    ∷ replacedAt "frequency=1000,500" "rate=40,30000,10000" "member=40,2,1,3"
+    ("truncation=0" ∷ "mean=45000000000" ∷ "cell=0,965605416258,125" ∷ "cell=1,28968162488,5" ∷ "cell=2,434522438,2" ∷ "cell=3,4832372306,2" ∷ "cell=4,144873402,2" ∷ "premium=5178995004" ∷ "within=255" ∷ "gross=1" ∷ [])
+    (125 ∷ 5 ∷ 2 ∷ 2 ∷ 2 ∷ [])
+    -- Only a disabled member's place is filled, only a deceased member's.
+    ∷ replacedAt "frequency=0,1000" "rate=40,30000,10000" "member=40,2,1,3"
+    ("truncation=0" ∷ "mean=30000000000" ∷ "cell=0,990049833749,125" ∷ "cell=1,0,1" ∷ "cell=2,0,1" ∷ "cell=3,9900498337,3" ∷ "cell=4,0,2" ∷ "premium=10099667498" ∷ "within=251" ∷ "gross=2" ∷ [])
+    (125 ∷ 1 ∷ 1 ∷ 3 ∷ 2 ∷ [])
+    ∷ replacedAt "frequency=1000,0" "rate=40,30000,10000" "member=40,2,1,3"
+    ("truncation=0" ∷ "mean=30000000000" ∷ "cell=0,970445533548,125" ∷ "cell=1,29113366006,5" ∷ "cell=2,436700490,2" ∷ "cell=3,4367005,2" ∷ "cell=4,32753,2" ∷ "premium=4433102" ∷ "within=255" ∷ "gross=1" ∷ [])
+    (125 ∷ 5 ∷ 2 ∷ 2 ∷ 2 ∷ [])
+    -- Lambda 0: a = 0, and no disability.
+    ∷ replacedAt "frequency=0,5000" "rate=40,30000,10000" "member=40,2,1,0"
+    ("truncation=0" ∷ "mean=0" ∷ "cell=0,1000000000000,0" ∷ "cell=1,0,1" ∷ "cell=2,0,1" ∷ "cell=3,0,1" ∷ "cell=4,0,1" ∷ "premium=0" ∷ "within=1" ∷ "gross=1" ∷ [])
+    (0 ∷ 1 ∷ 1 ∷ 1 ∷ 1 ∷ [])
+    -- The limits, and range at line 5.
+    ∷ replacedAt "frequency=5000,5000" "rate=40,30000,10000" "member=40,2,1,3"
+    ("truncation=0" ∷ "mean=300000000000" ∷ "cell=0,818730753079,125" ∷ "cell=1,122809612962,20" ∷ "cell=2,9210720972,3" ∷ "cell=3,41397073703,8" ∷ "cell=4,6157750750,3" ∷ "premium=60271119120" ∷ "within=270" ∷ "gross=10" ∷ [])
+    (125 ∷ 20 ∷ 3 ∷ 8 ∷ 3 ∷ [])
+    ∷ refusedAt "frequency=5001,0" "refused=2,5"
+    ∷ refusedAt "frequency=0,5001" "refused=2,5"
+    -- Form at line 5, before range: a single number, three, a second one without digits or with eight.
+    ∷ refusedAt "frequency=1000" "refused=1,5"
+    ∷ refusedAt "frequency=5001" "refused=1,5"
+    ∷ refusedAt "frequency=1000,1000,1000" "refused=1,5"
+    ∷ refusedAt "frequency=1000," "refused=1,5"
+    ∷ refusedAt "frequency=5001,10000000" "refused=1,5"
     ∷ []

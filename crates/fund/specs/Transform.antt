@@ -6,6 +6,7 @@ use lib.Dec.{eqb, leb, ltb}
 use lib.IntN.{ℤ, pos, _+ℤ_}
 use lib.ListN.{getD, replicate}
 use Rattle.rounding.specs.Rounding.{near, up}
+use Rattle.fund.specs.declared.Frequencies.{Frequencies}
 use Rattle.fund.specs.declared.Life.{Life}
 use Rattle.fund.specs.Base.{if_then_else_, total, alternate}
 use Rattle.fund.specs.Folding.{claim, stay, single}
@@ -52,20 +53,26 @@ unfoldable pub singleTerms : ℕ → Life → ℕ → List Term
 singleTerms X m zero = []
 singleTerms X m (suc n) = singleTerms X m n ++ rowTerms X m (suc n) (suc (suc n))
 
--- Group 2: "q×a×1000×d is added to D at d, and i×a×1000×e to D at e, where the place is 1 to X. H gains nothing."
-abbrev pub weight : ℕ → ℕ → ℕ
-weight a rate = rate * a * 1000
+-- Document 02, §5: "a deceased member's place is filled at one frequency, a disabled member's at another". The weights of a member, for
+-- `frequency=a,b`: q×a×1000 of death and i×b×1000 of disability.
+unfoldable pub deathWeight : Frequencies → Life → ℕ
+deathWeight ab m = m .q * ab .death * 1000
 
+unfoldable pub disabilityWeight : Frequencies → Life → ℕ
+disabilityWeight ab m = m .i * ab .disability * 1000
+
+-- Group 2, "a with q and b with i": the death weight times d is added to D at d, and the disability weight times e to D at e, "where the
+-- place is 1 to X. H gains nothing."
 unfoldable pub replacedTerm : ℕ → ℕ → ℕ → List Term
 replacedTerm X w k = if ltb 0 k && leb k X then record { place = k; toD = pos (w * k); toH = 0 } ∷ [] else []
 
-unfoldable pub replacedTerms : ℕ → ℕ → Life → List Term
-replacedTerms X a m = replacedTerm X (weight a (m .q)) (m .d) ++ replacedTerm X (weight a (m .i)) (m .e)
+unfoldable pub replacedTerms : ℕ → Frequencies → Life → List Term
+replacedTerms X ab m = replacedTerm X (deathWeight ab m) (m .d) ++ replacedTerm X (disabilityWeight ab m) (m .e)
 
 -- All terms, member by member.
-unfoldable pub terms : ℕ → ℕ → ℕ → List Life → List Term
-terms X r a [] = []
-terms X r a (m ∷ ms) = (if single m then singleTerms X m r else replacedTerms X a m) ++ terms X r a ms
+unfoldable pub terms : ℕ → ℕ → Frequencies → List Life → List Term
+terms X r ab [] = []
+terms X r ab (m ∷ ms) = (if single m then singleTerms X m r else replacedTerms X ab m) ++ terms X r ab ms
 
 -- D and H at a place: what the terms there add up to. "D(0) and H(0) are 0."
 unfoldable pub sumD : ℕ → List Term → ℤ
@@ -84,13 +91,13 @@ unfoldable pub H : List Term → ℕ → ℕ
 H ts zero = 0
 H ts (suc k) = sumH (suc k) ts
 
--- "Lambda, in units, is the sum of (q + i)×a×1000", over group 2.
-unfoldable pub lambda : ℕ → List Life → ℕ
-lambda a ms = total (λ m. if single m then 0 else weight a (claim m)) ms
+-- "Lambda is the sum of (q×a + i×b)×1000", in units, over group 2.
+unfoldable pub lambda : Frequencies → List Life → ℕ
+lambda ab ms = total (λ m. if single m then 0 else deathWeight ab m + disabilityWeight ab m) ms
 
 -- "Load: lambda plus, over group 1, up(10^12×(q+i)/p)."
-unfoldable pub load : ℕ → List Life → ℕ
-load a ms = lambda a ms + total (λ m. if single m then up (unit * claim m) (stay m) else 0) ms
+unfoldable pub load : Frequencies → List Life → ℕ
+load ab ms = lambda ab ms + total (λ m. if single m then up (unit * claim m) (stay m) else 0) ms
 
 -- "Truncation figure E: over group 1, w(0) = 10^12, w(n) = up(w(n-1)×(q+i)/p); add up(w(r+1)×p/((p-q-i)×(r+1)))."
 unfoldable pub w : Life → ℕ → ℕ
@@ -100,6 +107,6 @@ w m (suc n) = up (w m n * claim m) (stay m)
 unfoldable pub truncation : ℕ → List Life → ℕ
 truncation r ms = total (λ m. if single m then up (w m (suc r) * stay m) ((stay m - claim m) * suc r) else 0) ms
 
--- "Mean, in units: group 1 (q×d + i×e)×10^6; group 2 (q×d + i×e)×a×1000. Amounts beyond X count here."
-unfoldable pub mean : ℕ → List Life → ℕ
-mean a ms = total (λ m. if single m then (m .q * m .d + m .i * m .e) * 10 ^ 6 else weight a (m .q * m .d + m .i * m .e)) ms
+-- "Mean, in units: group 1 (q×d + i×e)×10^6"; group 2 the death weight times d and the disability weight times e. "Amounts beyond X count here."
+unfoldable pub mean : Frequencies → List Life → ℕ
+mean ab ms = total (λ m. if single m then (m .q * m .d + m .i * m .e) * 10 ^ 6 else deathWeight ab m * m .d + disabilityWeight ab m * m .e) ms

@@ -13,9 +13,15 @@ pub struct Fund {
     pub members: u64,
     pub horizon: u64,
     pub order: u64,
-    pub frequency: u64,
+    pub frequency: Frequencies,
     pub deductible: u64,
     pub worth: u64,
+}
+
+// How often a place of group 2 is filled again, in thousandths: a deceased member's and a disabled member's.
+pub struct Frequencies {
+    pub death: u64,
+    pub disability: u64,
 }
 
 // A rate line: the death rate q and the disability rate i from an age on, until the next row's age, in millionths.

@@ -3,6 +3,7 @@ pub mod Triangle
 pub mod Tables
 pub mod Cells
 pub mod Ranges
+pub mod Weights
 pub mod Answer
 pub mod Valued
 pub mod Quantile
@@ -19,3 +20,4 @@ pub mod OwnRows
 pub mod Texts
 pub mod FewerRows
 pub mod LeftOut
+pub mod OneFrequency

@@ -10,6 +10,7 @@ use borrow.Author.Tests.{ltb-true, leb-true, eqb-true}
 use lib.Dec.{eqb, leb, ltb}
 use lib.ListN.{length, length-append, length-map}
 use Rattle.fund.specs.declared.Fund.{Fund}
+use Rattle.fund.specs.declared.Frequencies.{Frequencies}
 use Rattle.fund.specs.declared.Rate.{Rate}
 use Rattle.fund.specs.declared.Member.{Member}
 use Rattle.fund.specs.declared.Refusal.the-variants.{Form, Range}
@@ -213,6 +214,10 @@ header-ranges (h ∷ hs) n ns (l ∷ ls) fund e = go (spelled (h .key) (length (
           reads = subst (λ ms. Reads (headerOf ms) fund) (append-assoc ns vs (r .values)) (r .reads);
         }
 
+pub record FrequenciesOk (ab : Frequencies) : Type 0 where
+  pub death : ab .death ≤ most-frequency
+  pub disability : ab .disability ≤ most-frequency
+
 pub record HeaderOk (f : Fund) : Type 0 where
   pub rates-least : least-edition ≤ f .rates
   pub rates-most : f .rates ≤ most-edition
@@ -221,7 +226,7 @@ pub record HeaderOk (f : Fund) : Type 0 where
   pub horizon : f .horizon ≤ most-horizon
   pub order-least : least-order ≤ f .order
   pub order-most : f .order ≤ most-order
-  pub frequency : f .frequency ≤ most-frequency
+  pub frequency : FrequenciesOk (f .frequency)
   pub deductible : f .deductible ≤ most-deductible
   pub worth-least : least-worth ≤ f .worth
   pub worth-most : f .worth ≤ most-worth
@@ -232,7 +237,7 @@ pub record FundOk (fund : FundFile) : Type 0 where
 
 header-ok : (vs : List ℕ) → InRanges (rangesOf headerLines) vs → HeaderOk (headerOf vs)
 unfolding headerLines headerOf
-header-ok (a ∷ b ∷ c ∷ d ∷ e ∷ f ∷ g ∷ []) w =
+header-ok (a ∷ b ∷ c ∷ d ∷ e ∷ f ∷ g ∷ h ∷ []) w =
     record {
       rates-least = w .0 .0;
       rates-most = w .0 .1;
@@ -241,10 +246,10 @@ header-ok (a ∷ b ∷ c ∷ d ∷ e ∷ f ∷ g ∷ []) w =
       horizon = w .1 .1 .0 .1;
       order-least = w .1 .1 .1 .0 .0;
       order-most = w .1 .1 .1 .0 .1;
-      frequency = w .1 .1 .1 .1 .0 .1;
-      deductible = w .1 .1 .1 .1 .1 .0 .1;
-      worth-least = w .1 .1 .1 .1 .1 .1 .0 .0;
-      worth-most = w .1 .1 .1 .1 .1 .1 .0 .1;
+      frequency = record { death = w .1 .1 .1 .1 .0 .1; disability = w .1 .1 .1 .1 .1 .0 .1 };
+      deductible = w .1 .1 .1 .1 .1 .1 .0 .1;
+      worth-least = w .1 .1 .1 .1 .1 .1 .1 .0 .0;
+      worth-most = w .1 .1 .1 .1 .1 .1 .1 .0 .1;
     }
 header-ok [] w = absurd w
 header-ok (a ∷ []) w = absurd (w .1)
@@ -253,7 +258,8 @@ header-ok (a ∷ b ∷ c ∷ []) w = absurd (w .1 .1 .1)
 header-ok (a ∷ b ∷ c ∷ d ∷ []) w = absurd (w .1 .1 .1 .1)
 header-ok (a ∷ b ∷ c ∷ d ∷ e ∷ []) w = absurd (w .1 .1 .1 .1 .1)
 header-ok (a ∷ b ∷ c ∷ d ∷ e ∷ f ∷ []) w = absurd (w .1 .1 .1 .1 .1 .1)
-header-ok (a ∷ b ∷ c ∷ d ∷ e ∷ f ∷ g ∷ h ∷ vs) w = absurd (w .1 .1 .1 .1 .1 .1 .1)
+header-ok (a ∷ b ∷ c ∷ d ∷ e ∷ f ∷ g ∷ []) w = absurd (w .1 .1 .1 .1 .1 .1 .1)
+header-ok (a ∷ b ∷ c ∷ d ∷ e ∷ f ∷ g ∷ h ∷ i ∷ vs) w = absurd (w .1 .1 .1 .1 .1 .1 .1 .1)
 
 pub read-ranges : (file : List ℕ) (fund : FundFile) → reading file ≡ read fund → FundOk fund
 unfolding reading

@@ -2,10 +2,10 @@
 use mathlib.Core.Path.{_≡_}
 use mathlib.Core.List.{List, [], _∷_, _++_}
 use Prim.Native.Nat.{ℕ, suc, _+_}
-use lib.ListN.{length, drop, getD}
+use lib.ListN.{length, take, drop, getD}
 use Rattle.fund.specs.Reading.{Reading, stopped, HeaderLine, headerLines, readHeader, readRows, reading}
 use Rattle.reader.specs.declared.header.HeaderStep.{HeaderStep}
-use Rattle.reader.specs.declared.header.HeaderStep.the-variants.{Number, Stopped}
+use Rattle.reader.specs.declared.header.HeaderStep.the-variants.{Values, Stopped}
 use Rattle.reader.specs.declared.header.Header.{Header}
 use Rattle.reader.specs.declared.header.Header.the-variants.{Whole, Stopped as HeaderStopped}
 use Rattle.reader.specs.Lines.{linesAt}
@@ -20,13 +20,17 @@ headerLine k = getD headerLines k noLine
 abbrev pub numbersOf : ℕ → ℕ
 numbersOf k = length (headerLine k .ranges)
 
+-- The numbers of the header line k, from a first and a second.
+abbrev pub lineNumbers : ℕ → ℕ → ℕ → List ℕ
+lineNumbers k first second = take (numbersOf k) (first ∷ second ∷ [])
+
 -- The reading from the header line k on, after the numbers ns.
 abbrev pub headerFrom : List ℕ → ℕ → List ℕ → ℕ → Reading
 headerFrom file k ns at = readHeader (drop k headerLines) (k + 1) ns (linesAt file at)
 
 -- The reading after the header line k, after the numbers ns.
 abbrev pub afterHeaderLine : List ℕ → ℕ → List ℕ → HeaderStep → Reading
-afterHeaderLine file k ns (Number n next) = headerFrom file (k + 1) (ns ++ (n ∷ [])) next
+afterHeaderLine file k ns (Values first second next) = headerFrom file (k + 1) (ns ++ lineNumbers k first second) next
 afterHeaderLine file k ns (Stopped why) = stopped why (k + 1)
 
 -- The header line k at a place decides how the file is read, whatever numbers stand before it.

@@ -12,7 +12,7 @@ use Rattle.laws.specs.Rows.{blankRate, blankMember}
 use Rattle.reader.specs.declared.FileRead.{FileRead}
 
 abbrev pub blankFund : Fund
-blankFund = record { rates = 0; members = 0; horizon = 0; order = 0; frequency = 0; deductible = 0; worth = 0 }
+blankFund = record { rates = 0; members = 0; horizon = 0; order = 0; frequency = record { death = 0; disability = 0 }; deductible = 0; worth = 0 }
 
 -- Tables that begin with the given rows and are blank behind them.
 unfoldable pub rateTable : List Rate → List Rate

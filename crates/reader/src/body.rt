@@ -2,6 +2,7 @@
 use crate::FileRead;
 use crate::row;
 use crate::row::RowStep;
+use fund::Frequencies;
 use fund::Fund;
 use fund::Member;
 use fund::Rate;
@@ -17,12 +18,16 @@ ghost use Rattle.reader.specs.Read.{blankFund, fileRead};
 fn no_fund() -> Fund
     ensures { λ r. ⌜ r ≡ blankFund ⌝ }
 {
+    let frequency = Frequencies {
+        death: 0,
+        disability: 0,
+    };
     Fund {
         rates: 0,
         members: 0,
         horizon: 0,
         order: 0,
-        frequency: 0,
+        frequency,
         deductible: 0,
         worth: 0,
     }

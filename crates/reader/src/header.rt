@@ -1,22 +1,23 @@
 // The header lines, in their order.
 use crate::line;
 use crate::line::Line;
+use fund::Frequencies;
 use fund::Fund;
 use fund::Refusal;
 use spelling::Numbers;
 ghost use mathlib.Core.Path.{_≡_};
-ghost use mathlib.Core.List.{[], _∷_};
+ghost use mathlib.Core.Bool.{_&&_};
 ghost use Prim.Native.Nat.{_<_};
 ghost use lib.ListN.{length};
 ghost use Rattle.fund.specs.Spelling.{spelled};
 ghost use Rattle.fund.specs.Reading.{between, inRanges, headerLines};
 ghost use Rattle.spelling.specs.Text.{numbersIn};
 ghost use Rattle.reader.specs.Lines.{lineIn, LineInside};
-ghost use Rattle.reader.specs.Header.{headerLine, numbersOf, HeaderStepped, HeaderRead};
+ghost use Rattle.reader.specs.Header.{headerLine, numbersOf, lineNumbers, HeaderStepped, HeaderRead};
 
-// What a header line gives: its number and the next line's start, or why reading stops at it.
+// What a header line gives: its first and second number, 0 where there is no second, and the next line's start; or why reading stops at it.
 pub(crate) enum HeaderStep {
-    Number(u64, usize),
+    Values(u64, u64, usize),
     Stopped(Refusal),
 }
 
@@ -46,25 +47,35 @@ fn numbers_at(file: &[u8], line: Line, k: usize) -> Numbers
         1 => line::spelled(file, line, b"members=", 1),
         2 => line::spelled(file, line, b"horizon=", 1),
         3 => line::spelled(file, line, b"order=", 1),
-        4 => line::spelled(file, line, b"frequency=", 1),
+        4 => line::spelled(file, line, b"frequency=", 2),
         5 => line::spelled(file, line, b"deductible=", 1),
         _ => line::spelled(file, line, b"worth=", 1),
     }
 }
 
-// Whether n is in the range of the header line k, which has one number.
-fn header_in_range(k: usize, n: u64) -> bool
+// Whether two numbers are in one range.
+fn both_within(least: u64, most: u64, first: u64, second: u64) -> bool
+    ensures { λ r. ⌜ r ≡ (between least most first && between least most second) ⌝ }
+{
+    if within(least, most, first) {
+        return within(least, most, second);
+    }
+    false
+}
+
+// Whether the numbers of the header line k are in their ranges. The line of the frequencies has two, every other one.
+fn header_in_range(k: usize, first: u64, second: u64) -> bool
     requires { ⌜ k < length headerLines ⌝ }
-    ensures { λ r. ⌜ r ≡ inRanges (headerLine k .ranges) (n ∷ []) ⌝ }
+    ensures { λ r. ⌜ r ≡ inRanges (headerLine k .ranges) (lineNumbers k first second) ⌝ }
 {
     match k {
-        0 => within(Fund::LEAST_EDITION, Fund::MOST_EDITION, n),
-        1 => within(Fund::LEAST_EDITION, Fund::MOST_EDITION, n),
-        2 => within(0, Fund::MOST_HORIZON, n),
-        3 => within(Fund::LEAST_ORDER, Fund::MOST_ORDER, n),
-        4 => within(0, Fund::MOST_FREQUENCY, n),
-        5 => within(0, Fund::MOST_DEDUCTIBLE, n),
-        _ => within(Fund::LEAST_WORTH, Fund::MOST_WORTH, n),
+        0 => within(Fund::LEAST_EDITION, Fund::MOST_EDITION, first),
+        1 => within(Fund::LEAST_EDITION, Fund::MOST_EDITION, first),
+        2 => within(0, Fund::MOST_HORIZON, first),
+        3 => within(Fund::LEAST_ORDER, Fund::MOST_ORDER, first),
+        4 => both_within(0, Fund::MOST_FREQUENCY, first, second),
+        5 => within(0, Fund::MOST_DEDUCTIBLE, first),
+        _ => within(Fund::LEAST_WORTH, Fund::MOST_WORTH, first),
     }
 }
 
@@ -80,9 +91,10 @@ fn header_step(file: &[u8], at: usize, k: usize) -> HeaderStep
     let ns = numbers_at(file, l, k);
     if ns.spelled {
         let values = ns.values;
-        let n = values[0];
-        if header_in_range(k, n) {
-            return HeaderStep::Number(n, l.next);
+        let first = values[0];
+        let second = values[1];
+        if header_in_range(k, first, second) {
+            return HeaderStep::Values(first, second, l.next);
         }
         return HeaderStep::Stopped(Refusal::Range);
     }
@@ -92,7 +104,8 @@ fn header_step(file: &[u8], at: usize, k: usize) -> HeaderStep
 pub(crate) fn read_header(file: &[u8]) -> Header
     ensures { λ r. ⌜ HeaderRead (now (file .entry)) r ⌝ }
 {
-    let mut values = [0u64; Fund::HEADER_LINES];
+    let mut firsts = [0u64; Fund::HEADER_LINES];
+    let mut seconds = [0u64; Fund::HEADER_LINES];
     let mut at: usize = 0;
     let mut k: usize = 0;
     while k < Fund::HEADER_LINES {
@@ -100,21 +113,26 @@ pub(crate) fn read_header(file: &[u8]) -> Header
             HeaderStep::Stopped(why) => {
                 return Header::Stopped(why, k as u64 + 1);
             }
-            HeaderStep::Number(n, next) => {
-                values[k] = n;
+            HeaderStep::Values(first, second, next) => {
+                firsts[k] = first;
+                seconds[k] = second;
                 at = next;
             }
         }
         k += 1;
     }
+    let frequency = Frequencies {
+        death: firsts[4],
+        disability: seconds[4],
+    };
     let fund = Fund {
-        rates: values[0],
-        members: values[1],
-        horizon: values[2],
-        order: values[3],
-        frequency: values[4],
-        deductible: values[5],
-        worth: values[6],
+        rates: firsts[0],
+        members: firsts[1],
+        horizon: firsts[2],
+        order: firsts[3],
+        frequency,
+        deductible: firsts[5],
+        worth: firsts[6],
     };
     Header::Whole(fund, at)
 }

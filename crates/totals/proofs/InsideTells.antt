@@ -4,14 +4,16 @@ use mathlib.Core.Bool.{Bool, true, false, true≢false, not, _&&_, _||_}
 use mathlib.Core.List.{List, [], _∷_}
 use Prim.Native.Nat.{ℕ, _≤_}
 use lib.Dec.{leb, ltb, eqb}
+use Rattle.fund.specs.declared.Frequencies.{Frequencies}
 use Rattle.fund.specs.declared.Fund.{Fund}
 use Rattle.fund.specs.declared.Life.{Life}
 use Rattle.fund.specs.Folding.{claim, single}
 use Rattle.fund.specs.Limits.{most-members, half-rate}
 use Rattle.laws.specs.Accepted.{All, Limited}
+use Rattle.laws.specs.Ranges.{FrequenciesOk}
 use Rattle.laws.specs.Tells.{Tells, tells-as, tells-le, tells-lt, tells-eq}
 use Rattle.widths.specs.Lives.{InRange}
-use Rattle.totals.specs.Inside.{HeaderIn, headerInside, foldedRate, lifeInside, allInside, inside}
+use Rattle.totals.specs.Inside.{HeaderIn, frequenciesInside, headerInside, foldedRate, lifeInside, allInside, inside}
 
 tells-and : {P Q : Type 0} (a b : Bool) → Tells a P → Tells b Q → Tells (a && b) (P × Q)
 tells-and true b p q = record { yes = λ e. (p .yes refl, q .yes e); no = λ h. q .no (h .1) }
@@ -27,11 +29,15 @@ le m n = tells-le m n (λ h. h) (λ h. h)
 eq : (m n : ℕ) → Tells (eqb m n) (m ≡ n)
 eq m n = tells-eq m n (λ h. h) (λ h. h)
 
+frequencies-tell : (ab : Frequencies) → Tells (frequenciesInside ab) (FrequenciesOk ab)
+unfolding frequenciesInside
+frequencies-tell ab = tells-as (tells-and _ _ (le _ _) (le _ _)) (λ h. record { death = h .0; disability = h .1 }) (λ h. (h .death, h .disability))
+
 header-tells : (fund : Fund) → Tells (headerInside fund) (HeaderIn fund)
 unfolding headerInside
 header-tells fund =
     tells-as
-    (tells-and _ _ (le _ _) (tells-and _ _ (le _ _) (tells-and _ _ (le _ _) (tells-and _ _ (le _ _) (tells-and _ _ (le _ _) (le _ _))))))
+    (tells-and _ _ (le _ _) (tells-and _ _ (le _ _) (tells-and _ _ (frequencies-tell (fund .frequency)) (tells-and _ _ (le _ _) (tells-and _ _ (le _ _) (le _ _))))))
     (λ h. record { horizon = h .0; order = h .1 .0; frequency = h .1 .1 .0; deductible = h .1 .1 .1 .0; worth-least = h .1 .1 .1 .1 .0; worth-most = h .1 .1 .1 .1 .1 })
     (λ h. (h .horizon, (h .order, (h .frequency, (h .deductible, (h .worth-least, h .worth-most))))))
 

@@ -3,24 +3,29 @@ use mathlib.Core.Bool.{Bool, true, not, _&&_, _||_}
 use mathlib.Core.List.{List, [], _∷_}
 use Prim.Native.Nat.{ℕ, suc, _≤_}
 use lib.Dec.{leb, ltb, eqb}
+use Rattle.fund.specs.declared.Frequencies.{Frequencies}
 use Rattle.fund.specs.declared.Fund.{Fund}
 use Rattle.fund.specs.declared.Life.{Life}
 use Rattle.fund.specs.Folding.{claim, single}
 use Rattle.fund.specs.Limits.{most-horizon, most-order, most-frequency, least-worth, most-worth, most-members, least-group, most-group, most-rate, half-rate, most-amount}
+use Rattle.laws.specs.Ranges.{FrequenciesOk}
 
 -- The header's figures that the valuation uses are in their ranges.
 pub record HeaderIn (fund : Fund) : Type 0 where
   pub horizon : fund .horizon ≤ most-horizon
   pub order : fund .order ≤ most-order
-  pub frequency : fund .frequency ≤ most-frequency
+  pub frequency : FrequenciesOk (fund .frequency)
   pub deductible : fund .deductible ≤ suc (fund .horizon)
   pub worth-least : least-worth ≤ fund .worth
   pub worth-most : fund .worth ≤ most-worth
 
 -- The same as tests.
+unfoldable pub frequenciesInside : Frequencies → Bool
+frequenciesInside ab = leb (ab .death) most-frequency && leb (ab .disability) most-frequency
+
 unfoldable pub headerInside : Fund → Bool
 headerInside fund =
-    leb (fund .horizon) most-horizon && (leb (fund .order) most-order && (leb (fund .frequency) most-frequency && (leb (fund .deductible) (suc (fund .horizon))
+    leb (fund .horizon) most-horizon && (leb (fund .order) most-order && (frequenciesInside (fund .frequency) && (leb (fund .deductible) (suc (fund .horizon))
     && (leb least-worth (fund .worth) && leb (fund .worth) most-worth))))
 
 -- A rate with amount 0 is 0.

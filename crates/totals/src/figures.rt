@@ -1,4 +1,5 @@
 // The figures of a fund that add up over its lives: lambda, load, truncation figure and mean. Each is one walk over the table.
+use fund::Frequencies;
 use fund::Fund;
 use fund::Life;
 use rounding::MILLION;
@@ -8,9 +9,10 @@ use whole::up;
 ghost use mathlib.Core.Path.{_≡_};
 ghost use Prim.Native.Nat.{min, _+_, _-_, _*_, _^_, _<_, _≤_};
 ghost use Rattle.rounding.specs.Rounding.{up as upOf};
-ghost use Rattle.fund.specs.Limits.{most-frequency, most-order, most-truncation, half-rate};
+ghost use Rattle.fund.specs.Limits.{most-order, most-truncation, half-rate};
 ghost use Rattle.fund.specs.Folding.{claim, stay};
-ghost use Rattle.fund.specs.Transform.{lambda as lambdaOf, load as loadOf, truncation as truncationOf, mean as meanOf, unit, w};
+ghost use Rattle.fund.specs.Transform.{deathWeight, disabilityWeight, lambda as lambdaOf, load as loadOf, truncation as truncationOf, mean as meanOf, unit, w};
+ghost use Rattle.laws.specs.Ranges.{FrequenciesOk};
 ghost use Rattle.widths.specs.Lives.{InRange};
 ghost use Rattle.widths.specs.Parts.{lambdaPart, singleLoad, loadPart, truncationPart, meanPart};
 ghost use Rattle.totals.specs.Table.{Members, most-mean};
@@ -18,34 +20,49 @@ ghost use Rattle.totals.specs.Table.{Members, most-mean};
 // A mean of a fund that is not refused is at most this.
 const MOST_MEAN: u64 = Fund::MOST_AMOUNT * Fund::MOST_LOAD;
 
+// The weights of a life, of death and of disability.
+fn death_weight(m: Life, ab: Frequencies) -> u64
+    requires { ⌜ InRange m × FrequenciesOk ab ⌝ }
+    ensures { λ r. ⌜ r ≡ deathWeight ab m ⌝ }
+{
+    m.q * ab.death * 1000
+}
+
+fn disability_weight(m: Life, ab: Frequencies) -> u64
+    requires { ⌜ InRange m × FrequenciesOk ab ⌝ }
+    ensures { λ r. ⌜ r ≡ disabilityWeight ab m ⌝ }
+{
+    m.i * ab.disability * 1000
+}
+
 // What a life adds to lambda.
-fn lambda_part(m: Life, a: u64) -> u64
-    requires { ⌜ InRange m × (a ≤ most-frequency) ⌝ }
-    ensures { λ r. ⌜ r ≡ lambdaPart a m ⌝ }
+fn lambda_part(m: Life, ab: Frequencies) -> u64
+    requires { ⌜ InRange m × FrequenciesOk ab ⌝ }
+    ensures { λ r. ⌜ r ≡ lambdaPart ab m ⌝ }
 {
     if m.group == 1 {
         return 0;
     }
-    (m.q + m.i) * a * 1000
+    death_weight(m, ab) + disability_weight(m, ab)
 }
 
 // Lambda of one life more.
-fn lambda_step(sum: u64, m: Life, a: u64) -> u64
-    requires { ⌜ InRange m × (a ≤ most-frequency) × (sum + lambdaPart a m < 2 ^ 64) ⌝ }
-    ensures { λ r. ⌜ r ≡ sum + lambdaPart a m ⌝ }
+fn lambda_step(sum: u64, m: Life, ab: Frequencies) -> u64
+    requires { ⌜ InRange m × FrequenciesOk ab × (sum + lambdaPart ab m < 2 ^ 64) ⌝ }
+    ensures { λ r. ⌜ r ≡ sum + lambdaPart ab m ⌝ }
 {
-    sum + lambda_part(m, a)
+    sum + lambda_part(m, ab)
 }
 
 // Lambda, in units: at most 5,000,000 × 10^6 for each life.
-pub(crate) fn lambda(members: &[Life], a: u64) -> u64
-    requires { ⌜ Members (now members) × (a ≤ most-frequency) ⌝ }
-    ensures { λ r. ⌜ r ≡ lambdaOf a (now (members .entry)) ⌝ }
+pub(crate) fn lambda(members: &[Life], ab: Frequencies) -> u64
+    requires { ⌜ Members (now members) × FrequenciesOk ab ⌝ }
+    ensures { λ r. ⌜ r ≡ lambdaOf ab (now (members .entry)) ⌝ }
 {
     let mut sum: u64 = 0;
     let mut k: usize = 0;
     while k < members.len() {
-        sum = lambda_step(sum, members[k], a);
+        sum = lambda_step(sum, members[k], ab);
         k += 1;
     }
     sum
@@ -64,22 +81,22 @@ fn single_part(m: Life) -> u64
 }
 
 // The load of one life more.
-fn load_step(sum: u64, m: Life, a: u64) -> u64
-    requires { ⌜ InRange m × (a ≤ most-frequency) × (sum + loadPart a m < 2 ^ 64) ⌝ }
-    ensures { λ r. ⌜ r ≡ sum + loadPart a m ⌝ }
+fn load_step(sum: u64, m: Life, ab: Frequencies) -> u64
+    requires { ⌜ InRange m × FrequenciesOk ab × (sum + loadPart ab m < 2 ^ 64) ⌝ }
+    ensures { λ r. ⌜ r ≡ sum + loadPart ab m ⌝ }
 {
-    sum + (lambda_part(m, a) + single_part(m))
+    sum + (lambda_part(m, ab) + single_part(m))
 }
 
 // The load, in units.
-pub(crate) fn load(members: &[Life], a: u64) -> u64
-    requires { ⌜ Members (now members) × (a ≤ most-frequency) ⌝ }
-    ensures { λ r. ⌜ r ≡ loadOf a (now (members .entry)) ⌝ }
+pub(crate) fn load(members: &[Life], ab: Frequencies) -> u64
+    requires { ⌜ Members (now members) × FrequenciesOk ab ⌝ }
+    ensures { λ r. ⌜ r ≡ loadOf ab (now (members .entry)) ⌝ }
 {
     let mut sum: u64 = 0;
     let mut k: usize = 0;
     while k < members.len() {
-        sum = load_step(sum, members[k], a);
+        sum = load_step(sum, members[k], ab);
         k += 1;
     }
     sum
@@ -143,43 +160,44 @@ pub(crate) fn truncation(members: &[Life], r: u64) -> u64
     sum
 }
 
-// An amount by its rate.
-fn by_rate(rate: u64, amount: u64) -> u64
-    requires { ⌜ rate * amount ≤ 2 ^ 40 ⌝ }
-    ensures { λ r. ⌜ r ≡ rate * amount ⌝ }
+// An amount by its rate or its weight.
+fn weighed(weight: u64, amount: u64) -> u64
+    requires { ⌜ weight * amount < 2 ^ 64 ⌝ }
+    ensures { λ r. ⌜ r ≡ weight * amount ⌝ }
 {
-    rate * amount
+    weight * amount
 }
 
 // What a life adds to the mean.
-fn mean_part(m: Life, a: u64) -> u64
-    requires { ⌜ InRange m × (a ≤ most-frequency) ⌝ }
-    ensures { λ r. ⌜ r ≡ meanPart a m ⌝ }
+fn mean_part(m: Life, ab: Frequencies) -> u64
+    requires { ⌜ InRange m × FrequenciesOk ab ⌝ }
+    ensures { λ r. ⌜ r ≡ meanPart ab m ⌝ }
 {
-    let amount = by_rate(m.q, m.d) + by_rate(m.i, m.e);
     if m.group == 1 {
-        return amount * MILLION;
+        return (weighed(m.q, m.d) + weighed(m.i, m.e)) * MILLION;
     }
-    amount * a * 1000
+    let death = death_weight(m, ab);
+    let disability = disability_weight(m, ab);
+    weighed(death, m.d) + weighed(disability, m.e)
 }
 
 // The mean of one life more. Sums above the largest are not told apart.
-fn mean_step(sum: u64, m: Life, a: u64) -> u64
-    requires { ⌜ InRange m × (a ≤ most-frequency) × (sum ≤ most-mean) ⌝ }
-    ensures { λ r. ⌜ r ≡ min (sum + meanPart a m) most-mean ⌝ }
+fn mean_step(sum: u64, m: Life, ab: Frequencies) -> u64
+    requires { ⌜ InRange m × FrequenciesOk ab × (sum ≤ most-mean) ⌝ }
+    ensures { λ r. ⌜ r ≡ min (sum + meanPart ab m) most-mean ⌝ }
 {
-    least(sum + mean_part(m, a), MOST_MEAN)
+    least(sum + mean_part(m, ab), MOST_MEAN)
 }
 
 // The mean, in units, or the largest of a fund that is not refused where it is larger.
-pub(crate) fn mean(members: &[Life], a: u64) -> u64
-    requires { ⌜ Members (now members) × (a ≤ most-frequency) ⌝ }
-    ensures { λ r. ⌜ r ≡ min (meanOf a (now (members .entry))) most-mean ⌝ }
+pub(crate) fn mean(members: &[Life], ab: Frequencies) -> u64
+    requires { ⌜ Members (now members) × FrequenciesOk ab ⌝ }
+    ensures { λ r. ⌜ r ≡ min (meanOf ab (now (members .entry))) most-mean ⌝ }
 {
     let mut sum: u64 = 0;
     let mut k: usize = 0;
     while k < members.len() {
-        sum = mean_step(sum, members[k], a);
+        sum = mean_step(sum, members[k], ab);
         k += 1;
     }
     sum

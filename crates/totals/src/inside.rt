@@ -1,4 +1,5 @@
 // Whether a header and the lives of a table are in the ranges that reading and refusal 6 leave.
+use fund::Frequencies;
 use fund::Fund;
 use fund::Life;
 ghost use mathlib.Core.Path.{_≡_};
@@ -6,9 +7,19 @@ ghost use mathlib.Core.Bool.{true};
 ghost use Prim.Native.Nat.{_≤_};
 ghost use Rattle.fund.specs.Limits.{most-members};
 ghost use Rattle.laws.specs.Accepted.{All, Limited};
+ghost use Rattle.laws.specs.Ranges.{FrequenciesOk};
 ghost use Rattle.widths.specs.Lives.{InRange};
 ghost use Rattle.laws.specs.Tells.{Tells};
 ghost use Rattle.totals.specs.Inside.{HeaderIn};
+
+fn frequencies_inside(ab: Frequencies) -> bool
+    ensures { λ r. ⌜ Tells r (FrequenciesOk ab) ⌝ }
+{
+    if Fund::MOST_FREQUENCY < ab.death {
+        return false;
+    }
+    ab.disability <= Fund::MOST_FREQUENCY
+}
 
 fn header_inside(fund: Fund) -> bool
     ensures { λ r. ⌜ Tells r (HeaderIn fund) ⌝ }
@@ -19,7 +30,7 @@ fn header_inside(fund: Fund) -> bool
     if Fund::MOST_ORDER < fund.order {
         return false;
     }
-    if Fund::MOST_FREQUENCY < fund.frequency {
+    if !frequencies_inside(fund.frequency) {
         return false;
     }
     if fund.worth < Fund::LEAST_WORTH {

@@ -12,6 +12,7 @@ use types.Run.{OneOf}
 use denote.Enum.Declared as Declared
 use Rattle.algebra.specs.NatSum.{sumN-ext}
 use Rattle.fund.specs.declared.Fund.{Fund}
+use Rattle.fund.specs.declared.Frequencies.{Frequencies}
 use Rattle.fund.specs.declared.Life.{Life}
 use Rattle.fund.specs.declared.Refusal.the-variants as refusal
 use Rattle.fund.specs.declared.Verdict.the-variants.{Accepted, Refused}
@@ -58,7 +59,7 @@ use Rattle.valuation.proofs.RunningSums.{fronted}
 use Rattle.valuation.proofs.Recursing.{answerOf, narrow-of, FundFits, recursion-is}
 
 -- a mean that the cap does not change
-mean-is : (ms : List Life) → Members ms → (a m : ℕ) → load a ms ≤ most-load → m ≡ min (mean a ms) most-mean → m ≡ mean a ms
+mean-is : (ms : List Life) → Members ms → (a : Frequencies) (m : ℕ) → load a ms ≤ most-load → m ≡ min (mean a ms) most-mean → m ≡ mean a ms
 unfolding mean
 mean-is ms l a m h e = omega (arith, e, load-is a ms, total-le InRange (meanPart a) (loadPart a) 65535 0 (λ m r. mean-le m a r) ms (l .in-range))
 

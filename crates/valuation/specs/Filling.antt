@@ -6,8 +6,9 @@ use lib.IntN.{ℤ}
 use lib.ListN.{drop}
 use Rattle.fund.specs.declared.Life.{Life}
 use Rattle.fund.specs.Base.{table}
-use Rattle.fund.specs.Limits.{most-order, most-frequency, most-load}
+use Rattle.fund.specs.Limits.{most-order, most-load}
 use Rattle.fund.specs.Transform.{D, H, load, terms}
+use Rattle.laws.specs.Ranges.{FrequenciesOk}
 use Rattle.widths.specs.Lives.{InRange}
 use Rattle.widths.specs.Adding.{addD, addH, Room, lifeTerms, Cleared}
 use Rattle.valuation.specs.declared.transform.Filling.{Filling}
@@ -17,7 +18,7 @@ use Rattle.totals.specs.Table.{Members}
 pub record LifeFits (d : List ℤ) (h : List ℕ) (m : Life) (x : Filling) : Type 0 where
   pub in-range : InRange m
   pub order : x .order ≤ most-order
-  pub frequency : x .frequency ≤ most-frequency
+  pub frequency : FrequenciesOk (x .frequency)
   pub room : Room (x .horizon) d h (lifeTerms (x .horizon) (x .order) (x .frequency) m)
 
 pub record LifeAdded (d : List ℤ) (h : List ℕ) (m : Life) (x : Filling) (d′ : List ℤ) (h′ : List ℕ) : Type 0 where
@@ -28,7 +29,7 @@ pub record LifeAdded (d : List ℤ) (h : List ℕ) (m : Life) (x : Filling) (d�
 pub record TableFits (ms : List Life) (x : Filling) (d : List ℤ) (h : List ℕ) : Type 0 where
   pub members : Members ms
   pub order : x .order ≤ most-order
-  pub frequency : x .frequency ≤ most-frequency
+  pub frequency : FrequenciesOk (x .frequency)
   pub load-within : load (x .frequency) ms ≤ most-load
   pub cleared : Cleared (x .horizon) d h
 

@@ -167,10 +167,11 @@ fn first_transform(
     ensures { λ _. ⌜ TransformFilled fund (take n lives) (length (now (transform .entry))) (length (now (h .entry))) (now (transform .exit)) (now (h .exit)) ⌝ }
 {
     clear_transform(transform, h);
+    let frequency = fund.frequency;
     let filling = Filling {
         horizon: fund.horizon,
         order: fund.order,
-        frequency: fund.frequency,
+        frequency,
     };
     lives::fill_first(lives, n, filling, transform, h);
 }

@@ -1,4 +1,5 @@
 // The transform: each life's terms, added to D and H at their places.
+use fund::Frequencies;
 use fund::Life;
 use rounding::MILLION;
 use rounding::UNIT;
@@ -11,19 +12,21 @@ ghost use lib.IntN.{pos, natAbs, _+ℤ_};
 ghost use lib.ListN.{length, getD, set};
 ghost use Rattle.rounding.specs.Rounding.{near};
 ghost use Rattle.fund.specs.Base.{alternate};
-ghost use Rattle.fund.specs.Limits.{half-rate, most-rate, most-order, most-frequency};
+ghost use Rattle.fund.specs.Limits.{half-rate, most-rate, most-order};
 ghost use Rattle.fund.specs.Folding.{claim, stay, single};
-ghost use Rattle.fund.specs.Transform.{placeOf, placed as placedOf, replacedTerm, replacedTerms, row as rowOf, rowTerms, singleTerms, weight};
+ghost use Rattle.fund.specs.Transform.{placeOf, placed as placedOf, replacedTerm, replacedTerms, row as rowOf, rowTerms, singleTerms};
+ghost use Rattle.laws.specs.Ranges.{FrequenciesOk};
+ghost use Rattle.laws.specs.Weights.{most-weight};
 ghost use Rattle.widths.specs.Lives.{InRange};
 ghost use Rattle.widths.specs.Adding.{addD, addH, Room, RoomD, SingleRow, TermRoom, termsAt};
 ghost use Rattle.whole.specs.Sign.{signed};
 ghost use Rattle.valuation.specs.Filling.{LifeFits, LifeAdded, TableFits, TableAdded};
 
-// How the cells are filled: up to which horizon, by which order and at which frequency.
+// How the cells are filled: up to which horizon, by which order and at which frequencies.
 pub(crate) struct Filling {
     pub(crate) horizon: u64,
     pub(crate) order: u64,
-    pub(crate) frequency: u64,
+    pub(crate) frequency: Frequencies,
 }
 
 // A number of a row, from the two above it. Their sum is below 5×10^17, so one word is enough; where it is 0, nothing is divided.
@@ -170,7 +173,7 @@ fn add_single(d: &mut [i64], h: &mut [u64], horizon: u64, m: Life, order: u64)
 
 // One of the two terms of a life of group 2: the weight w times its place k.
 fn add_replaced_term(d: &mut [i64], horizon: u64, w: u64, k: u64)
-    requires { ⌜ (w ≤ weight most-frequency most-rate) × RoomD horizon (now d) (replacedTerm horizon w k) ⌝ }
+    requires { ⌜ (w ≤ most-weight) × RoomD horizon (now d) (replacedTerm horizon w k) ⌝ }
     ensures { λ r. ⌜ now (d .exit) ≡ addD (now (d .entry)) (replacedTerm horizon w k) ⌝ }
 {
     if w == 0 {
@@ -186,12 +189,12 @@ fn add_replaced_term(d: &mut [i64], horizon: u64, w: u64, k: u64)
 }
 
 // The terms of a life of group 2, by death and by disability.
-fn add_replaced(d: &mut [i64], horizon: u64, m: Life, a: u64)
-    requires { ⌜ InRange m × (a ≤ most-frequency) × RoomD horizon (now d) (replacedTerms horizon a m) ⌝ }
-    ensures { λ r. ⌜ now (d .exit) ≡ addD (now (d .entry)) (replacedTerms horizon a m) ⌝ }
+fn add_replaced(d: &mut [i64], horizon: u64, m: Life, ab: Frequencies)
+    requires { ⌜ InRange m × FrequenciesOk ab × RoomD horizon (now d) (replacedTerms horizon ab m) ⌝ }
+    ensures { λ r. ⌜ now (d .exit) ≡ addD (now (d .entry)) (replacedTerms horizon ab m) ⌝ }
 {
-    add_replaced_term(d, horizon, m.q * a * 1000, m.d);
-    add_replaced_term(d, horizon, m.i * a * 1000, m.e);
+    add_replaced_term(d, horizon, m.q * ab.death * 1000, m.d);
+    add_replaced_term(d, horizon, m.i * ab.disability * 1000, m.e);
 }
 
 // The terms of a life.

@@ -7,6 +7,7 @@ use Prim.Native.Nat.{ℕ, _+_, _*_, _^_, _≤_, _<_}
 use lib.IntN.{ℤ, pos, natAbs, _+ℤ_}
 use lib.ListN.{length, getD, set}
 use Rattle.rounding.specs.Rounding.{near}
+use Rattle.fund.specs.declared.Frequencies.{Frequencies}
 use Rattle.fund.specs.declared.Life.{Life}
 use Rattle.fund.specs.Base.{if_then_else_, total}
 use Rattle.fund.specs.Limits.{most-horizon, most-order}
@@ -46,7 +47,7 @@ pub record Room (X : ℕ) (d : List ℤ) (h : List ℕ) (ts : List Term) : Type 
 abbrev pub termsAt : ℕ → Life → ℕ → ℕ → List Term
 termsAt X m n l = if placed X m n l then termOf m n l ∷ [] else []
 
-abbrev pub lifeTerms : ℕ → ℕ → ℕ → Life → List Term
+abbrev pub lifeTerms : ℕ → ℕ → Frequencies → Life → List Term
 lifeTerms X r a m = if single m then singleTerms X m r else replacedTerms X a m
 
 -- What a placed number v of row n asks of the cells at its place x.

@@ -8,10 +8,13 @@ use native.Mathlib.Numerals.{add-one}
 use native.Mathlib.Omega.{arith}
 use Rattle.rounding.specs.Rounding.{up}
 use Rattle.rounding.proofs.Laws.{up-least, up-above}
+use Rattle.fund.specs.declared.Frequencies.{Frequencies}
 use Rattle.fund.specs.declared.Life.{Life}
 use Rattle.fund.specs.Base.{if_then_else_, total}
 use Rattle.fund.specs.Folding.{claim, stay, single}
-use Rattle.fund.specs.Transform.{unit, weight, w, lambda, load}
+use Rattle.fund.specs.Transform.{unit, deathWeight, disabilityWeight, w, lambda, load}
+use Rattle.laws.specs.Ranges.{FrequenciesOk}
+use Rattle.laws.specs.Weights.{most-weight, weights-most}
 use Rattle.widths.specs.Lives.{InRange}
 use Rattle.widths.specs.Parts.{lambdaPart, singleLoad, loadPart, truncationPart, meanPart}
 
@@ -23,9 +26,8 @@ by-group m x y b f h = go (single m) refl
     go true e = f e
     go false e = h
 
-pub lambda-le : (m : Life) (a : ℕ) → InRange m → a ≤ 5000 → lambdaPart a m ≤ 5000000000000
-lambda-le m a r h =
-    by-group m 0 (weight a (claim m)) 5000000000000 (λ e. omega arith) (omega (arith, N.mul-le-mul (r .rates) h))
+pub lambda-le : (m : Life) (a : Frequencies) → InRange m → FrequenciesOk a → lambdaPart a m ≤ most-weight
+lambda-le m a r h = by-group m 0 (deathWeight a m + disabilityWeight a m) most-weight (λ e. omega arith) (weights-most a m h (r .rates))
 
 pub single-le : (m : Life) → InRange m → singleLoad m ≤ 1000000000000
 unfolding unit
@@ -68,18 +70,22 @@ truncation-le m n r =
 pub amount-le : (m : Life) → InRange m → m .q * m .d + m .i * m .e ≤ claim m * 65535
 amount-le m r = omega (arith, N.mul-le-mul-left (m .q) (r .death), N.mul-le-mul-left (m .i) (r .disability))
 
-pub mean-le : (m : Life) (a : ℕ) → InRange m → meanPart a m ≤ 65535 * (loadPart a m + 0)
+pub weighted-le : (m : Life) (a : Frequencies) → InRange m → deathWeight a m * m .d + disabilityWeight a m * m .e ≤ 65535 * (deathWeight a m + disabilityWeight a m)
+weighted-le m a r = omega (arith, N.mul-le-mul-left (deathWeight a m) (r .death), N.mul-le-mul-left (disabilityWeight a m) (r .disability))
+
+pub mean-le : (m : Life) (a : Frequencies) → InRange m → meanPart a m ≤ 65535 * (loadPart a m + 0)
 unfolding unit
-mean-le m a r = go (m .q * m .d + m .i * m .e) (amount-le m r) (single m) refl
+mean-le m a r = go (m .q * m .d + m .i * m .e) (amount-le m r) (deathWeight a m * m .d + disabilityWeight a m * m .e) (weighted-le m a r) (single m) refl
   where
-    go : (s : ℕ) → s ≤ claim m * 65535 → (t : Bool) → single m ≡ t → (if t then s * 10 ^ 6 else weight a s) ≤ 65535 * ((if t then 0 else weight a (claim m)) + (if t then up (unit * claim m) (stay m) else 0) + 0)
-    go s h true e =
+    go : (s : ℕ) → s ≤ claim m * 65535 → (u : ℕ) → u ≤ 65535 * (deathWeight a m + disabilityWeight a m) → (t : Bool) → single m ≡ t →
+        (if t then s * 10 ^ 6 else u) ≤ 65535 * ((if t then 0 else deathWeight a m + disabilityWeight a m) + (if t then up (unit * claim m) (stay m) else 0) + 0)
+    go s h u k true e =
         let c = r .limited e in
         let l : 1000000 * claim m ≤ up (unit * claim m) (stay m) = up-above (unit * claim m) (stay m) (1000000 * claim m) (omega arith) (omega (arith, N.mul-le-mul-right (1000000 * claim m) (N.sub-le 1000000 (claim m)))) in
         omega arith
-    go s h false e = omega (arith, N.mul-le-mul-right a h)
+    go s h u k false e = omega (arith, k)
 
-pub load-is : (a : ℕ) (ms : List Life) → load a ms ≡ total (loadPart a) ms
+pub load-is : (a : Frequencies) (ms : List Life) → load a ms ≡ total (loadPart a) ms
 unfolding load lambda total
 load-is a [] = refl
 load-is a (m ∷ ms) = let h = load-is a ms in omega arith

@@ -14,10 +14,11 @@ use lib.ListN.{getD, set}
 use lib.Seq.{set-getD}
 use Rattle.rounding.specs.Rounding.{near}
 use Rattle.rounding.proofs.Laws.{near-zero}
+use Rattle.fund.specs.declared.Frequencies.{Frequencies}
 use Rattle.fund.specs.declared.Life.{Life}
 use Rattle.fund.specs.Base.{if_then_else_, total, alternate}
 use Rattle.fund.specs.Folding.{single}
-use Rattle.fund.specs.Transform.{row, placeOf, placed, termOf, rowTerms, singleTerms, weight, replacedTerm, replacedTerms}
+use Rattle.fund.specs.Transform.{row, placeOf, placed, termOf, rowTerms, singleTerms, deathWeight, disabilityWeight, replacedTerm, replacedTerms}
 use Rattle.laws.specs.Triangle.{v-most}
 use Rattle.widths.specs.Adding.{addD, addH, sizeD, sizeH, Room, TermRoom, SingleRow, termsAt, lifeTerms}
 use Rattle.whole.specs.Sign.{signed}
@@ -153,16 +154,16 @@ module _ (X w k : ℕ) where
       go true = sym (ap (set h k) (N.add-zero (getD h k 0)) ∙ set-getD h k 0)
       go false = refl
 
-pub replaced-none : (X a : ℕ) (m : Life) (h : List ℕ) → h ≡ addH h (replacedTerms X a m)
+pub replaced-none : (X : ℕ) (a : Frequencies) (m : Life) (h : List ℕ) → h ≡ addH h (replacedTerms X a m)
 unfolding replacedTerms
 replaced-none X a m h =
-    replaced-h X (weight a (m .i)) (m .e) h
-    ∙ ap (λ x. addH x (replacedTerm X (weight a (m .i)) (m .e))) (replaced-h X (weight a (m .q)) (m .d) h)
-    ∙ sym (addH-append h (replacedTerm X (weight a (m .q)) (m .d)) (replacedTerm X (weight a (m .i)) (m .e)))
+    replaced-h X (disabilityWeight a m) (m .e) h
+    ∙ ap (λ x. addH x (replacedTerm X (disabilityWeight a m) (m .e))) (replaced-h X (deathWeight a m) (m .d) h)
+    ∙ sym (addH-append h (replacedTerm X (deathWeight a m) (m .d)) (replacedTerm X (disabilityWeight a m) (m .e)))
 
 -- ---- either group
-pub life-single : (X r a : ℕ) (m : Life) → single m ≡ true → lifeTerms X r a m ≡ singleTerms X m r
+pub life-single : (X r : ℕ) (a : Frequencies) (m : Life) → single m ≡ true → lifeTerms X r a m ≡ singleTerms X m r
 life-single X r a m e = rw e
 
-pub life-replaced : (X r a : ℕ) (m : Life) → single m ≡ false → lifeTerms X r a m ≡ replacedTerms X a m
+pub life-replaced : (X r : ℕ) (a : Frequencies) (m : Life) → single m ≡ false → lifeTerms X r a m ≡ replacedTerms X a m
 life-replaced X r a m e = rw e

@@ -11,10 +11,11 @@ use lib.Dec.{eqb, leb, ltb, eqb·suc-zero}
 use lib.IntN.{ℤ, pos, natAbs, _+ℤ_, +ℤ-idl}
 use lib.ListN.{length, getD, take, drop, take-append-drop}
 use lib.Seq.{ext-getD, getD-take, length-take-le}
+use Rattle.fund.specs.declared.Frequencies.{Frequencies}
 use Rattle.fund.specs.declared.Life.{Life}
 use Rattle.fund.specs.Base.{if_then_else_, table}
 use Rattle.fund.specs.Folding.{single}
-use Rattle.fund.specs.Transform.{Term, row, placeOf, placed, termOf, rowTerms, singleTerms, replacedTerm, replacedTerms, weight, terms, sumD, sumH, D, H}
+use Rattle.fund.specs.Transform.{Term, row, placeOf, placed, termOf, rowTerms, singleTerms, replacedTerm, replacedTerms, deathWeight, disabilityWeight, terms, sumD, sumH, D, H}
 use Rattle.laws.specs.Accepted.{All, all-map}
 use Rattle.laws.specs.Tables.{length-table, getD-table}
 use Rattle.widths.specs.Adding.{addD, addH, sizeD, sizeH, Room, termsAt, lifeTerms, Cleared}
@@ -68,7 +69,7 @@ replaced-sound X w k = go (ltb 0 k) (leb k X) refl refl
     go true false e f = tt
     go false c e f = tt
 
-pub terms-sound : (X r a : ℕ) (ms : List Life) → All (Sound X) (terms X r a ms)
+pub terms-sound : (X r : ℕ) (a : Frequencies) (ms : List Life) → All (Sound X) (terms X r a ms)
 unfolding terms replacedTerms
 terms-sound X r a [] = tt
 terms-sound X r a (m ∷ ms) = all-join (Sound X) (lifeTerms X r a m) (terms X r a ms) (go (single m)) (terms-sound X r a ms)
@@ -76,8 +77,8 @@ terms-sound X r a (m ∷ ms) = all-join (Sound X) (lifeTerms X r a m) (terms X r
     go : (b : Bool) → All (Sound X) (if b then singleTerms X m r else replacedTerms X a m)
     go true = single-sound X m r
     go false =
-        all-join (Sound X) (replacedTerm X (weight a (m .q)) (m .d)) (replacedTerm X (weight a (m .i)) (m .e))
-        (replaced-sound X (weight a (m .q)) (m .d)) (replaced-sound X (weight a (m .i)) (m .e))
+        all-join (Sound X) (replacedTerm X (deathWeight a m) (m .d)) (replacedTerm X (disabilityWeight a m) (m .e))
+        (replaced-sound X (deathWeight a m) (m .d)) (replaced-sound X (disabilityWeight a m) (m .e))
 
 -- ---- D and H are the sums over the terms at each place, 0 among them
 sumD-zero : (X : ℕ) (ts : List Term) → All (Sound X) ts → sumD 0 ts ≡ pos 0

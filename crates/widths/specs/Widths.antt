@@ -13,11 +13,12 @@ use lib.IntN.{ℤ, pos, natAbs}
 use lib.ListN.{length, getD, take}
 use Rattle.rounding.specs.Rounding.{up}
 use Rattle.rounding.proofs.Laws.{near-below}
+use Rattle.fund.specs.declared.Frequencies.{Frequencies}
 use Rattle.fund.specs.declared.Life.{Life}
 use Rattle.fund.specs.Base.{if_then_else_, total, sum}
 use Rattle.fund.specs.Limits.{most-horizon, most-members}
 use Rattle.fund.specs.Folding.{claim, stay, single}
-use Rattle.fund.specs.Transform.{unit, row, Term, placeOf, placed, rowTerms, singleTerms, weight, replacedTerm, replacedTerms, terms, sumD, D, H, load}
+use Rattle.fund.specs.Transform.{unit, row, Term, placeOf, placed, rowTerms, singleTerms, deathWeight, disabilityWeight, replacedTerm, replacedTerms, terms, sumD, D, H, load}
 use Rattle.laws.specs.Accepted.{All}
 use Rattle.widths.specs.Lives.{InRange}
 use Rattle.widths.specs.Parts.{loadPart}
@@ -83,17 +84,17 @@ module _ (X : ℕ) (h : X ≤ most-horizon) (m : Life) where
       go true false e f = omega (arith, ap sizeD (replaced-beyond X w k (leb-false k X f)), none-D)
       go false c e f = omega (arith, ap sizeD (replaced-zero X w k (omega (arith, ltb-false 0 k e))), none-D)
 
-  life-D : (r a : ℕ) → InRange m → r ≤ 12 → sizeD (lifeTerms X r a m) ≤ 49140 * (loadPart a m + 84)
+  life-D : (r : ℕ) (a : Frequencies) → InRange m → r ≤ 12 → sizeD (lifeTerms X r a m) ≤ 49140 * (loadPart a m + 84)
   unfolding replacedTerms
   life-D r a i g = go (single m) refl
     where
-      go : (b : Bool) → single m ≡ b → sizeD (if b then singleTerms X m r else replacedTerms X a m) ≤ 49140 * ((if b then 0 else weight a (claim m)) + (if b then up (unit * claim m) (stay m) else 0) + 84)
+      go : (b : Bool) → single m ≡ b → sizeD (if b then singleTerms X m r else replacedTerms X a m) ≤ 49140 * ((if b then 0 else deathWeight a m + disabilityWeight a m) + (if b then up (unit * claim m) (stay m) else 0) + 84)
       go true e =
           let k = most-horizon * (up (unit * claim m) (stay m) + 84) in
           omega (arith, single-D (i .limited e) r g, N.mul-le-mul-right k g)
       go false e =
-          let q = weight a (m .q) in
-          let j = weight a (m .i) in
+          let q = deathWeight a m in
+          let j = disabilityWeight a m in
           omega (arith, sizeD-append (replacedTerm X q (m .d)) (replacedTerm X j (m .e)), replaced-D q (m .d), replaced-D j (m .e))
 
   -- ---- and in H
@@ -128,31 +129,31 @@ module _ (X : ℕ) (h : X ≤ most-horizon) (m : Life) where
       go true = refl
       go false = refl
 
-  life-H : (r a : ℕ) → r ≤ 12 → sizeH (lifeTerms X r a m) ≤ 638820
+  life-H : (r : ℕ) (a : Frequencies) → r ≤ 12 → sizeH (lifeTerms X r a m) ≤ 638820
   unfolding replacedTerms
   life-H r a g = go (single m)
     where
       go : (b : Bool) → sizeH (if b then singleTerms X m r else replacedTerms X a m) ≤ 638820
       go true = omega (arith, single-H r g)
       go false =
-          let q = weight a (m .q) in
-          let j = weight a (m .i) in
+          let q = deathWeight a m in
+          let j = disabilityWeight a m in
           omega (arith, sizeH-append (replacedTerm X q (m .d)) (replacedTerm X j (m .e)), replaced-H q (m .d), replaced-H j (m .e))
 
 -- ---- the terms of all lives
-lives-D : (X r a : ℕ) (ms : List Life) → sizeD (terms X r a ms) ≡ total (λ m. sizeD (lifeTerms X r a m)) ms
+lives-D : (X r : ℕ) (a : Frequencies) (ms : List Life) → sizeD (terms X r a ms) ≡ total (λ m. sizeD (lifeTerms X r a m)) ms
 unfolding terms total
 lives-D X r a [] = none-D
 lives-D X r a (m ∷ ms) =
     sizeD-append (lifeTerms X r a m) (terms X r a ms) ∙ ap (λ x. sizeD (lifeTerms X r a m) + x) (lives-D X r a ms)
 
-lives-H : (X r a : ℕ) (ms : List Life) → sizeH (terms X r a ms) ≡ total (λ m. sizeH (lifeTerms X r a m)) ms
+lives-H : (X r : ℕ) (a : Frequencies) (ms : List Life) → sizeH (terms X r a ms) ≡ total (λ m. sizeH (lifeTerms X r a m)) ms
 unfolding terms total
 lives-H X r a [] = none-H
 lives-H X r a (m ∷ ms) =
     sizeH-append (lifeTerms X r a m) (terms X r a ms) ∙ ap (λ x. sizeH (lifeTerms X r a m) + x) (lives-H X r a ms)
 
-module _ (X r a : ℕ) (ms : List Life) (x : X ≤ most-horizon) (o : r ≤ 12) (few : length ms ≤ most-members) (i : All InRange ms) where
+module _ (X r : ℕ) (a : Frequencies) (ms : List Life) (x : X ≤ most-horizon) (o : r ≤ 12) (few : length ms ≤ most-members) (i : All InRange ms) where
   pub width-D : load a ms ≤ 8000000000000 → sizeD (terms X r a ms) ≤ 400000000000000000
   width-D l =
       omega (

@@ -35,6 +35,8 @@ use Rattle.fund.specs.Transform.{lambda, load, truncation, mean}
 use Rattle.fund.proofs.Life as L
 use Rattle.fund.proofs.Fund as G
 use Rattle.fund.proofs.Fund.Laws as G′
+use Rattle.fund.proofs.Frequencies as F
+use Rattle.fund.proofs.Frequencies.Laws as F′
 use Rattle.totals.specs.Table.{Members, most-mean}
 use Rattle.totals.specs.Start.{Multiplied}
 use Rattle.walks.specs.Freeing.{frees-cell}
@@ -107,21 +109,21 @@ module _ {M : Type 1} (𝓤 : URA M) (H : Heap 𝓤) (𝓜 : Model 𝓤 H) (𝓖
         pass1 ! (init ! 12 refl (shr-slice-lawful 𝓤 H A W (named 0) κ L.the-row .typed members (v ∷ []) is .0)) $ pass0 ! $
         move ! (19 ∷ []) $ fsplit ! $ drop ! $ fsplit ! $ move ! (20 ∷ 0 ∷ []) $
         -- [the token; what the members own; true; room for _8; …; _7; …; _6; …; _5; …; _4; …; _3; …; _2; …; _1; …; _0; …]
-        calls-walk 𝓤 H A W κ q members u64 u64 (lambda-def.clauses 𝓤 H A (𝓜 .mem) (𝓡 .run)) (fund .frequency) (vint w64 (fund .frequency)) tt fm
+        calls-walk 𝓤 H A W κ q members u64 F.the-row (lambda-def.clauses 𝓤 H A (𝓜 .mem) (𝓡 .run)) (fund .frequency) (F′.lowered (fund .frequency)) tt fm
         (lambda-thm.met 𝓤 H 𝓜 𝓖 𝓡) (factI 𝓤 _ (emp 𝓤) (asks .0, asks .1 .frequency))
-        (λ r. r ≡ lambda (fund .frequency) ms) (λ r e. id⊢ 𝓤 _) (uint-makes 𝓤 H A W w64) (fields .1 .1 .1 .1 .0) (λ i. and-then ! (cell ! 15 refl) (and-then ! (read ! (from ! (fld ! refl (stop !))) (look-in ! 17 (sub ! 4 refl (whole !)))) (no-more !))) (λ w₃ lam lam-is is₃.
+        (λ r. r ≡ lambda (fund .frequency) ms) (λ r e. id⊢ 𝓤 _) (LL.makes F.the-type F′.the-plain 𝓤 H A) (fields .1 .1 .1 .1 .0) (λ i. and-then ! (cell ! 15 refl) (and-then ! (read ! (from ! (fld ! refl (stop !))) (look-in ! 17 (sub ! 4 refl (whole !)))) (no-more !))) (λ w₃ lam lam-is is₃.
         land ! (from ! (stop !)) (init ! 14 refl (uint-lawful 𝓤 H A W w64 .typed lam _ is₃ .0)) $ drop ! $
-        calls-walk 𝓤 H A W κ q members u64 u64 (load-def.clauses 𝓤 H A (𝓜 .mem) (𝓡 .run)) (fund .frequency) (vint w64 (fund .frequency)) tt fm
+        calls-walk 𝓤 H A W κ q members u64 F.the-row (load-def.clauses 𝓤 H A (𝓜 .mem) (𝓡 .run)) (fund .frequency) (F′.lowered (fund .frequency)) tt fm
         (load-thm.met 𝓤 H 𝓜 𝓖 𝓡) (factI 𝓤 _ (emp 𝓤) (asks .0, asks .1 .frequency))
-        (λ r. r ≡ load (fund .frequency) ms) (λ r e. id⊢ 𝓤 _) (uint-makes 𝓤 H A W w64) (fields .1 .1 .1 .1 .0) (λ i. and-then ! (cell ! 15 refl) (and-then ! (read ! (from ! (fld ! refl (stop !))) (look-in ! 17 (sub ! 4 refl (whole !)))) (no-more !))) (λ w₄ all all-is is₄.
+        (λ r. r ≡ load (fund .frequency) ms) (λ r e. id⊢ 𝓤 _) (LL.makes F.the-type F′.the-plain 𝓤 H A) (fields .1 .1 .1 .1 .0) (λ i. and-then ! (cell ! 15 refl) (and-then ! (read ! (from ! (fld ! refl (stop !))) (look-in ! 17 (sub ! 4 refl (whole !)))) (no-more !))) (λ w₄ all all-is is₄.
         land ! (from ! (stop !)) (init ! 12 refl (uint-lawful 𝓤 H A W w64 .typed all _ is₄ .0)) $ drop ! $
         calls-walk 𝓤 H A W κ q members u64 u64 (truncation-def.clauses 𝓤 H A (𝓜 .mem) (𝓡 .run)) (fund .order) (vint w64 (fund .order)) tt fm
         (truncation-thm.met 𝓤 H 𝓜 𝓖 𝓡) (factI 𝓤 _ (emp 𝓤) (asks .0, asks .1 .order))
         (λ r. r ≡ min (truncation (fund .order) ms) (most-truncation + 1)) (λ r e. id⊢ 𝓤 _) (uint-makes 𝓤 H A W w64) (fields .1 .1 .1 .0) (λ i. and-then ! (cell ! 15 refl) (and-then ! (read ! (from ! (fld ! refl (stop !))) (look-in ! 17 (sub ! 3 refl (whole !)))) (no-more !))) (λ w₅ figure figure-is is₅.
         land ! (from ! (stop !)) (init ! 10 refl (uint-lawful 𝓤 H A W w64 .typed figure _ is₅ .0)) $ drop ! $
-        calls-walk 𝓤 H A W κ q members u64 u64 (mean-def.clauses 𝓤 H A (𝓜 .mem) (𝓡 .run)) (fund .frequency) (vint w64 (fund .frequency)) tt fm
+        calls-walk 𝓤 H A W κ q members u64 F.the-row (mean-def.clauses 𝓤 H A (𝓜 .mem) (𝓡 .run)) (fund .frequency) (F′.lowered (fund .frequency)) tt fm
         (mean-thm.met 𝓤 H 𝓜 𝓖 𝓡) (factI 𝓤 _ (emp 𝓤) (asks .0, asks .1 .frequency))
-        (λ r. r ≡ min (mean (fund .frequency) ms) most-mean) (λ r e. id⊢ 𝓤 _) (uint-makes 𝓤 H A W w64) (fields .1 .1 .1 .1 .0) (λ i. and-then ! (cell ! 15 refl) (and-then ! (read ! (from ! (fld ! refl (stop !))) (look-in ! 17 (sub ! 4 refl (whole !)))) (no-more !))) (λ w₆ m m-is is₆.
+        (λ r. r ≡ min (mean (fund .frequency) ms) most-mean) (λ r e. id⊢ 𝓤 _) (LL.makes F.the-type F′.the-plain 𝓤 H A) (fields .1 .1 .1 .1 .0) (λ i. and-then ! (cell ! 15 refl) (and-then ! (read ! (from ! (fld ! refl (stop !))) (look-in ! 17 (sub ! 4 refl (whole !)))) (no-more !))) (λ w₆ m m-is is₆.
         land ! (from ! (stop !)) (init ! 8 refl (uint-lawful 𝓤 H A W w64 .typed m _ is₆ .0)) $ drop ! $
         -- the sums that the product starts from
         nothing ! $ use0 W (‵ (u64 .own lam (w₃ ∷ []))) (uint-makes 𝓤 H A W w64 lam _ is₃) $ fjoin ! $

@@ -6,13 +6,13 @@ use Rattle.valuation.proofs.first_transform.Tie as tie
 
 fill-first-requires : tie.Need-fill-first-requires
 fill-first-requires c κs =
-    let s = c .before .before .before .before .before .before .before .before .before in
-    let z = c .before .before .before .before .before .clear-transform .ensures in
+    let s = c .before .before .before .before .before .before .before .before .before .before in
+    let z = c .before .before .before .before .before .before .clear-transform .ensures in
     (s .pre .0, table-fits (s .args .fund) _ _ _ (s .pre .1) _ _ (z .0) (z .1))
 
 returns : tie.Need-returns
 returns c =
-    let o = c .before .before .before .before .before .before .before .before .before in
+    let o = c .before .before .before .before .before .before .before .before .before .before in
     let z = o .clear-transform .ensures in
     transform-filled (o .before .before .before .before .args .fund) _ _ _ _ _ (z .0) (z .1) _ _ (c .before .before .before .fill-first .ensures)
 

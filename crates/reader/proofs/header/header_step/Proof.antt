@@ -18,8 +18,11 @@ next-line-requires c κs = search needs
 numbers-at-requires : tie.Need-numbers-at-requires
 numbers-at-requires c κs = search needs
 
-array-read-n : tie.Need-array-read-n
-array-read-n c = search needs
+array-read-first : tie.Need-array-read-first
+array-read-first c = search needs
+
+array-read-second : tie.Need-array-read-second
+array-read-second c = search needs
 
 header-in-range-requires : tie.Need-header-in-range-requires
 header-in-range-requires c κs = search needs
@@ -55,7 +58,8 @@ header-step-spec =
     returns
     next-line-requires
     numbers-at-requires
-    array-read-n
+    array-read-first
+    array-read-second
     header-in-range-requires
     returns-2
     returns-3

@@ -1,26 +1,26 @@
--- `reader::header::read_header`: the reading of the file is that from the header line k on, after k numbers.
-use mathlib.Core.Path.{_≡_, refl, sym, _∙_}
+-- `reader::header::read_header`: the reading of the file is that from the header line k on, after the numbers of the k lines before it.
+use mathlib.Core.Path.{_≡_, refl, _∙_}
 use Prim.Native.Nat.{_-_, _≤_, _<_}
 use native.Mathlib.Numerals.{add-one}
 use native.Mathlib.Omega.{arith}
 use borrow.Author.Needs.{needs}
-use lib.ListN.{length, take, length-set}
-use lib.Seq.{take-suc-set}
+use lib.ListN.{length, length-set}
 use Rattle.fund.specs.Reading.{headerLines, headerOf, reading}
-use Rattle.reader.specs.Header.{headerFrom}
-use Rattle.reader.proofs.Headers.{header-start, header-end}
+use Rattle.reader.specs.Header.{headerLine, headerFrom}
+use Rattle.reader.proofs.Headers.{header-start, header-end, numbersBefore, numbers-next}
 use Rattle.reader.proofs.header.read_header.Statement.{statement}
 use Rattle.reader.proofs.header.read_header.Tie as tie
 
 abbrev Inv-loop : tie.InvT-loop
-Inv-loop file values₀ at₀ k₀ values at k = (k ≤ length headerLines) × (length values ≡ length headerLines) × (reading file ≡ headerFrom file k (take k values) at)
+Inv-loop file firsts₀ seconds₀ at₀ k₀ firsts seconds at k =
+    (k ≤ length headerLines) × (length firsts ≡ length headerLines) × (length seconds ≡ length headerLines) × (reading file ≡ headerFrom file k (numbersBefore k firsts seconds) at)
 
 abbrev μ-loop : tie.MeasureT-loop
-μ-loop file values₀ at₀ k₀ values at k = length headerLines - k
+μ-loop file firsts₀ seconds₀ at₀ k₀ firsts seconds at k = length headerLines - k
 
 loop-holds : tie.Need-loop-holds Inv-loop μ-loop
-unfolding headerLines
-loop-holds c = (omega arith, refl, header-start _)
+unfolding headerLines numbersBefore
+loop-holds c = (omega arith, refl, refl, header-start _)
 
 header-step-requires : tie.Need-header-step-requires Inv-loop μ-loop
 unfolding headerLines
@@ -29,26 +29,34 @@ header-step-requires c κs = omega arith
 enum-known-why : tie.Need-enum-known-why Inv-loop μ-loop
 enum-known-why c = search needs
 
-add-t12 : tie.Need-add-t12 Inv-loop μ-loop
+add-t15 : tie.Need-add-t15 Inv-loop μ-loop
 unfolding headerLines
-add-t12 c = omega arith
+add-t15 c = omega arith
 
 returns : tie.Need-returns Inv-loop μ-loop
 returns c =
     let l = c .before .before .before .before .before .loop in
     let e = rw (c .before .why .given .1) at (c .before .before .before .header-step .ensures) in
-    l .inv .2 ∙ e (take (l .k) (l .values))
+    l .inv .3 ∙ e (numbersBefore (l .k) (l .firsts) (l .seconds))
 
-enum-known-n : tie.Need-enum-known-n Inv-loop μ-loop
-enum-known-n c = search needs
+enum-known-first : tie.Need-enum-known-first Inv-loop μ-loop
+enum-known-first c = search needs
 
-mul-values : tie.Need-mul-values Inv-loop μ-loop
+mul-firsts : tie.Need-mul-firsts Inv-loop μ-loop
 unfolding headerLines
-mul-values c = omega arith
+mul-firsts c = omega arith
 
-array-write-values : tie.Need-array-write-values Inv-loop μ-loop
+array-write-firsts : tie.Need-array-write-firsts Inv-loop μ-loop
 unfolding headerLines
-array-write-values c = omega arith
+array-write-firsts c = omega arith
+
+mul-seconds : tie.Need-mul-seconds Inv-loop μ-loop
+unfolding headerLines
+mul-seconds c = omega arith
+
+array-write-seconds : tie.Need-array-write-seconds Inv-loop μ-loop
+unfolding headerLines
+array-write-seconds c = omega arith
 
 add-k : tie.Need-add-k Inv-loop μ-loop
 unfolding headerLines
@@ -62,19 +70,21 @@ loop-again : tie.Need-loop-again Inv-loop μ-loop
 unfolding headerLines
 loop-again c =
     let l = c .before .before .before .before .before .loop in
-    let e = rw (c .before .n .given .1) at (c .before .before .before .header-step .ensures) in
-    let w : l .k < length (l .values) = omega arith in (
+    let e = rw (c .before .first .given .1) at (c .before .before .before .header-step .ensures) in
+    let f : l .k < length (l .firsts) = omega arith in
+    let s : l .k < length (l .seconds) = omega arith in (
       omega arith,
       simp length-set (l .inv .1),
-      l .inv .2 ∙ e (take (l .k) (l .values)) ∙ rw (add-one (l .k), take-suc-set (l .values) (l .k) _ w),
+      simp length-set (l .inv .2),
+      l .inv .3 ∙ e (numbersBefore (l .k) (l .firsts) (l .seconds)) ∙ rw (add-one (l .k), numbers-next (l .firsts) (l .seconds) (l .k) _ _ f s),
     )
 
 returns-2 : tie.Need-returns-2 Inv-loop μ-loop
-unfolding headerOf headerLines
+unfolding headerOf headerLines headerLine numbersBefore
 returns-2 c =
     let l = c .before .loop in
     let z : l .k ≡ length headerLines = omega arith in
-    l .inv .2 ∙ header-end _ (l .values) (l .k) (l .at) z (l .inv .1 ∙ sym z)
+    l .inv .3 ∙ header-end _ (l .firsts) (l .seconds) (l .k) (l .at) z
 
 pub read-header-spec : {M : Type 1} → statement M
 unfolding headerLines
@@ -86,13 +96,15 @@ read-header-spec =
     loop-holds
     header-step-requires
     enum-known-why
-    add-t12
+    add-t15
     returns
-    enum-known-n
-    mul-values
-    array-write-values
+    enum-known-first
+    mul-firsts
+    array-write-firsts
+    mul-seconds
+    array-write-seconds
     add-k
     loop-less
     loop-again
-    (λ c. omega arith) (λ c. omega arith) (λ c. omega arith) (λ c. omega arith) (λ c. omega arith) (λ c. omega arith) (λ c. omega arith)
+    (λ c. omega arith) (λ c. omega arith) (λ c. omega arith) (λ c. omega arith) (λ c. omega arith) (λ c. omega arith) (λ c. omega arith) (λ c. omega arith)
     returns-2)

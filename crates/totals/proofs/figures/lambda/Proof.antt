@@ -1,33 +1,37 @@
 -- `totals::figures::lambda`: a walk that adds up what each life adds to lambda, at most 5 × 10^12.
 use mathlib.Core.Path.{_≡_, refl}
 use mathlib.Core.List.{List}
-use Prim.Native.Nat.{ℕ, _<_, _≤_, _^_}
+use Prim.Native.Nat.{_<_, _^_}
 use native.Mathlib.Omega.{arith}
+use Rattle.fund.specs.declared.Frequencies.{Frequencies}
 use Rattle.fund.specs.declared.Life.{Life}
 use Rattle.fund.specs.Base.{total}
-use Rattle.fund.specs.Limits.{most-frequency}
 use Rattle.fund.specs.Transform.{lambda}
+use Rattle.fund.proofs.Frequencies as F
+use Rattle.fund.proofs.Frequencies.Laws as F′
+use Rattle.laws.specs.Ranges.{FrequenciesOk}
+use Rattle.laws.specs.Weights.{most-weight}
 use Rattle.widths.specs.Lives.{InRange}
 use Rattle.widths.specs.Parts.{lambdaPart}
 use Rattle.widths.specs.PartBounds.{lambda-le}
 use Rattle.widths.specs.Sums.{total-bound}
 use Rattle.totals.specs.Table.{Members}
-use Rattle.totals.proofs.LifeSums.{sums, adds, adding}
+use Rattle.totals.proofs.LifeSums.{frequencies-local, sums, adds, adding}
 use Rattle.totals.proofs.figures.lambda_step.Symbol.{name as #step}
 use Rattle.totals.proofs.figures.lambda_step.Met as step-thm
 use Rattle.totals.proofs.figures.lambda.Key.{name as #lambda}
 use Rattle.totals.proofs.figures.lambda.Statement.{statement}
 use Rattle.totals.proofs.figures.lambda.Code as code
 
-is : (x : ℕ) (ms : List Life) → lambda x ms ≡ total (lambdaPart x) ms
+is : (x : Frequencies) (ms : List Life) → lambda x ms ≡ total (lambdaPart x) ms
 unfolding lambda
 is x ms = refl
 
-fits : (ms : List Life) (a : ℕ) → Members ms × (a ≤ most-frequency) → lambda a ms < 2 ^ 64
-fits ms a n = omega (arith, is a ms, total-bound InRange (lambdaPart a) 5000000000000 (λ m r. lambda-le m a r (n .1)) ms (n .0 .in-range), n .0 .few)
+fits : (ms : List Life) (a : Frequencies) → Members ms × FrequenciesOk a → lambda a ms < 2 ^ 64
+fits ms a n = omega (arith, is a ms, total-bound InRange (lambdaPart a) most-weight (λ m r. lambda-le m a r (n .1)) ms (n .0 .in-range), n .0 .few)
 
 pub lambda-spec : {M : Type 1} → statement M
-unfolding code.routine
+unfolding code.routine frequencies-local
 lambda-spec 𝓤 H 𝓜 𝓖 𝓡 =
-    sums 𝓤 H 𝓜 𝓖 𝓡 (adds lambdaPart (λ a. a ≤ most-frequency) lambda is)
-    (adding lambdaPart (λ a. a ≤ most-frequency) lambda is fits) code.env #lambda #step (code.unfolded 𝓤 H 𝓜 𝓡) (step-thm.met 𝓤 H 𝓜 𝓖 𝓡)
+    sums 𝓤 H 𝓜 𝓖 𝓡 F.the-row F′.mir frequencies-local (adds F.the-row lambdaPart FrequenciesOk lambda is)
+    (adding F.the-row lambdaPart FrequenciesOk lambda is fits) code.env #lambda #step (code.unfolded 𝓤 H 𝓜 𝓡) (step-thm.met 𝓤 H 𝓜 𝓖 𝓡)

@@ -1,8 +1,10 @@
--- The group decides, and the products fit: 10^6 × 5,000 × 1,000.
+-- The group decides, and the weights add to at most 5 × 10^12.
+use mathlib.Core.Path.{ap₂}
+use Prim.Native.Nat.{_+_}
 use borrow.Author.Needs.{needs}
 use borrow.Author.Tests.{eq-eqb, ne-eqb}
-use native.Mathlib.Nat.{mul-le-mul}
 use native.Mathlib.Omega.{arith}
+use Rattle.laws.specs.Weights.{weights-most}
 use Rattle.totals.proofs.figures.lambda_part.Statement.{statement}
 use Rattle.totals.proofs.figures.lambda_part.Tie as tie
 
@@ -10,16 +12,12 @@ returns : tie.Need-returns
 returns c = rw (eq-eqb _ _ (c .if1 .taken))
 
 add-result : tie.Need-add-result
-add-result c = search needs
-
-mul-result : tie.Need-mul-result
-mul-result c = omega (arith, mul-le-mul (c .before .before .before .pre .0 .rates) (c .before .before .before .pre .1))
-
-mul-result-2 : tie.Need-mul-result-2
-mul-result-2 c = omega (arith, mul-le-mul (c .before .before .before .pre .0 .rates) (c .before .before .before .pre .1))
+add-result c =
+    let s = c .before .before .before .before in
+    omega (arith, c .before .death-weight .ensures, c .disability-weight .ensures, weights-most (s .args .ab) (s .args .m) (s .pre .1) (s .pre .0 .rates))
 
 returns-2 : tie.Need-returns-2
-returns-2 c = rw (ne-eqb _ _ (c .before .if1 .left))
+returns-2 c = rw (ne-eqb _ _ (c .before .before .if1 .left)) (ap₂ _+_ (c .before .death-weight .ensures) (c .disability-weight .ensures))
 
 pub lambda-part-spec : {M : Type 1} → statement M
-lambda-part-spec = tie.close (tie.spec returns add-result mul-result mul-result-2 returns-2)
+lambda-part-spec = tie.close (tie.spec returns (λ c κs. search needs) (λ c κs. search needs) add-result returns-2)

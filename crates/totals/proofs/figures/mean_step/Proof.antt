@@ -12,7 +12,7 @@ add-least : tie.Need-add-least
 add-least c =
     let p = c .before .pre in
     let m = c .before .args .m in
-    omega (arith, p .2, c .mean-part .ensures, mean-le m (c .before .args .a) (p .0), lambda-le m (c .before .args .a) (p .0) (p .1), single-le m (p .0))
+    omega (arith, p .2, c .mean-part .ensures, mean-le m (c .before .args .ab) (p .0), lambda-le m (c .before .args .ab) (p .0) (p .1), single-le m (p .0))
 
 least-requires : tie.Need-least-requires
 least-requires c κs = search needs

@@ -2,12 +2,14 @@
 use mathlib.Core.Path.{_≡_, refl}
 use mathlib.Core.List.{List}
 use Prim.Native.Nat.{ℕ, _+_, _≤_}
+use denote.Builtin.{u64}
 use Rattle.fund.specs.declared.Life.{Life}
 use Rattle.fund.specs.Base.{total}
 use Rattle.fund.specs.Limits.{most-order, most-truncation}
 use Rattle.fund.specs.Transform.{truncation}
 use Rattle.widths.specs.Parts.{truncationPart}
-use Rattle.totals.proofs.LifeSums.{sums, caps, capping}
+use Rattle.walks.specs.WalkForm.{wordTy}
+use Rattle.totals.proofs.LifeSums.{u64-local, sums, caps, capping}
 use Rattle.totals.proofs.figures.truncation_step.Symbol.{name as #step}
 use Rattle.totals.proofs.figures.truncation_step.Met as step-thm
 use Rattle.totals.proofs.figures.truncation.Key.{name as #truncation}
@@ -19,7 +21,7 @@ unfolding truncation
 is x ms = refl
 
 pub truncation-spec : {M : Type 1} → statement M
-unfolding code.routine
+unfolding code.routine u64-local
 truncation-spec 𝓤 H 𝓜 𝓖 𝓡 =
-    sums 𝓤 H 𝓜 𝓖 𝓡 (caps truncationPart (λ r. r ≤ most-order) truncation is (most-truncation + 1))
-    (capping truncationPart (λ r. r ≤ most-order) truncation is (most-truncation + 1)) code.env #truncation #step (code.unfolded 𝓤 H 𝓜 𝓡) (step-thm.met 𝓤 H 𝓜 𝓖 𝓡)
+    sums 𝓤 H 𝓜 𝓖 𝓡 u64 wordTy u64-local (caps u64 truncationPart (λ r. r ≤ most-order) truncation is (most-truncation + 1))
+    (capping u64 truncationPart (λ r. r ≤ most-order) truncation is (most-truncation + 1)) code.env #truncation #step (code.unfolded 𝓤 H 𝓜 𝓡) (step-thm.met 𝓤 H 𝓜 𝓖 𝓡)
