@@ -10,7 +10,7 @@ from pathlib import Path
 
 def fund(horizon, order, frequency, deductible, rates, members):
     lines = ["rates=2030", "members=2030", f"horizon={horizon}", f"order={order}",
-             f"frequency={frequency}", f"deductible={deductible}", "worth=100000"]
+             f"frequency={frequency},{frequency}", f"deductible={deductible}", "worth=100000"]
     lines += [f"rate={age},{q},{i}" for age, (q, i) in sorted(rates.items())]
     lines += ["member=%d,%d,%d,%d" % member for member in members]
     lines.append(f"end={len(members)}")

@@ -13,11 +13,16 @@ typedef unsigned __int128 wide;
 #define UNIT 1000000000000ull
 #define FIVES 244140625ull // 5^12
 
-enum { MOST_HORIZON = 4095, MOST_ORDER = 12, MOST_RATES = 121, MOST_MEMBERS = 1000, MOST_AGE = 120, HEADER_LINES = 7 };
+enum { MOST_HORIZON = 4095, MOST_ORDER = 12, MOST_FREQUENCY = 5000, MOST_RATES = 121, MOST_MEMBERS = 1000, MOST_AGE = 120 };
+enum { HEADER_LINES = 7 };
 enum { FORM = 1, RANGE, EDITION, DEDUCTIBLE, UNMATCHED, HALF, LOAD, ORDER, SHORT, WIDE };
 
 struct rate {
     uint64_t age, q, i;
+};
+
+struct frequencies {
+    uint64_t death, disability;
 };
 
 struct member {
@@ -27,7 +32,8 @@ struct member {
 };
 
 struct fund {
-    uint64_t rates, members, horizon, order, frequency, deductible, worth;
+    uint64_t rates, members, horizon, order, deductible, worth;
+    struct frequencies frequency;
     size_t rate_rows, member_rows;
     struct rate rate[MOST_RATES];
     struct member member[MOST_MEMBERS];
@@ -123,6 +129,14 @@ static int read_number(struct reader *r, const char *key, uint64_t least, uint64
     return *n < least || *n > most ? RANGE : 0;
 }
 
+static int read_frequencies(struct reader *r, struct frequencies *frequency) {
+    uint64_t n[2];
+    if (!take(r) || !SPELLED(r, "frequency=", 2, n))
+        return FORM;
+    *frequency = (struct frequencies){n[0], n[1]};
+    return n[0] > MOST_FREQUENCY || n[1] > MOST_FREQUENCY ? RANGE : 0;
+}
+
 static int read_rate(struct fund *fund, const uint64_t *n) {
     size_t rows = fund->rate_rows;
     if (fund->member_rows > 0)
@@ -171,7 +185,7 @@ static int read_fund(struct reader *r, struct fund *fund) {
         (why = read_number(r, "members=", 1900, 2999, &fund->members)) ||
         (why = read_number(r, "horizon=", 0, MOST_HORIZON, &fund->horizon)) ||
         (why = read_number(r, "order=", 1, MOST_ORDER, &fund->order)) ||
-        (why = read_number(r, "frequency=", 0, 5000, &fund->frequency)) ||
+        (why = read_frequencies(r, &fund->frequency)) ||
         (why = read_number(r, "deductible=", 0, 4096, &fund->deductible)) ||
         (why = read_number(r, "worth=", 1, 9999999, &fund->worth)))
         return why;
@@ -204,12 +218,19 @@ static int fold(struct fund *fund, size_t *at) {
     return 0;
 }
 
+// The weights of a member of group 2, in units.
+static uint64_t death_weight(const struct fund *fund, const struct member *m) { return m->q * fund->frequency.death * 1000; }
+
+static uint64_t disability_weight(const struct fund *fund, const struct member *m) {
+    return m->i * fund->frequency.disability * 1000;
+}
+
 static uint64_t lambda_of(const struct fund *fund) {
-    uint64_t claims = 0;
+    uint64_t lambda = 0;
     for (const struct member *m = fund->member, *end = m + fund->member_rows; m < end; m++)
         if (m->group == 2)
-            claims += m->q + m->i;
-    return claims * fund->frequency * 1000;
+            lambda += death_weight(fund, m) + disability_weight(fund, m);
+    return lambda;
 }
 
 static uint64_t load_of(const struct fund *fund, uint64_t lambda) {
@@ -234,10 +255,11 @@ static wide truncation_of(const struct fund *fund) {
 }
 
 static uint64_t mean_of(const struct fund *fund) {
-    uint64_t ones = 0, replaced = 0;
+    uint64_t mean = 0;
     for (const struct member *m = fund->member, *end = m + fund->member_rows; m < end; m++)
-        *(m->group == 1 ? &ones : &replaced) += m->q * m->d + m->i * m->e;
-    return ones * MILLION + replaced * fund->frequency * 1000;
+        mean += m->group == 1 ? (m->q * m->d + m->i * m->e) * MILLION
+                              : death_weight(fund, m) * m->d + disability_weight(fund, m) * m->e;
+    return mean;
 }
 
 // The terms of a member of group 1.
@@ -266,11 +288,10 @@ static void transform(const struct fund *fund, int64_t *D, uint64_t *H) {
                 add_terms(m, fund->order, horizon, D, H);
             continue;
         }
-        uint64_t frequency = fund->frequency * 1000;
         if (m->d <= horizon)
-            D[m->d] += (int64_t)(m->q * frequency * m->d);
+            D[m->d] += (int64_t)(death_weight(fund, m) * m->d);
         if (m->e <= horizon)
-            D[m->e] += (int64_t)(m->i * frequency * m->e);
+            D[m->e] += (int64_t)(disability_weight(fund, m) * m->e);
     }
 }
 

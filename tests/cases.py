@@ -18,7 +18,7 @@ a space, its level as thirteen decimal digits and a line feed, then its bytes.
 stdout has each listing, then `line=` and the part of the file that is handed
 back, then the line that the program `level` prints, and an empty line.  The last cases
 of a stream are those of quantile_funds.py and rate_funds.py, funds with rates for
-some ages only, and those of tariff_funds.py and triangle_funds.py.
+some ages only, and those of tariff_funds.py, triangle_funds.py and frequency_funds.py.
 
 The programs `listing` and `overlong` of CRATES are one program, run on a full fund
 and on a file that is longer than what is read; `level` is asked at the level in its
@@ -31,6 +31,7 @@ from itertools import zip_longest
 from pathlib import Path
 
 import document_funds
+import frequency_funds
 import generate
 import pricing
 import quantile_funds
@@ -139,8 +140,9 @@ def pairs_of(stream):
 def stream_pairs(count, seed):
     rng = random.Random(seed)
     made = chosen(count, seed) + quantile_funds.cases() + rate_funds.cases() + generate.gap_funds(seed, GAPS)
+    made += tariff_funds.cases() + triangle_funds.cases() + frequency_funds.cases()
     return [(case.data, generate.level_of(case, rng, pricing.price(case.data), MOST_LEVEL))
-            for case in made + tariff_funds.cases() + triangle_funds.cases() if len(case.data) <= LONGEST]
+            for case in made if len(case.data) <= LONGEST]
 
 
 def write_stream(directory, count, seed):

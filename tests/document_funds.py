@@ -1,6 +1,7 @@
 """Every fund and every figure that document 01 states, and the figures of the readings.
 
-Its funds take worth=100, as document 02's third request says.
+Its funds take worth=100 and repeat their frequency, as document 02's third and
+fifth requests say.
 
 checks() gives pairs (name, holds).  Run as a program, it prints them.
 """
@@ -10,7 +11,7 @@ from dataclasses import replace
 import pricing
 from generate import Text
 
-FIRST_FILE = (b"rates=2030\nmembers=2030\nhorizon=2\norder=3\nfrequency=1000\n"
+FIRST_FILE = (b"rates=2030\nmembers=2030\nhorizon=2\norder=3\nfrequency=1000,1000\n"
               b"deductible=2\nworth=100\nrate=40,100000,0\nmember=40,1,1,0\nend=1\n")
 
 FIRST_LISTING = """truncation=42866942
@@ -140,6 +141,9 @@ def header_funds():
     yield "M = 3 accepted", refusal_of(FUNDS["deductible-3"]) == (0, 0)
     yield ("a = 0 with only group 2 members: as the empty fund",
            answer_of(NO_FREQUENCY) == answer_of(EMPTY))
+    yield ("each fund repeats its frequency",
+           all(b"\nfrequency=%d,%d\n" % (text.frequency, text.frequency) in text.data()
+               for text in FUNDS.values()))
     yield ("each fund takes worth=100 after its deductible",
            all(b"\ndeductible=%d\nworth=100\n" % text.deductible in text.data()
                for text in FUNDS.values()))

@@ -1,6 +1,7 @@
 """The exact values of document 01, from the fund's input alone.
 
-With pricing.py this shares only reading, folding and lambda's weights.
+The fractions share with pricing.py only reading and folding, the whole numbers
+the weights of group 2 too.
 check_distance(data) checks demand 3 for one file, and that the gross premium
 is not below the exact premium's loaded worth.
 """
@@ -43,12 +44,23 @@ def group_1_part(members, horizon):
     return g
 
 
+def weighted_amounts(members, frequency):
+    """Of each group 2 member: d with q x a, and e with i x b, as plain fractions."""
+    a, b = Fraction(frequency.death, 1000), Fraction(frequency.disability, 1000)
+    return [pair for m in pricing.group_2(members)
+            for pair in ((m.d, Fraction(m.q, 10 ** 6) * a), (m.e, Fraction(m.i, 10 ** 6) * b))]
+
+
+def lambda_value(members, frequency):
+    return sum((weight for _, weight in weighted_amounts(members, frequency)), 0 * ONE)
+
+
 def weights(members, frequency, horizon):
     """The weight at k, from 1 to X, as a plain fraction."""
     values = [0 * ONE] * (horizon + 1)
-    for k, weight in pricing.group_2_weights(members, frequency):
+    for k, weight in weighted_amounts(members, frequency):
         if 1 <= k <= horizon:
-            values[k] += Fraction(weight, UNIT)
+            values[k] += weight
     return values
 
 
@@ -63,13 +75,12 @@ def exponential(lam):
 
 def poisson_part(members, frequency, horizon):
     weight = weights(members, frequency, horizon)
-    lam = Fraction(pricing.lambda_units(members, frequency), UNIT)
     power = at_zero(horizon)
     total = at_zero(horizon)
     for n in range(1, horizon + 1):
         power = convolve(power, weight)
         total = [a + b / factorial(n) for a, b in zip(total, power)]
-    factor = exponential(lam)
+    factor = exponential(lambda_value(members, frequency))
     return [value * factor for value in total]
 
 
@@ -81,11 +92,8 @@ def values(fund, members):
 
 def mean(fund, members):
     """The mean as a plain fraction."""
-    total = 0 * ONE
-    for m in members:
-        factor = ONE if m.group == 1 else Fraction(fund.frequency, 1000)
-        total += Fraction(m.q * m.d + m.i * m.e, 10 ** 6) * factor
-    return total
+    ones = sum((Fraction(m.q * m.d + m.i * m.e, 10 ** 6) for m in pricing.group_1(members)), 0 * ONE)
+    return ones + sum(amount * weight for amount, weight in weighted_amounts(members, fund.frequency))
 
 
 def premium(fund, members, exact):
@@ -173,9 +181,9 @@ def numerators(fund, members):
 
 def premium_numerator(fund, members, whole, over):
     """The exact premium in units, over the denominator `whole` of the values `over`."""
-    M, a = fund.deductible, fund.frequency
-    units = sum((m.q * m.d + m.i * m.e) * (10 ** 6 if m.group == 1 else 1000 * a)
-                for m in members)
+    M = fund.deductible
+    units = sum((m.q * m.d + m.i * m.e) * 10 ** 6 for m in pricing.group_1(members))
+    units += sum(amount * weight for amount, weight in pricing.group_2_weights(members, fund.frequency))
     return ((units - M * UNIT) * whole
             + UNIT * sum((M - x) * over[x] for x in range(M)))
 

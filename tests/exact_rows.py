@@ -13,7 +13,7 @@ import exact
 import pricing
 from generate import Text
 
-QUARTER = (30, 250000, 0)         # lambda 1/4 for one group 2 member, a = 1000
+QUARTER = (30, 250000, 0)         # lambda 1/4 for one group 2 member, a = b = 1000
 EIGHTHS = (35, 125000, 125000)
 WHOLE = (38, 700000, 300000)      # q + i = 1,000,000
 TENTHS = (40, 100000, 100000)
@@ -22,8 +22,8 @@ HALF = (60, 500000, 0)
 FIFTH = (70, 200000, 50000)
 
 
-def fund(X, M, a, rates, members):
-    return Text(horizon=X, order=12, frequency=a, deductible=M,
+def fund(X, M, frequency, rates, members):
+    return Text(horizon=X, order=12, frequency=frequency, deductible=M,
                 rate_rows=rates, member_rows=members)
 
 
@@ -57,6 +57,12 @@ FUNDS = {
                                    ((40, 1, 1, 1), (30, 2, 1, 1))),
     "rates for some ages, both groups, lambda 1/4":
         fund(4, 2, 1000, (QUARTER, TENTHS), ((39, 2, 1, 0), (49, 1, 2, 1), (120, 1, 1, 3))),
+    "group 2, a = 1,000 and b = 2,000, lambda 3/10":
+        fund(4, 2, (1000, 2000), (FIFTH,), ((70, 2, 1, 3),)),
+    "both groups, only disability replaced, lambda 1/4":
+        fund(4, 3, (0, 2000), (EIGHTHS, TENTH), ((35, 2, 1, 2), (50, 1, 1, 0), (50, 2, 3, 3))),
+    "lambda 0, death not replaced and no disability":
+        fund(3, 1, (0, 5000), (TENTHS, TENTH), ((40, 2, 1, 0), (40, 1, 2, 1), (50, 2, 2, 3))),
 }
 
 

@@ -2,7 +2,7 @@
 
 A second way of writing the method: each figure is a function of its indices,
 written as the document's formula and remembered, with no running cells.
-It shares with pricing.py only reading, folding and lambda's weights.
+It shares with pricing.py only reading and folding.
 """
 
 from fractions import Fraction
@@ -41,10 +41,11 @@ class Formulas:
         fund = pricing.read_fund(data)
         members = pricing.match_and_fold(fund)
         self.X, self.r, self.M = fund.horizon, fund.order, fund.deductible
-        self.a, self.worth = fund.frequency, fund.worth
+        self.a, self.b = fund.frequency.death, fund.frequency.disability
+        self.worth = fund.worth
         self.first = [m for m in members if m.group == 1]
         self.second = [m for m in members if m.group == 2]
-        self.lam = sum((m.q + m.i) * self.a * 1000 for m in self.second)
+        self.lam = sum((m.q * self.a + m.i * self.b) * 1000 for m in self.second)
         self.v = lru_cache(None)(self.v)
         self.f = lru_cache(None)(self.f)
         self.R = lru_cache(None)(self.R)
@@ -72,7 +73,7 @@ class Formulas:
         one = sum((-1) ** (n + 1) * nearest(Fraction(x * self.v(m, n, l), n))
                   for m, n, l in self.terms_at(x))
         two = sum(m.q * self.a * 1000 * m.d for m in self.second if m.d == x)
-        three = sum(m.i * self.a * 1000 * m.e for m in self.second if m.e == x)
+        three = sum(m.i * self.b * 1000 * m.e for m in self.second if m.e == x)
         return one + two + three
 
     def H(self, x):
@@ -94,7 +95,7 @@ class Formulas:
 
     def mean(self):
         return (sum((m.q * m.d + m.i * m.e) * 10 ** 6 for m in self.first)
-                + sum((m.q * m.d + m.i * m.e) * self.a * 1000
+                + sum((m.q * m.d * self.a + m.i * m.e * self.b) * 1000
                       for m in self.second))
 
     def t(self, n):

@@ -30,15 +30,20 @@ class Text:
     members: int = 2030
     horizon: int = 4
     order: int = 4
-    frequency: int = 1000
+    frequency: int | tuple = 1000       # (a, b), or one number for both
     deductible: int = 2
     worth: int = 100
     rate_rows: tuple = ()
     member_rows: tuple = ()
 
+    def frequencies(self):
+        given = self.frequency
+        return pricing.Frequencies(*(given if isinstance(given, tuple) else (given, given)))
+
     def lines(self):
-        head = [b"%s=%d" % (key.encode(), getattr(self, key)) for key in
-                ("rates", "members", "horizon", "order", "frequency", "deductible", "worth")]
+        head = [b"rates=%d" % self.rates, b"members=%d" % self.members, b"horizon=%d" % self.horizon,
+                b"order=%d" % self.order, b"frequency=%d,%d" % self.frequencies(),
+                b"deductible=%d" % self.deductible, b"worth=%d" % self.worth]
         rates = [b"rate=%d,%d,%d" % row for row in self.rate_rows]
         members = [b"member=%d,%d,%d,%d" % row for row in self.member_rows]
         return head + rates + members + [b"end=%d" % len(self.member_rows)]
@@ -128,6 +133,12 @@ def random_worth(rng):
     return rng.choice((low, high, rng.randint(low, 20), rng.randint(low, high)))
 
 
+def random_frequencies(rng, a):
+    """a beside any b; sometimes a for both, 0 for one of them, or the most for both."""
+    b = rng.choice((1, 250, 500, 1000, rng.randint(1, 2000), rng.randint(0, pricing.FREQUENCY_HIGH)))
+    return rng.choice(((a, b),) * 5 + ((b, a), (a, a), (0, b), (a, 0), (pricing.FREQUENCY_HIGH,) * 2))
+
+
 def random_text(rng, horizon=None, order=None, groups=None):
     """A fund of up to four group 1 and three group 2 members."""
     X = rng.randint(0, 8) if horizon is None else horizon
@@ -142,9 +153,10 @@ def random_text(rng, horizon=None, order=None, groups=None):
     members += [random_member(rng, rng.choice(ages), 2, X)
                 for _ in range(counts[1])]
     rng.shuffle(members)
-    # The worth is drawn apart, so that a seed gives the funds that it gave without one.
-    return Text(horizon=X, order=r, deductible=rng.randint(0, X + 1),
-                frequency=rng.choice((0, 1, 250, 500, 1000, rng.randint(1, 2000))),
+    deductible, a = rng.randint(0, X + 1), rng.choice((0, 1, 250, 500, 1000, rng.randint(1, 2000)))
+    # The worth and b are drawn apart, so that a seed gives the funds that it gave without them.
+    return Text(horizon=X, order=r, deductible=deductible,
+                frequency=random_frequencies(random.Random(repr((rates, a))), a),
                 worth=random_worth(random.Random(repr(rates))),
                 rate_rows=tuple(sorted(rates)), member_rows=tuple(members))
 
@@ -261,7 +273,7 @@ def large_funds(seed, count):
                            groups=(rng.randint(30, 60), rng.randint(10, 30)))
         rows = tuple((age, rng.randint(0, 9000), rng.randint(0, 9000))
                      for age, _, _ in text.rate_rows)
-        text = replace(text, rate_rows=rows, frequency=rng.randint(0, 1500))
+        text = replace(text, rate_rows=rows, frequency=(rng.randint(0, 1500), rng.randint(0, 1500)))
         cases.append(Case(f"large-{index}", text.data()))
     return cases
 
@@ -297,6 +309,8 @@ def header_limits():
         "order-high": replace(ONE_MEMBER, order=12),
         "frequency-low": replace(ONE_MEMBER, frequency=0),
         "frequency-high": replace(ONE_MEMBER, frequency=5000),
+        "frequency-death-high": replace(ONE_MEMBER, frequency=(5000, 0)),
+        "frequency-disability-high": replace(ONE_MEMBER, frequency=(0, 5000)),
         "deductible-low": replace(ONE_MEMBER, deductible=0),
         "deductible-top": replace(ONE_MEMBER, deductible=4),
         "deductible-high": replace(ONE_MEMBER, horizon=4095, deductible=4096,
@@ -448,7 +462,7 @@ def limit_funds():
 
 # Damaged files
 
-GOOD = Text(horizon=5, order=5, frequency=700, deductible=3,
+GOOD = Text(horizon=5, order=5, frequency=(400, 700), deductible=3,
             rate_rows=((30, 20000, 10000), (40, 30000, 0), (50, 0, 45000)),
             member_rows=((40, 1, 2, 3), (50, 2, 1, 1), (30, 1, 4, 1)))
 
@@ -575,6 +589,25 @@ def order_damage():
     yield "range-end-too-early", joined(moved), refused(2, 11, b"end=3")
 
 
+# Lines in the place of the frequencies, with their refusal.
+FAULTY_FREQUENCIES = (
+    (1, b"frequency=1000"), (1, b"frequency=0"), (1, b"frequency=5001"), (1, b"frequency=1000,1000,1000"),
+    (1, b"frequency="), (1, b"frequency=,"), (1, b"frequency=1000,"), (1, b"frequency=,1000"), (1, b"frequency=1000,,1000"),
+    (1, b"frequency=1000,01"), (1, b"frequency=01,1000"), (1, b"frequency=1000, 1000"), (1, b"frequency=1000;1000"),
+    (1, b"frequency=1000,00001000"), (1, b"frequency=10000000,1000"), (1, b"frequency=1000,10000000"),
+    (1, b"frequency=5001,x"), (1, b"frequency=x,5001"), (1, b"frequency=5001,5001,"), (1, b"frequency=5001,"),
+    (1, b"frequency=1000,frequency=1000"), (1, b"frequencies=1000,1000"),
+    (2, b"frequency=5001,0"), (2, b"frequency=1000,5001"), (2, b"frequency=0,9999999"), (2, b"frequency=9999999,5000"),
+    (2, b"frequency=5001,5001"),
+)
+
+
+def frequency_damage():
+    for number, line in FAULTY_FREQUENCIES:
+        yield (f"{'form' if number == 1 else 'range'}-{line.decode()}",
+               joined(with_line(GOOD.lines(), 5, line)), refused(number, 5, line))
+
+
 def worth_damage():
     """The worth where it does not stand, or not as it should."""
     lines = GOOD.lines()
@@ -613,7 +646,7 @@ def trailing_damage():
 RANGES = {
     1: ((b"0", b"1899", b"3000", b"9999999"),), 2: ((b"0", b"1899", b"3000", b"9999999"),),
     3: ((b"4096", b"9999999"),), 4: ((b"0", b"13", b"9999999"),),
-    5: ((b"5001", b"9999999"),), 6: ((b"4097", b"9999999"),), 7: ((b"0",),),
+    5: ((b"5001", b"9999999"),) * 2, 6: ((b"4097", b"9999999"),), 7: ((b"0",),),
     8: ((b"121", b"9999999"), (b"1000001", b"990001"), (b"1000001", b"980001")),
     9: ((b"0", b"29", b"30", b"121", b"9999999"), (b"1000001", b"9999999"),
         (b"970001", b"1000001")),
@@ -651,19 +684,19 @@ def range_damage():
 def precedence_damage():
     """Form before range within a line; the first faulty line decides."""
     lines = GOOD.lines()
-    both = {1: b"rates=03000", 3: b"horizon=4096\r", 4: b"order=13,1", 6: b"deductible= 4097",
+    both = {1: b"rates=03000", 3: b"horizon=4096\r", 4: b"order=13,1", 5: b"frequency=5001,01", 6: b"deductible= 4097",
             7: b"worth=0,", 8: b"rate=121,0,00", 9: b"rate=30,2000000,-1", 11: b"member=40,3,1,00",
             13: b"member=121,3,65536,65536,1", 14: b"end=04"}
     for place, line in both.items():
         yield (f"form-before-range-{place}", joined(with_line(lines, place, line)),
                refused(1, place, line))
-    for place, line in ((3, b"horizon=9999"), (7, b"worth=0"), (8, b"rate=121,0,0"),
+    for place, line in ((3, b"horizon=9999"), (5, b"frequency=0,5001"), (7, b"worth=0"), (8, b"rate=121,0,0"),
                         (11, b"member=0,0,0,0"), (14, b"end=9")):
         yield (f"form-open-out-of-range-{place}", joined(lines[:place - 1]) + line,
                refused(1, place, line))
-    first = with_line(with_line(lines, 3, b"horizon=4096"), 5, b"frequency=x")
+    first = with_line(with_line(lines, 3, b"horizon=4096"), 5, b"frequency=1000")
     yield "range-then-form", joined(first), refused(2, 3, b"horizon=4096")
-    second = with_line(with_line(lines, 3, b"horizon=x"), 5, b"frequency=5001")
+    second = with_line(with_line(lines, 3, b"horizon=x"), 5, b"frequency=0,5001")
     yield "form-then-range", joined(second), refused(1, 3, b"horizon=x")
     third = with_line(replace(GOOD, members=2031).lines(), 14, b"end=4")
     yield "range-before-edition", joined(third), refused(2, 14, b"end=4")
@@ -734,8 +767,8 @@ def short_damage():
 def damaged_files():
     """Files with a known refusal, each way of it."""
     cases = [Case("damaged-good", GOOD.data(), ACCEPTED)]
-    for kind in (spelling_damage, long_damage, cut_damage, order_damage, worth_damage, trailing_damage,
-                 range_damage, precedence_damage, refusal_damage):
+    for kind in (spelling_damage, long_damage, cut_damage, order_damage, frequency_damage, worth_damage,
+                 trailing_damage, range_damage, precedence_damage, refusal_damage):
         cases += [Case(f"damaged-{name}", data, expected)
                   for name, data, expected in kind()]
     return cases + short_damage()

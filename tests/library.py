@@ -3,8 +3,8 @@
     python3 tests/library.py N SEED
 
 Builds the library (rt, cc) and prices N files by both: whole funds, funds at
-each limit, funds with rates for some ages, funds about the edges of the loading, cut and
-damaged ones, each with a level.
+each limit, funds with rates for some ages, funds about the edges of the loading, funds
+with two frequencies, cut and damaged ones, each with a level.
 The five result slices have lengths from 0 on and are filled with other numbers
 before the call; behind each stand cells that must stay as they are.  Every
 figure, the place, the line, the quantile and every cell are compared.
@@ -17,6 +17,7 @@ import sys
 from pathlib import Path
 
 import document_funds
+import frequency_funds
 import generate
 import pricing
 import quantile_funds
@@ -94,7 +95,8 @@ def cases(count, seed):
     rng = random.Random(seed)
     known = quantile_funds.cases(quantile_funds.ROWS + quantile_funds.MORE_ROWS)
     known += [generate.Case(name, text.data()) for name, text in document_funds.FUNDS.items()]
-    known += rate_funds.cases() + tariff_funds.cases() + triangle_funds.cases() + generate.limit_funds() + generate.damaged_files()
+    known += rate_funds.cases() + tariff_funds.cases() + triangle_funds.cases() + frequency_funds.cases()
+    known += generate.limit_funds() + generate.damaged_files()
     known += generate.step_funds(seed, 100)
     for case in known[:count]:
         yield case.data, case.lengths, generate.level_of(case, rng, pricing.price(case.data))

@@ -1,6 +1,7 @@
 """The answer of a pricing call, in whole numbers, in the order of document 01.
 
-The quantile, the rate in force and the gross premium are those of document 02.
+The quantile, the rate in force, the gross premium and the two frequencies are
+those of document 02.
 
 price(data, lengths, level) gives every figure of a call for any bytes, any
 lengths of the five result slices and any level.  listing(answer) gives the
@@ -11,6 +12,7 @@ Run as a program, it reads a fund file on standard input and prints the listing.
 import sys
 from dataclasses import dataclass
 from itertools import accumulate
+from typing import NamedTuple
 
 UNIT = 10 ** 12          # one, in units of 10^-12
 MILLION = 10 ** 6        # one, in millionths
@@ -80,6 +82,12 @@ class Line:
         return Refusal(number, self.place, self.start, len(self.text))
 
 
+class Frequencies(NamedTuple):
+    """How often a place of group 2 is filled again, in thousandths."""
+    death: int           # a, for a deceased member's place
+    disability: int      # b, for a disabled member's
+
+
 @dataclass(frozen=True)
 class Member:
     line: Line
@@ -95,7 +103,7 @@ class Fund:
     members: int
     horizon: int
     order: int
-    frequency: int
+    frequency: Frequencies
     deductible: int
     worth: int           # of one amount, in centimes
     rate_rows: tuple     # (age, q, i), ages strictly rising
@@ -148,14 +156,23 @@ def numbers_of(line, key, count):
     return numbers
 
 
-def read_header(reader, key, low, high):
+def read_numbers(reader, key, count, low, high):
+    """The numbers of a header line, each within the limits."""
     line = reader.take()
-    numbers = numbers_of(line, key, 1)
+    numbers = numbers_of(line, key, count)
     if numbers is None:
         raise line.refusal(FORM)
-    if not low <= numbers[0] <= high:
+    if not all(low <= number <= high for number in numbers):
         raise line.refusal(RANGE)
-    return numbers[0]
+    return numbers
+
+
+def read_header(reader, key, low, high):
+    return read_numbers(reader, key, 1, low, high)[0]
+
+
+def read_frequencies(reader):
+    return Frequencies(*read_numbers(reader, b"frequency=", 2, 0, FREQUENCY_HIGH))
 
 
 def rate_in_range(rate_rows, age, q, i):
@@ -204,7 +221,7 @@ def read_fund(data):
     members = read_header(reader, b"members=", EDITION_LOW, EDITION_HIGH)
     horizon = read_header(reader, b"horizon=", 0, HORIZON_HIGH)
     order = read_header(reader, b"order=", ORDER_LOW, ORDER_HIGH)
-    frequency = read_header(reader, b"frequency=", 0, FREQUENCY_HIGH)
+    frequency = read_frequencies(reader)
     deductible = read_header(reader, b"deductible=", 0, DEDUCTIBLE_HIGH)
     worth = read_header(reader, b"worth=", WORTH_LOW, WORTH_HIGH)
     rate_rows, member_rows = read_rows(reader)
@@ -266,17 +283,27 @@ def group_2(members):
     return [m for m in members if m.group == 2]
 
 
+def death_weight(m, frequency):
+    """q x a x 1000, in units."""
+    return m.q * frequency.death * 1000
+
+
+def disability_weight(m, frequency):
+    """i x b x 1000, in units."""
+    return m.i * frequency.disability * 1000
+
+
 def group_2_weights(members, frequency):
-    """The pairs (amount, weight in units) of group 2; lambda is their sum."""
+    """The pairs (amount, weight in units) of group 2."""
     pairs = []
     for m in group_2(members):
-        pairs.append((m.d, m.q * frequency * 1000))
-        pairs.append((m.e, m.i * frequency * 1000))
+        pairs.append((m.d, death_weight(m, frequency)))
+        pairs.append((m.e, disability_weight(m, frequency)))
     return pairs
 
 
 def lambda_units(members, frequency):
-    """Lambda, in units, is the sum of (q + i) x a x 1000."""
+    """The sum of all weights of group 2."""
     return sum(weight for _, weight in group_2_weights(members, frequency))
 
 
@@ -309,11 +336,8 @@ def truncation(members, order):
 
 def mean(members, frequency):
     """Amounts beyond X count here."""
-    total = 0
-    for m in members:
-        factor = MILLION if m.group == 1 else frequency * 1000
-        total += (m.q * m.d + m.i * m.e) * factor
-    return total
+    ones = sum((m.q * m.d + m.i * m.e) * MILLION for m in group_1(members))
+    return ones + sum(amount * weight for amount, weight in group_2_weights(members, frequency))
 
 
 def next_row(row, q, i, p):

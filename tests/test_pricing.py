@@ -20,6 +20,7 @@ import document_funds
 import exact
 import exact_rows
 import formulas
+import frequency_funds
 import generate
 import pricing
 import quantile_funds
@@ -42,10 +43,10 @@ def refusal_of(case):
 # A second reader, by regular expressions
 
 NUMBER = rb"(0|[1-9][0-9]{0,6})"
-HEADER = [(re.compile(key + b"=" + NUMBER), low, high) for key, low, high in (
-    (b"rates", 1900, 2999), (b"members", 1900, 2999), (b"horizon", 0, 4095),
-    (b"order", 1, 12), (b"frequency", 0, 5000), (b"deductible", 0, 4096),
-    (b"worth", 1, 9999999))]
+HEADER = [(re.compile(key + b"=" + b",".join([NUMBER] * many)), low, high) for key, many, low, high in (
+    (b"rates", 1, 1900, 2999), (b"members", 1, 1900, 2999), (b"horizon", 1, 0, 4095),
+    (b"order", 1, 1, 12), (b"frequency", 2, 0, 5000), (b"deductible", 1, 0, 4096),
+    (b"worth", 1, 1, 9999999))]
 RATE = re.compile(b"rate=" + b",".join([NUMBER] * 3))
 MEMBER = re.compile(b"member=" + b",".join([NUMBER] * 4))
 END = re.compile(b"end=" + NUMBER)
@@ -81,7 +82,7 @@ def first_fault(data):
             match = pattern.fullmatch(line)
             if not match:
                 return 1, place
-            if not low <= int(match[1]) <= high:
+            if min(numbers(match)) < low or max(numbers(match)) > high:
                 return 2, place
         elif not members and (match := RATE.fullmatch(line)):
             if not rate_holds(numbers(match), rates):
@@ -506,6 +507,63 @@ def units_before_worth(premium, bound, worth, deductible):
     return pricing.up(units * worth, pricing.UNIT)
 
 
+def swapped(frequency):
+    return pricing.Frequencies(frequency.disability, frequency.death)
+
+
+def death_for_both(frequency):
+    return pricing.Frequencies(frequency.death, frequency.death)
+
+
+def disability_for_both(frequency):
+    return pricing.Frequencies(frequency.disability, frequency.disability)
+
+
+def with_frequencies(function, change):
+    """The function with the frequencies that it is given changed."""
+    return lambda *given: function(*(change(one) if isinstance(one, pricing.Frequencies) else one for one in given))
+
+
+def one_number_too(reader):
+    """Document 01's line still read, beside the new one."""
+    position, place = reader.position, reader.place
+    try:
+        return pricing.Frequencies(*[pricing.read_header(reader, b"frequency=", 0, 5000)] * 2)
+    except pricing.Refusal:
+        reader.position, reader.place = position, place
+        return right_read_frequencies(reader)
+
+
+def third_number_passes(line, key, count):
+    numbers = right_numbers_of(line, key, count)
+    if numbers is None and key == b"frequency=":
+        return (right_numbers_of(line, key, 3) or [])[:2] or None
+    return numbers
+
+
+def limit_of(index):
+    """A reader that asks only one of the two for its limit."""
+    def read(reader):
+        line = reader.take()
+        numbers = pricing.numbers_of(line, b"frequency=", 2)
+        if numbers is None:
+            raise line.refusal(pricing.FORM)
+        if numbers[index] > pricing.FREQUENCY_HIGH:
+            raise line.refusal(pricing.RANGE)
+        return pricing.Frequencies(*numbers)
+    return read
+
+
+def limit_before_form(reader):
+    """The first number's limit is asked before the rest is read."""
+    line = reader.take()
+    first = pricing.number_of(line.text.removeprefix(b"frequency=").split(b",")[0])
+    if first is not None and first > pricing.FREQUENCY_HIGH:
+        raise line.refusal(pricing.RANGE)
+    reader.position, reader.place = line.start, line.place - 1
+    return right_read_frequencies(reader)
+
+
 def half_before_folding(member, q, i):
     if member.group == 1 and q + i >= pricing.HALF:
         raise member.line.refusal(pricing.TOO_HALF)
@@ -525,6 +583,7 @@ right_quantile = pricing.quantile
 right_rate_in_force = pricing.rate_in_force
 right_accepted = pricing.accepted
 right_gross = pricing.gross
+right_read_frequencies = pricing.read_frequencies
 
 MUTATIONS = (
     ("negative halves up", "nearest", negative_halves_up),
@@ -591,7 +650,28 @@ MUTATIONS = (
     ("worth 0 passes", "WORTH_LOW", pricing.WORTH_LOW - 1),
     ("least worth one higher", "WORTH_LOW", pricing.WORTH_LOW + 1),
     ("most worth one lower", "WORTH_HIGH", pricing.WORTH_HIGH - 1),
+    ("the frequencies read in the other order", "read_frequencies", lambda reader: swapped(right_read_frequencies(reader))),
+    ("a single frequency still read", "read_frequencies", one_number_too),
+    ("a third frequency passed over", "numbers_of", third_number_passes),
+    ("the limit of the death frequency alone", "read_frequencies", limit_of(0)),
+    ("the limit of the disability frequency alone", "read_frequencies", limit_of(1)),
+    ("the limit of the death frequency before the form", "read_frequencies", limit_before_form),
+    ("most frequency one lower", "FREQUENCY_HIGH", pricing.FREQUENCY_HIGH - 1),
+    ("most frequency one higher", "FREQUENCY_HIGH", pricing.FREQUENCY_HIGH + 1),
 )
+
+# Where the frequencies are used.
+WEIGHED = (
+    ("lambda", pricing, "lambda_units"), ("D", pricing, "add_group_2"), ("the mean", pricing, "mean"),
+    ("every weight", pricing, "group_2_weights"), ("the exact weights", exact, "weights"),
+    ("the exact lambda", exact, "lambda_value"), ("the exact weights multiplied out", exact, "poisson_numerators"),
+)
+
+FREQUENCY_MUTATIONS = tuple(
+    (f"{name} in {where}", module, target, with_frequencies(getattr(module, target), change))
+    for name, change in (("the frequencies swapped", swapped), ("the death frequency for both", death_for_both),
+                         ("the disability frequency for both", disability_for_both))
+    for where, module, target in WEIGHED)
 
 
 def failures(checks):
@@ -610,6 +690,7 @@ def noticed(small, limits, damaged):
         "rates": failures(rate_funds.checks()),
         "tariff": failures(tariff_funds.checks()),
         "triangle": failures(triangle_funds.fund_checks()),
+        "frequencies": failures(frequency_funds.fund_checks()),
     }
 
 
@@ -621,11 +702,13 @@ def mutation_checks():
               and "-high" not in case.name]
     damaged = generate.damaged_files()
     damaged = damaged[::9] + [case for case in damaged if "half" in case.name
-                              or "range-" in case.name or "-cut-" in case.name]
+                              or "range-" in case.name or "-cut-" in case.name
+                              or "frequency=" in case.name]
     checks = [("no mutation: nothing fails",
                not any(noticed(small, limits, damaged).values()))]
-    for name, target, value in MUTATIONS:
-        with mock.patch.object(pricing, target, value):
+    changes = [(name, pricing, target, value) for name, target, value in MUTATIONS]
+    for name, module, target, value in [*changes, *FREQUENCY_MUTATIONS]:
+        with mock.patch.object(module, target, value):
             found = noticed(small, limits, damaged)
         print(f"  mutation: {name}: " + ", ".join(
             f"{family} {number}" for family, number in found.items()))
@@ -734,6 +817,9 @@ def sections():
                      + formula_checks(tariff_funds.cases()))
     yield "triangle", (triangle_funds.checks() + answer_checks(triangle_funds.cases())
                        + distance_checks(triangle_funds.cases()) + formula_checks(triangle_funds.cases()))
+    yield "frequencies", (frequency_funds.checks() + answer_checks(frequency_funds.cases())
+                          + reading_checks(frequency_funds.cases()) + distance_checks(frequency_funds.cases())
+                          + formula_checks(frequency_funds.cases()))
     yield "larger funds", large_checks(generate.large_funds(9, 6) + steps[::6])
     yield "stored cases", case_tool_checks() + stream_checks()
     yield "exact rows", row_checks()
