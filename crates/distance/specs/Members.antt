@@ -32,6 +32,7 @@ use Rattle.fund.specs.Limits.{most-load, most-truncation}
 use Rattle.fund.specs.Transform.{unit, deathWeight, disabilityWeight, lambda, load, w, truncation}
 use Rattle.fund.specs.Exact.{weightAt}
 use Rattle.laws.specs.Accepted.{All, Limited}
+use Rattle.laws.specs.Weights.{deathAt, disabilityAt}
 use Rattle.distance.specs.Errors.{U, unit-pos}
 use Rattle.distance.specs.Start.{stays}
 use Rattle.distance.specs.Lives.{shareOf, memberOf, members, W, rate, FoldedLife, limited-folded}
@@ -115,24 +116,18 @@ weights-within a [] n = go n
     go (suc (suc n)) = let h = go (suc n) in omega arith
 weights-within a (m ∷ ms) n = go (single m) refl (weights-within a ms n)
   where
-    dead : ℕ → ℕ
-    dead k = if eqb (m .d) k then deathWeight a m else 0
-
-    disabled : ℕ → ℕ
-    disabled k = if eqb (m .e) k then disabilityWeight a m else 0
-
     -- what this life adds at k
-    step : (b : Bool) → single m ≡ b → (k : ℕ) → weightAt a (m ∷ ms) k ≤ⁿ (if b then 0 else dead k +ⁿ disabled k) +ⁿ weightAt a ms k
+    step : (b : Bool) → single m ≡ b → (k : ℕ) → weightAt a (m ∷ ms) k ≤ⁿ (if b then 0 else deathAt a m k +ⁿ disabilityAt a m k) +ⁿ weightAt a ms k
     step b s zero = omega arith
-    step b s (suc k) = omega (arith, ap (λ c. (if c then 0 else dead (suc k) +ⁿ disabled (suc k)) +ⁿ weightAt a ms (suc k)) s)
+    step b s (suc k) = omega (arith, ap (λ c. (if c then 0 else deathAt a m (suc k) +ⁿ disabilityAt a m (suc k)) +ⁿ weightAt a ms (suc k)) s)
 
     go : (b : Bool) → single m ≡ b → sumN n (weightAt a ms) ≤ⁿ lambda a ms → sumN n (weightAt a (m ∷ ms)) ≤ⁿ (if b then 0 else deathWeight a m +ⁿ disabilityWeight a m) +ⁿ lambda a ms
     go true s h = omega (arith, sumN-add-le n (weightAt a (m ∷ ms)) (λ k. 0) (weightAt a ms) (step true s), sumN-zero n)
     go false s h =
         omega (
           arith,
-          sumN-add-le n (weightAt a (m ∷ ms)) (λ k. dead k +ⁿ disabled k) (weightAt a ms) (step false s),
-          sumN-add-le n (λ k. dead k +ⁿ disabled k) dead disabled (λ k. omega arith),
+          sumN-add-le n (weightAt a (m ∷ ms)) (λ k. deathAt a m k +ⁿ disabilityAt a m k) (weightAt a ms) (step false s),
+          sumN-add-le n (λ k. deathAt a m k +ⁿ disabilityAt a m k) (deathAt a m) (disabilityAt a m) (λ k. omega arith),
           at-most-once (m .d) (deathWeight a m) n,
           at-most-once (m .e) (disabilityWeight a m) n,
         )

@@ -30,6 +30,7 @@ use Rattle.fund.specs.Folding.{claim, stay, single}
 use Rattle.fund.specs.Transform.{unit, row, Term, placeOf, placed, termOf, rowTerms, singleTerms, deathWeight, disabilityWeight, replacedTerm, replacedTerms, terms, sumD, sumH, D, H}
 use Rattle.fund.specs.Exact.{weightAt}
 use Rattle.laws.specs.Accepted.{All, Limited}
+use Rattle.laws.specs.Weights.{deathAt, disabilityAt}
 use Rattle.distance.specs.Errors.{U, unit-pos, alternate-close}
 use Rattle.distance.specs.Lives.{memberOf, members, W}
 use Rattle.distance.specs.Triangle.{placed-close}
@@ -213,7 +214,7 @@ replaced-term-close X w d k k-pos k-le =
 
 -- the weight of a life at k, in units
 abbrev weightOf : Frequencies → Life → ℕ → ℕ
-weightOf a m k = (if eqb (m .d) k then deathWeight a m else 0) +ⁿ (if eqb (m .e) k then disabilityWeight a m else 0)
+weightOf a m k = deathAt a m k +ⁿ disabilityAt a m k
 
 replaced-close : (X : ℕ) (a : Frequencies) (m : Life) (k : ℕ) → 0 < k → k ≤ⁿ X → Close k (replacedTerms X a m) (nat k * over (nat (weightOf a m k)) unit)
 unfolding replacedTerms
@@ -226,10 +227,10 @@ replaced-close X a m k k-pos k-le =
     (replaced-term-close X (deathWeight a m) (m .d) k k-pos k-le) (replaced-term-close X (disabilityWeight a m) (m .e) k k-pos k-le))
   where
     u : ℕ
-    u = if eqb (m .d) k then deathWeight a m else 0
+    u = deathAt a m k
 
     v : ℕ
-    v = if eqb (m .e) k then disabilityWeight a m else 0
+    v = disabilityAt a m k
 
 -- ---- all lives
 terms-close : (X r : ℕ) (a : Frequencies) → r ≤ⁿ 12 → (k : ℕ) → suc k ≤ⁿ X → (ms : List Life) → All Fair ms →

@@ -29,7 +29,7 @@ use Rattle.fund.specs.Transform.{unit, deathWeight, disabilityWeight, lambda, m
 use Rattle.fund.specs.Exact.{weightAt}
 use Rattle.laws.specs.Accepted.{All}
 use Rattle.laws.specs.Ranges.{MemberOk}
-use Rattle.laws.specs.Weights.{death-none, disability-none}
+use Rattle.laws.specs.Weights.{deathAt, disabilityAt, death-none, disability-none}
 use Rattle.distance.specs.Errors.{U, unit-pos}
 use Rattle.distance.specs.Lives.{W, rate, FoldedLife}
 use Rattle.distance.specs.Members.{at-most-once, weights-units}
@@ -68,12 +68,6 @@ at-least-once : (d c n : ℕ) → d < n → c ≤ⁿ sumN n (λ k. if eqb d k th
 at-least-once d c n l = omega (arith, sumN-term n d (λ k. if eqb d k then c else 0) l, ap (λ b. if b then c else 0) (eq-eqb d d refl))
 
 -- ---- one life
-abbrev deathAt : Frequencies → Life → ℕ → ℕ
-deathAt a m k = if eqb (m .d) k then deathWeight a m else 0
-
-abbrev disabilityAt : Frequencies → Life → ℕ → ℕ
-disabilityAt a m k = if eqb (m .e) k then disabilityWeight a m else 0
-
 none-at-zero : (d w : ℕ) → (d ≡ 0 → w ≡ 0) → (if eqb d 0 then w else 0) ≡ 0
 none-at-zero d w h = go (eqb d 0) refl
   where

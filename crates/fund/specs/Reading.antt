@@ -39,7 +39,7 @@ pub record HeaderLine : Type 0 where
   pub key : List ℕ
   pub ranges : List NumberRange
 
--- The header lines, in their order. Document 02, §5: "The line becomes `frequency=a,b`"; "a single number there is now form".
+-- The header lines, in their order. Document 02, §5: "The line becomes `frequency=a,b`"; "A single number there is now form (1)".
 unfoldable pub headerLines : List HeaderLine
 headerLines =
     record { key = bytes "rates="; ranges = record { least = least-edition; most = most-edition } ∷ [] }

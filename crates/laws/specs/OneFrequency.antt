@@ -204,13 +204,13 @@ module _ (X : ℕ) (weights : ℕ → ℕ) (l : ℕ) (ms : List Life) where
   exactBy x = series (power (negℤ (pos l))) 63 *ℤ sumℤ (suc x) (λ k. pos (singlePart ms k) *ℤ series (λ n. pos (fold n weights (x - k))) X)
 
   abbrev pub exactPremiumBy : ℕ → ℕ → ℤ
-  exactPremiumBy M average = (pos average -ℤ pos (M * 10 ^ 12)) *ℤ pos (denominator X ms) +ℤ sumℤ M (λ x. pos ((M - x) * 10 ^ 12) *ℤ exactBy x)
+  exactPremiumBy M m = (pos m -ℤ pos (M * 10 ^ 12)) *ℤ pos (denominator X ms) +ℤ sumℤ M (λ x. pos ((M - x) * 10 ^ 12) *ℤ exactBy x)
 
 module _ (X a : ℕ) (ms : List Life) where
   pub exact-as-before : (x : ℕ) → exact X (both a) ms x ≡ exactBy X (weightAt₁ a ms) (lambda₁ a ms) ms x
   unfolding exact exponential replacedPart
   exact-as-before x = ap₂ (λ w l. exactBy X w l ms x) (weights-same a ms) (lambda-same a ms)
 
-  pub premium-as-before : (M average : ℕ) → exactPremium X M average (both a) ms ≡ exactPremiumBy X (weightAt₁ a ms) (lambda₁ a ms) ms M average
+  pub premium-as-before : (M m : ℕ) → exactPremium X M m (both a) ms ≡ exactPremiumBy X (weightAt₁ a ms) (lambda₁ a ms) ms M m
   unfolding exactPremium exact exponential replacedPart
-  premium-as-before M average = ap₂ (λ w l. exactPremiumBy X w l ms M average) (weights-same a ms) (lambda-same a ms)
+  premium-as-before M m = ap₂ (λ w l. exactPremiumBy X w l ms M m) (weights-same a ms) (lambda-same a ms)

@@ -12,7 +12,7 @@ ghost use lib.IntN.{pos, natAbs, _+ℤ_};
 ghost use lib.ListN.{length, getD, set};
 ghost use Rattle.rounding.specs.Rounding.{near};
 ghost use Rattle.fund.specs.Base.{alternate};
-ghost use Rattle.fund.specs.Limits.{half-rate, most-rate, most-order};
+ghost use Rattle.fund.specs.Limits.{half-rate, most-order};
 ghost use Rattle.fund.specs.Folding.{claim, stay, single};
 ghost use Rattle.fund.specs.Transform.{placeOf, placed as placedOf, replacedTerm, replacedTerms, row as rowOf, rowTerms, singleTerms};
 ghost use Rattle.laws.specs.Ranges.{FrequenciesOk};

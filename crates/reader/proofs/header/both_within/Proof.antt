@@ -1,8 +1,6 @@
 -- Both numbers are tested as the definitions test them.
-use mathlib.Core.Path.{sym, _∙_, ap}
-use mathlib.Core.Bool.{_&&_}
+use mathlib.Core.Path.{sym, _∙_}
 use borrow.Author.Needs.{needs}
-use Rattle.fund.specs.Reading.{between}
 use Rattle.reader.proofs.header.both_within.Statement.{statement}
 use Rattle.reader.proofs.header.both_within.Tie as tie
 

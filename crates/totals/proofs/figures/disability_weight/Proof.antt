@@ -2,15 +2,15 @@
 use native.Mathlib.Omega.{arith}
 use borrow.Author.Needs.{needs}
 use Rattle.fund.specs.Transform.{disabilityWeight}
-use Rattle.laws.specs.Weights.{disability-product}
+use Rattle.laws.specs.Weights.{products}
 use Rattle.totals.proofs.figures.disability_weight.Statement.{statement}
 use Rattle.totals.proofs.figures.disability_weight.Tie as tie
 
 mul-result : tie.Need-mul-result
-mul-result c = let s = c .before .before in omega (arith, disability-product (s .args .ab) (s .args .m) (s .pre .1) (s .pre .0 .rates))
+mul-result c = let s = c .before .before in omega (arith, products (s .args .ab) (s .args .m) (s .pre .1) (s .pre .0 .rates))
 
 mul-result-2 : tie.Need-mul-result-2
-mul-result-2 c = let s = c .before .before in omega (arith, disability-product (s .args .ab) (s .args .m) (s .pre .1) (s .pre .0 .rates))
+mul-result-2 c = let s = c .before .before in omega (arith, products (s .args .ab) (s .args .m) (s .pre .1) (s .pre .0 .rates))
 
 returns : tie.Need-returns
 unfolding disabilityWeight

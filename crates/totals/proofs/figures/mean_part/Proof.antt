@@ -1,6 +1,7 @@
 -- The group decides, and the products fit: 65,535 × 10^6 × 10^6, and 65,535 times the weights.
 use mathlib.Core.Path.{_≡_, ap₂, _∙_, ap}
 use Prim.Native.Nat.{ℕ, _+_, _*_, _≤_}
+use native.Mathlib.Nat.{mul-le-mul}
 use native.Mathlib.Omega.{arith}
 use borrow.Author.Needs.{needs}
 use borrow.Author.Tests.{eq-eqb, ne-eqb}
@@ -34,13 +35,20 @@ mul-result c = rw (both c) (omega (arith, amounts (c .before .before .before .be
 returns : tie.Need-returns
 returns c = rw (eq-eqb _ _ (c .before .before .if1 .taken), both c)
 
+-- either weight times an amount
+each : (c : tie.After-disability-weight) (amount : ℕ) → amount ≤ 65535 → (c .before .death-weight .result * amount ≤ most-weight * 65535) × (c .disability-weight .result * amount ≤ most-weight * 65535)
+each c amount h =
+    let s = c .before .before .before .before in
+    let w = weights-most (s .args .ab) (s .args .m) (s .pre .1) (s .pre .0 .rates) in
+    let death : c .before .death-weight .result ≤ most-weight = omega (arith, c .before .death-weight .ensures, w) in
+    let disability : c .disability-weight .result ≤ most-weight = omega (arith, c .disability-weight .ensures, w) in
+    (mul-le-mul death h, mul-le-mul disability h)
+
 weighed-requires-3 : tie.Need-weighed-requires-3
-weighed-requires-3 c κs =
-    rw (c .before .death-weight .ensures) (omega (arith, weighted (c .before .before .before .before)))
+weighed-requires-3 c κs = let s = c .before .before .before .before in omega (arith, each c (s .args .m .d) (s .pre .0 .death))
 
 weighed-requires-4 : tie.Need-weighed-requires-4
-weighed-requires-4 c κs =
-    rw (c .before .disability-weight .ensures) (omega (arith, weighted (c .before .before .before .before .before)))
+weighed-requires-4 c κs = let s = c .before .before .before .before .before in omega (arith, each (c .before) (s .args .m .e) (s .pre .0 .disability))
 
 both-weighed : (c : tie.After-weighed4) → let a = c .before .before .before .before .before .before .args in
     c .before .weighed3 .result + c .weighed4 .result ≡ deathWeight (a .ab) (a .m) * a .m .d + disabilityWeight (a .ab) (a .m) * a .m .e

@@ -1,39 +1,35 @@
 -- The second term goes into the room that the first leaves. A weight is at most 10^6 × 5,000 × 1,000.
 use borrow.Author.Needs.{needs}
 use mathlib.Core.Path.{sym, _∙_, ap}
-use Prim.Native.Nat.{_*_, _≤_}
 use native.Mathlib.Omega.{arith}
 use Rattle.fund.specs.Transform.{deathWeight, disabilityWeight, replacedTerm, replacedTerms}
-use Rattle.laws.specs.Weights.{death-product, disability-product}
+use Rattle.laws.specs.Weights.{Products, products}
 use Rattle.widths.specs.Adding.{addD}
 use Rattle.widths.specs.AddingLaws.{addD-append, roomD-first, roomD-rest}
 use Rattle.valuation.proofs.transform.add_replaced.Statement.{statement}
 use Rattle.valuation.proofs.transform.add_replaced.Tie as tie
 
-by-death : (c : tie.Start) → c .args .m .q * c .args .ab .death ≤ 1000000 * 5000
-by-death c = death-product (c .args .ab) (c .args .m) (c .pre .1) (c .pre .0 .rates)
-
-by-disability : (c : tie.Start) → c .args .m .i * c .args .ab .disability ≤ 1000000 * 5000
-by-disability c = disability-product (c .args .ab) (c .args .m) (c .pre .1) (c .pre .0 .rates)
+fits : (c : tie.Start) → let a = c .args in Products (a .ab) (a .m .q) × Products (a .ab) (a .m .i)
+fits c = products (c .args .ab) (c .args .m) (c .pre .1) (c .pre .0 .rates)
 
 mul-add-replaced-term : tie.Need-mul-add-replaced-term
-mul-add-replaced-term c = omega (arith, by-death (c .before .before .before))
+mul-add-replaced-term c = omega (arith, fits (c .before .before .before))
 
 mul-add-replaced-term-2 : tie.Need-mul-add-replaced-term-2
-mul-add-replaced-term-2 c = omega (arith, by-death (c .before .before .before))
+mul-add-replaced-term-2 c = omega (arith, fits (c .before .before .before))
 
 add-replaced-term-requires : tie.Need-add-replaced-term-requires
 unfolding replacedTerms deathWeight disabilityWeight
 add-replaced-term-requires c κs =
     let s = c .before .before .before in
     let a = s .args in
-    (omega (arith, by-death s), roomD-first (replacedTerm (a .horizon) (deathWeight (a .ab) (a .m)) (a .m .d)) (replacedTerm (a .horizon) (disabilityWeight (a .ab) (a .m)) (a .m .e)) (s .pre .2))
+    (omega (arith, fits s), roomD-first (replacedTerm (a .horizon) (deathWeight (a .ab) (a .m)) (a .m .d)) (replacedTerm (a .horizon) (disabilityWeight (a .ab) (a .m)) (a .m .e)) (s .pre .2))
 
 mul-add-replaced-term-3 : tie.Need-mul-add-replaced-term-3
-mul-add-replaced-term-3 c = omega (arith, by-disability (c .before .before .before .before .before .before .before .before))
+mul-add-replaced-term-3 c = omega (arith, fits (c .before .before .before .before .before .before .before .before))
 
 mul-add-replaced-term-4 : tie.Need-mul-add-replaced-term-4
-mul-add-replaced-term-4 c = omega (arith, by-disability (c .before .before .before .before .before .before .before .before))
+mul-add-replaced-term-4 c = omega (arith, fits (c .before .before .before .before .before .before .before .before))
 
 add-replaced-term-requires-2 : tie.Need-add-replaced-term-requires-2
 unfolding replacedTerms deathWeight disabilityWeight
@@ -41,7 +37,7 @@ add-replaced-term-requires-2 c κs =
     let s = c .before .before .before .before .before .before .before .before in
     let a = s .args in
     let r = roomD-rest (replacedTerm (a .horizon) (deathWeight (a .ab) (a .m)) (a .m .d)) (replacedTerm (a .horizon) (disabilityWeight (a .ab) (a .m)) (a .m .e)) (s .pre .2) in
-    (omega (arith, by-disability s), rw (c .before .before .before .before .add-replaced-term .ensures) r)
+    (omega (arith, fits s), rw (c .before .before .before .before .add-replaced-term .ensures) r)
 
 same-length : tie.Need-same-length
 same-length c = search needs
