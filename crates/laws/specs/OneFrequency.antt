@@ -28,6 +28,7 @@ use Rattle.fund.specs.Quantile.{runningSum}
 use Rattle.fund.specs.Refusals.{first, wide, Lengths, short, refuse, at0, valued, matched, verdict}
 use Rattle.fund.specs.Answer.{fundTerms, fundStart, fundCells, fundTruncation, fundMean, fundPremium, fundWithin, fundFigures, empty, Answer, refused, lent, accepted, answerOf, answerTo, answer}
 use Rattle.fund.specs.Exact.{denominator, singlePart, weightAt, fold, series, replacedPart, power, exponential, exact, exactPremium}
+use Rattle.laws.specs.Weights.{by-thousand}
 
 abbrev pub both : ℕ → Frequencies
 both a = record { death = a; disability = a }
@@ -84,8 +85,7 @@ module _ (a : ℕ) where
 
   moved : (rate amount : ℕ) → rate * a * 1000 * amount ≡ rate * amount * a * 1000
   moved rate amount =
-      mul-assoc (rate * a) 1000 amount ∙ ap (λ y. rate * a * y) (mul-comm 1000 amount) ∙ sym (mul-assoc (rate * a) amount 1000)
-      ∙ ap (λ y. y * 1000) (mul-assoc rate a amount ∙ ap (λ y. rate * y) (mul-comm a amount) ∙ sym (mul-assoc rate amount a))
+      by-thousand (rate * a) amount ∙ ap (λ y. y * 1000) (mul-assoc rate a amount ∙ ap (λ y. rate * y) (mul-comm a amount) ∙ sym (mul-assoc rate amount a))
 
   pub mean-same : (ms : List Life) → mean (both a) ms ≡ mean₁ a ms
   unfolding mean mean₁ deathWeight disabilityWeight

@@ -1,8 +1,8 @@
 -- What all else knows of the frequencies: a member's two weights add to at most 5×10^12 units (weights-most), and a rate of 0 has no
 -- weight (death-none, disability-none). A rate of the member times a frequency is at most 5×10^9 (products).
-use mathlib.Core.Path.{_≡_, _∙_, ap}
+use mathlib.Core.Path.{_≡_, sym, _∙_, ap}
 use Prim.Native.Nat.{ℕ, _+_, _*_, _≤_}
-use native.Mathlib.Nat.{mul-le-mul, mul-le-mul-left, zero-mul}
+use native.Mathlib.Nat.{mul-comm, mul-assoc, mul-le-mul, mul-le-mul-left, zero-mul}
 use native.Mathlib.Omega.{arith}
 use lib.Dec.{eqb}
 use Rattle.fund.specs.declared.Frequencies.{Frequencies}
@@ -18,6 +18,9 @@ most-weight = most-rate * most-frequency * 1000
 
 none : (rate frequency : ℕ) → rate ≡ 0 → rate * frequency * 1000 ≡ 0
 none rate frequency z = ap (λ r. r * frequency * 1000) z ∙ ap (λ p. p * 1000) (zero-mul frequency) ∙ zero-mul 1000
+
+pub by-thousand : (p amount : ℕ) → p * 1000 * amount ≡ p * amount * 1000
+by-thousand p amount = mul-assoc p 1000 amount ∙ ap (λ y. p * y) (mul-comm 1000 amount) ∙ sym (mul-assoc p amount 1000)
 
 -- a rate times each frequency
 abbrev pub Products : Frequencies → ℕ → Type 0

@@ -5,16 +5,23 @@ use mathlib.Core.List.{List}
 use Prim.Native.Nat.{ℕ, min, _+_, _<_, _≤_}
 use native.Mathlib.Omega.{arith}
 use lib.ListN.{length}
+use Rattle.fund.specs.declared.Frequencies.{Frequencies}
 use Rattle.fund.specs.declared.Fund.{Fund}
 use Rattle.fund.specs.declared.Life.{Life}
+use Rattle.fund.specs.Base.{total}
 use Rattle.fund.specs.Limits.{most-load, most-truncation, most-members}
 use Rattle.fund.specs.Transform.{lambda, load, truncation, mean}
 use Rattle.fund.specs.Recursion.{multiplied, alternating, start, startBound}
 use Rattle.totals.specs.declared.start.Product.{Product}
-use Rattle.totals.specs.Table.{Members, most-mean}
+use Rattle.totals.specs.Table.{Members, most-lambda, most-mean}
 use Rattle.totals.specs.Start.{Multiplied}
 use Rattle.laws.specs.Accepted.{All}
+use Rattle.laws.specs.Ranges.{FrequenciesOk}
+use Rattle.laws.specs.Weights.{most-weight}
 use Rattle.widths.specs.Lives.{InRange}
+use Rattle.widths.specs.Parts.{lambdaPart, singleLoad}
+use Rattle.widths.specs.PartBounds.{lambda-le}
+use Rattle.widths.specs.Sums.{total-bound}
 use Rattle.laws.specs.Tells.{Tells}
 use Rattle.totals.specs.Inside.{HeaderIn}
 use Rattle.totals.proofs.Terms.{c-sum}
@@ -22,7 +29,11 @@ use Rattle.totals.specs.declared.Totals.{Totals}
 use Rattle.totals.specs.declared.StartSum.{StartSum}
 use Rattle.totals.specs.Totals.{noTotals, startLambda, StartSums, StartedWith, LivesTotals, TableTotals, TotalsFor}
 
-module _ (fund : Fund) (ms : List Life) (lam all figure m : ℕ) (l : StartSum) (p : Product) (r : Totals) (lam-is : lam ≡ lambda (fund .frequency) ms) (all-is : all ≡ load (fund .frequency) ms)
+pub lambda-most : (ms : List Life) (a : Frequencies) → Members ms → FrequenciesOk a → lambda a ms ≤ most-lambda
+unfolding lambda
+lambda-most ms a n k = omega (arith, total-bound InRange (lambdaPart a) most-weight (λ m r. lambda-le m a r k) ms (n .in-range), n .few)
+
+module _ (fund : Fund) (ms : List Life) (lam all figure m : ℕ) (l : StartSum) (p : Product) (r : Totals) (lam-is : lam ≡ lambda (fund .frequency) ms) (all-is : all ≡ lam + total singleLoad ms)
     (figure-is : figure ≡ min (truncation (fund .order) ms) (most-truncation + 1)) (m-is : m ≡ min (mean (fund .frequency) ms) most-mean) (sums-of : StartSums lam l) (product : Multiplied ms (l .size) p) (made : StartedWith all figure m l p r) where
   cell-is : r .cell ≡ start (startLambda fund ms) ms
   unfolding start alternating
@@ -39,8 +50,12 @@ module _ (fund : Fund) (ms : List Life) (lam all figure m : ℕ) (l : StartSum) 
   bound-within : r .bound ≤ 691 + length ms
   bound-within = omega (arith, made .bound-is, sums-of .is .bound-is, c-sum (min lam most-load) (omega arith), product .count-within)
 
+  load-is : r .load ≡ load (fund .frequency) ms
+  unfolding load
+  load-is = made .load-is ∙ all-is ∙ ap (λ k. k + total singleLoad ms) lam-is
+
   pub sums-up : LivesTotals fund ms r
-  sums-up = record { inside-is = made .inside-is; load-is = made .load-is ∙ all-is; truncation-is = made .truncation-is ∙ figure-is; mean-is = made .mean-is ∙ m-is; cell-is = cell-is; bound-is = bound-is; bound-within = bound-within }
+  sums-up = record { inside-is = made .inside-is; load-is = load-is; truncation-is = made .truncation-is ∙ figure-is; mean-is = made .mean-is ∙ m-is; cell-is = cell-is; bound-is = bound-is; bound-within = bound-within }
 
 pub made-asks : (ms : List Life) → Members ms → (lam : ℕ) (l : StartSum) → StartSums lam l → (p : Product) → Multiplied ms (l .size) p → (p .size ≤ 200000000000000000) × (l .bound ≤ 64000) × (p .singles ≤ 1000)
 made-asks ms n lam l sums-of p product = (omega (arith, product .size-within, sums-of .size-within), sums-of .bound-within, omega (arith, product .count-within, n .few))

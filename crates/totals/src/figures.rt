@@ -9,31 +9,17 @@ use whole::up;
 ghost use mathlib.Core.Path.{_≡_};
 ghost use Prim.Native.Nat.{min, _+_, _-_, _*_, _^_, _<_, _≤_};
 ghost use Rattle.rounding.specs.Rounding.{up as upOf};
+ghost use Rattle.fund.specs.Base.{total};
 ghost use Rattle.fund.specs.Limits.{most-order, most-truncation, half-rate};
 ghost use Rattle.fund.specs.Folding.{claim, stay};
-ghost use Rattle.fund.specs.Transform.{deathWeight, disabilityWeight, lambda as lambdaOf, load as loadOf, truncation as truncationOf, mean as meanOf, unit, w};
+ghost use Rattle.fund.specs.Transform.{lambda as lambdaOf, truncation as truncationOf, mean as meanOf, unit, w};
 ghost use Rattle.laws.specs.Ranges.{FrequenciesOk};
 ghost use Rattle.widths.specs.Lives.{InRange};
-ghost use Rattle.widths.specs.Parts.{lambdaPart, singleLoad, loadPart, truncationPart, meanPart};
-ghost use Rattle.totals.specs.Table.{Members, most-mean};
+ghost use Rattle.widths.specs.Parts.{lambdaPart, singleLoad, truncationPart, meanPart};
+ghost use Rattle.totals.specs.Table.{Members, most-lambda, most-mean};
 
 // A mean of a fund that is not refused is at most this.
 const MOST_MEAN: u64 = Fund::MOST_AMOUNT * Fund::MOST_LOAD;
-
-// The weights of a life, of death and of disability.
-fn death_weight(m: Life, ab: Frequencies) -> u64
-    requires { ⌜ InRange m × FrequenciesOk ab ⌝ }
-    ensures { λ r. ⌜ r ≡ deathWeight ab m ⌝ }
-{
-    m.q * ab.death * 1000
-}
-
-fn disability_weight(m: Life, ab: Frequencies) -> u64
-    requires { ⌜ InRange m × FrequenciesOk ab ⌝ }
-    ensures { λ r. ⌜ r ≡ disabilityWeight ab m ⌝ }
-{
-    m.i * ab.disability * 1000
-}
 
 // What a life adds to lambda.
 fn lambda_part(m: Life, ab: Frequencies) -> u64
@@ -43,7 +29,7 @@ fn lambda_part(m: Life, ab: Frequencies) -> u64
     if m.group == 1 {
         return 0;
     }
-    death_weight(m, ab) + disability_weight(m, ab)
+    (m.q * ab.death + m.i * ab.disability) * 1000
 }
 
 // Lambda of one life more.
@@ -81,22 +67,22 @@ fn single_part(m: Life) -> u64
 }
 
 // The load of one life more.
-fn load_step(sum: u64, m: Life, ab: Frequencies) -> u64
-    requires { ⌜ InRange m × FrequenciesOk ab × (sum + loadPart ab m < 2 ^ 64) ⌝ }
-    ensures { λ r. ⌜ r ≡ sum + loadPart ab m ⌝ }
+fn load_step(sum: u64, m: Life) -> u64
+    requires { ⌜ InRange m × (sum + singleLoad m < 2 ^ 64) ⌝ }
+    ensures { λ r. ⌜ r ≡ sum + singleLoad m ⌝ }
 {
-    sum + (lambda_part(m, ab) + single_part(m))
+    sum + single_part(m)
 }
 
-// The load, in units.
-pub(crate) fn load(members: &[Life], ab: Frequencies) -> u64
-    requires { ⌜ Members (now members) × FrequenciesOk ab ⌝ }
-    ensures { λ r. ⌜ r ≡ loadOf ab (now (members .entry)) ⌝ }
+// The load, in units: lambda, and what the lives of group 1 add to it.
+pub(crate) fn load(members: &[Life], lambda: u64) -> u64
+    requires { ⌜ Members (now members) × (lambda ≤ most-lambda) ⌝ }
+    ensures { λ r. ⌜ r ≡ lambda + total singleLoad (now (members .entry)) ⌝ }
 {
-    let mut sum: u64 = 0;
+    let mut sum = lambda;
     let mut k: usize = 0;
     while k < members.len() {
-        sum = load_step(sum, members[k], ab);
+        sum = load_step(sum, members[k]);
         k += 1;
     }
     sum
@@ -160,7 +146,7 @@ pub(crate) fn truncation(members: &[Life], r: u64) -> u64
     sum
 }
 
-// An amount by its rate or its weight.
+// An amount by its rate, or by a rate times a frequency.
 fn weighed(weight: u64, amount: u64) -> u64
     requires { ⌜ weight * amount < 2 ^ 64 ⌝ }
     ensures { λ r. ⌜ r ≡ weight * amount ⌝ }
@@ -176,9 +162,7 @@ fn mean_part(m: Life, ab: Frequencies) -> u64
     if m.group == 1 {
         return (weighed(m.q, m.d) + weighed(m.i, m.e)) * MILLION;
     }
-    let death = death_weight(m, ab);
-    let disability = disability_weight(m, ab);
-    weighed(death, m.d) + weighed(disability, m.e)
+    (weighed(m.q * ab.death, m.d) + weighed(m.i * ab.disability, m.e)) * 1000
 }
 
 // The mean of one life more. Sums above the largest are not told apart.

@@ -86,7 +86,7 @@ fn lives_totals(fund: Fund, members: &[Life]) -> Totals
     ensures { λ t. ⌜ LivesTotals fund (now (members .entry)) t ⌝ }
 {
     let lambda = figures::lambda(members, fund.frequency);
-    let load = figures::load(members, fund.frequency);
+    let load = figures::load(members, lambda);
     let truncation = figures::truncation(members, fund.order);
     let mean = figures::mean(members, fund.frequency);
     let first = first_sum(lambda);

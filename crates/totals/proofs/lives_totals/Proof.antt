@@ -31,12 +31,14 @@ use denote.Triple.Walked.{needs}
 use Rattle.fund.specs.declared.Fund.{Fund}
 use Rattle.fund.specs.declared.Life.{Life}
 use Rattle.fund.specs.Limits.{most-truncation}
-use Rattle.fund.specs.Transform.{lambda, load, truncation, mean}
+use Rattle.fund.specs.Base.{total}
+use Rattle.fund.specs.Transform.{lambda, truncation, mean}
 use Rattle.fund.proofs.Life as L
 use Rattle.fund.proofs.Fund as G
 use Rattle.fund.proofs.Fund.Laws as G′
 use Rattle.fund.proofs.Frequencies as F
 use Rattle.fund.proofs.Frequencies.Laws as F′
+use Rattle.widths.specs.Parts.{singleLoad}
 use Rattle.totals.specs.Table.{Members, most-mean}
 use Rattle.totals.specs.Start.{Multiplied}
 use Rattle.walks.specs.Freeing.{frees-cell}
@@ -56,7 +58,7 @@ use Rattle.totals.proofs.start.multiplied.Met as multiplied-thm
 use Rattle.totals.specs.Inside.{HeaderIn}
 use Rattle.totals.specs.Totals.{StartSums, StartedWith}
 use Rattle.totals.proofs.TableCalls.{calls-walk}
-use Rattle.totals.proofs.TableTotals.{made-asks, sums-up}
+use Rattle.totals.proofs.TableTotals.{lambda-most, made-asks, sums-up}
 use Rattle.totals.proofs.Totals as T
 use Rattle.totals.proofs.Totals.Laws as T′
 use Rattle.totals.proofs.StartSum as D
@@ -113,9 +115,9 @@ module _ {M : Type 1} (𝓤 : URA M) (H : Heap 𝓤) (𝓜 : Model 𝓤 H) (𝓖
         (lambda-thm.met 𝓤 H 𝓜 𝓖 𝓡) (factI 𝓤 _ (emp 𝓤) (asks .0, asks .1 .frequency))
         (λ r. r ≡ lambda (fund .frequency) ms) (λ r e. id⊢ 𝓤 _) (LL.makes F.the-type F′.the-plain 𝓤 H A) (fields .1 .1 .1 .1 .0) (λ i. and-then ! (cell ! 15 refl) (and-then ! (read ! (from ! (fld ! refl (stop !))) (look-in ! 17 (sub ! 4 refl (whole !)))) (no-more !))) (λ w₃ lam lam-is is₃.
         land ! (from ! (stop !)) (init ! 14 refl (uint-lawful 𝓤 H A W w64 .typed lam _ is₃ .0)) $ drop ! $
-        calls-walk 𝓤 H A W κ q members u64 F.the-row (load-def.clauses 𝓤 H A (𝓜 .mem) (𝓡 .run)) (fund .frequency) (F′.lowered (fund .frequency)) tt fm
-        (load-thm.met 𝓤 H 𝓜 𝓖 𝓡) (factI 𝓤 _ (emp 𝓤) (asks .0, asks .1 .frequency))
-        (λ r. r ≡ load (fund .frequency) ms) (λ r e. id⊢ 𝓤 _) (LL.makes F.the-type F′.the-plain 𝓤 H A) (fields .1 .1 .1 .1 .0) (λ i. and-then ! (cell ! 15 refl) (and-then ! (read ! (from ! (fld ! refl (stop !))) (look-in ! 17 (sub ! 4 refl (whole !)))) (no-more !))) (λ w₄ all all-is is₄.
+        calls-walk 𝓤 H A W κ q members u64 u64 (load-def.clauses 𝓤 H A (𝓜 .mem) (𝓡 .run)) lam w₃ tt fm
+        (load-thm.met 𝓤 H 𝓜 𝓖 𝓡) (factI 𝓤 _ (emp 𝓤) (asks .0, rw lam-is (lambda-most ms (fund .frequency) (asks .0) (asks .1 .frequency))))
+        (λ r. r ≡ lam + total singleLoad ms) (λ r e. id⊢ 𝓤 _) (uint-makes 𝓤 H A W w64) is₃ (λ i. and-then ! (cell ! 15 refl) (and-then ! (cell ! 13 refl) (no-more !))) (λ w₄ all all-is is₄.
         land ! (from ! (stop !)) (init ! 12 refl (uint-lawful 𝓤 H A W w64 .typed all _ is₄ .0)) $ drop ! $
         calls-walk 𝓤 H A W κ q members u64 u64 (truncation-def.clauses 𝓤 H A (𝓜 .mem) (𝓡 .run)) (fund .order) (vint w64 (fund .order)) tt fm
         (truncation-thm.met 𝓤 H 𝓜 𝓖 𝓡) (factI 𝓤 _ (emp 𝓤) (asks .0, asks .1 .order))

@@ -10,13 +10,10 @@ use Rattle.fund.specs.Transform.{lambda}
 use Rattle.fund.proofs.Frequencies as F
 use Rattle.fund.proofs.Frequencies.Laws as F′
 use Rattle.laws.specs.Ranges.{FrequenciesOk}
-use Rattle.laws.specs.Weights.{most-weight}
-use Rattle.widths.specs.Lives.{InRange}
 use Rattle.widths.specs.Parts.{lambdaPart}
-use Rattle.widths.specs.PartBounds.{lambda-le}
-use Rattle.widths.specs.Sums.{total-bound}
 use Rattle.totals.specs.Table.{Members}
 use Rattle.totals.proofs.LifeSums.{frequencies-local, sums, adds, adding}
+use Rattle.totals.proofs.TableTotals.{lambda-most}
 use Rattle.totals.proofs.figures.lambda_step.Symbol.{name as #step}
 use Rattle.totals.proofs.figures.lambda_step.Met as step-thm
 use Rattle.totals.proofs.figures.lambda.Key.{name as #lambda}
@@ -28,7 +25,7 @@ unfolding lambda
 is x ms = refl
 
 fits : (ms : List Life) (a : Frequencies) → Members ms × FrequenciesOk a → lambda a ms < 2 ^ 64
-fits ms a n = omega (arith, is a ms, total-bound InRange (lambdaPart a) most-weight (λ m r. lambda-le m a r (n .1)) ms (n .0 .in-range), n .0 .few)
+fits ms a n = omega (arith, lambda-most ms a (n .0) (n .1))
 
 pub lambda-spec : {M : Type 1} → statement M
 unfolding code.routine frequencies-local
