@@ -11,11 +11,11 @@ use Rattle.fund.specs.declared.Refusal.{Refusal}
 use Rattle.fund.specs.declared.Verdict.{Verdict}
 use Rattle.fund.specs.declared.Verdict.the-variants.{Accepted, Refused}
 use Rattle.fund.specs.Transform.{unit}
-use Rattle.fund.specs.Reading.{FundFile, Reading, read, stopped, reading}
+use Rattle.fund.specs.Reading.{FundFile, Reading, read, stopped}
 use Rattle.fund.specs.Folding.{lives}
 use Rattle.fund.specs.Refusals.{Lengths, numberIn, verdict}
 use Rattle.fund.specs.Quantile.{quantile, quantileOf, QuantileSays}
-use Rattle.fund.specs.Answer.{Answer, refused, fundCells, accepted, answerOf, answerTo, answer}
+use Rattle.fund.specs.Answer.{Answer, refused, fundCells, accepted, answerOf, answerTo}
 use Rattle.fund.specs.Listing.{horizonIn}
 use Rattle.fund.specs.Distance.{fileDenominator, exactAt, exactPremiumAt, apart, WithinBounds, exactLoadedWorth, NeverBelow}
 use Rattle.laws.specs.Accepted.{accepts}
@@ -28,41 +28,38 @@ use Rattle.claims.specs.Demands.{Received, Refuses, Zero, Method, Close,
 
 -- ---- a refusal
 -- An answer with a number above 0 is a refusal's.
-record RefusedAs (file : List ℕ) (n : Lengths) : Type 0 where
+record RefusedAs (text : List ℕ) (r : Reading) (n : Lengths) : Type 0 where
   why : Refusal
   place : ℕ
-  is : answer file n ≡ refused file n (Refused why place)
+  is : answerTo text n r ≡ refused text n (Refused why place)
 
-refused-as : (file : List ℕ) (n : Lengths) → 0 < numberIn (answer file n .verdict) → RefusedAs file n
-unfolding answer answerTo answerOf accepted
-refused-as file n l = go (reading file) refl l
+refused-as : (text : List ℕ) (r : Reading) (n : Lengths) → 0 < numberIn (answerTo text n r .verdict) → RefusedAs text r n
+unfolding answerTo answerOf accepted
+refused-as text (read fund) n l = after (verdict fund n (fundCells (fund .header) (lives fund))) refl l
   where
-    after : (fund : FundFile) → reading file ≡ read fund → (v : Verdict) → verdict fund n (fundCells (fund .header) (lives fund)) ≡ v → 0 < numberIn (answerOf file n fund v .verdict) → RefusedAs file n
-    after fund r Accepted e h = absurd (omega (arith, h))
-    after fund r (Refused why place) e h = record { why = why; place = place; is = ap (answerTo file n) r ∙ ap (answerOf file n fund) e }
-
-    go : (r : Reading) → reading file ≡ r → 0 < numberIn (answerTo file n r .verdict) → RefusedAs file n
-    go (read fund) e h = after fund e (verdict fund n (fundCells (fund .header) (lives fund))) refl h
-    go (stopped why place) e h = record { why = why; place = place; is = ap (answerTo file n) e }
+    after : (v : Verdict) → verdict fund n (fundCells (fund .header) (lives fund)) ≡ v → 0 < numberIn (answerOf text n fund v .verdict) → RefusedAs text (read fund) n
+    after Accepted e h = absurd (omega (arith, h))
+    after (Refused why place) e h = record { why = why; place = place; is = ap (answerOf text n fund) e }
+refused-as text (stopped why place) n l = record { why = why; place = place; is = refl }
 
 -- ---- the demands
 -- What is left is the answer, and the distance and the gross premium's cover hold of it.
-pub record Answered (file : List ℕ) (level : ℕ) (n : Lengths) (o : Received) : Type 0 where
-  pub refuses : Refuses file n o
-  pub horizon : o .horizon ≡ horizonWith (answer file n .verdict) (horizonIn (reading file))
-  pub method : Method file n o
-  pub quantile : o .quantile ≡ quantileOf level (o .horizon) (o .F) (answer file n .verdict)
-  pub distance : (fund : FundFile) → reading file ≡ read fund → answer file n .verdict ≡ Accepted → WithinBounds fund (answer file n)
-  pub never-below : (fund : FundFile) → reading file ≡ read fund → answer file n .verdict ≡ Accepted → NeverBelow fund (answer file n)
+pub record Answered (text : List ℕ) (r : Reading) (level : ℕ) (n : Lengths) (o : Received) : Type 0 where
+  pub refuses : Refuses text r n o
+  pub horizon : o .horizon ≡ horizonWith (answerTo text n r .verdict) (horizonIn r)
+  pub method : Method text r n o
+  pub quantile : o .quantile ≡ quantileOf level (o .horizon) (o .F) (answerTo text n r .verdict)
+  pub distance : (fund : FundFile) → r ≡ read fund → answerTo text n r .verdict ≡ Accepted → WithinBounds fund (answerTo text n r)
+  pub never-below : (fund : FundFile) → r ≡ read fund → answerTo text n r .verdict ≡ Accepted → NeverBelow fund (answerTo text n r)
 
-module _ (file : List ℕ) (level : ℕ) (n : Lengths) (o : Received) (k : Answered file level n o) where
-  zero-of : RefusedAs file n → Zero n o
+module _ (text : List ℕ) (r : Reading) (level : ℕ) (n : Lengths) (o : Received) (k : Answered text r level n o) where
+  zero-of : RefusedAs text r n → Zero n o
   unfolding refused
   zero-of s =
       let m = k .method in
       let e = s .is in
       record {
-        horizon = k .horizon ∙ ap (λ (a : Answer). horizonWith (a .verdict) (horizonIn (reading file))) e;
+        horizon = k .horizon ∙ ap (λ (a : Answer). horizonWith (a .verdict) (horizonIn r)) e;
         figures = m .figures ∙ ap (λ (a : Answer). a .figures) e;
         quantile = k .quantile ∙ ap (λ (a : Answer). quantileOf level (o .horizon) (o .F) (a .verdict)) e;
         D = m .D ∙ ap (λ (a : Answer). a .D) e;
@@ -72,13 +69,13 @@ module _ (file : List ℕ) (level : ℕ) (n : Lengths) (o : Received) (k : Answe
         F = m .F ∙ ap (λ (a : Answer). a .F) e;
       }
 
-  close-of : answer file n .verdict ≡ Accepted → Close file o
+  close-of : answerTo text n r .verdict ≡ Accepted → Close r o
   unfolding apart unit horizonIn exactLoadedWorth
   close-of v =
-      let a = accepted-read file n v in
+      let a = accepted-read text n r v in
       let m = k .method in
       let w = k .distance (a .fund) (a .is-read) v in
-      let X : o .horizon ≡ a .fund .header .horizon = k .horizon ∙ ap (λ x. horizonWith x (horizonIn (reading file))) v ∙ ap horizonIn (a .is-read) in
+      let X : o .horizon ≡ a .fund .header .horizon = k .horizon ∙ ap (λ x. horizonWith x (horizonIn r)) v ∙ ap horizonIn (a .is-read) in
       record {
         fund = a .fund;
         is-read = a .is-read;
@@ -88,15 +85,15 @@ module _ (file : List ℕ) (level : ℕ) (n : Lengths) (o : Received) (k : Answe
         gross = rw (m .figures) (k .never-below (a .fund) (a .is-read) v .gross);
       }
 
-  quantiles-of : answer file n .verdict ≡ Accepted → Quantiles level o
+  quantiles-of : answerTo text n r .verdict ≡ Accepted → Quantiles level o
   unfolding horizonIn
   quantiles-of v =
-      let a = accepted-read file n v in
+      let a = accepted-read text n r v in
       let m = k .method in
-      let c = answer-accepted file n (a .fund) (a .is-read) v in
+      let c = answer-accepted text n r (a .fund) (a .is-read) v in
       let h = a .fund .header in
       let ms = lives (a .fund) in
-      let X : o .horizon ≡ h .horizon = k .horizon ∙ ap (λ x. horizonWith x (horizonIn (reading file))) v ∙ ap horizonIn (a .is-read) in
+      let X : o .horizon ≡ h .horizon = k .horizon ∙ ap (λ x. horizonWith x (horizonIn r)) v ∙ ap horizonIn (a .is-read) in
       let F : o .F ≡ accepted h ms n .F = m .F ∙ ap (λ (x : Answer). x .F) (c .answer-is) in
       let f : o .f ≡ accepted h ms n .f = m .f ∙ ap (λ (x : Answer). x .f) (c .answer-is) in
       let q : o .quantile ≡ quantile level (o .horizon) (o .F) = k .quantile ∙ ap (quantileOf level (o .horizon) (o .F)) v in
@@ -107,12 +104,12 @@ module _ (file : List ℕ) (level : ℕ) (n : Lengths) (o : Received) (k : Answe
         above = λ l. q ∙ quantile-above level (o .horizon) (o .F) l;
       }
 
-  pub demands : Demands file level n o
+  pub demands : Demands text r level n o
   demands =
       record {
         refuses = k .refuses;
-        zero = λ l. zero-of (refused-as file n (subst (λ x. 0 < x) (k .refuses .number) l));
+        zero = λ l. zero-of (refused-as text r n (subst (λ x. 0 < x) (k .refuses .number) l));
         method = k .method;
-        close = λ z. close-of (zero-accepted (answer file n .verdict) (sym (k .refuses .number) ∙ z));
-        quantiles = λ z. quantiles-of (zero-accepted (answer file n .verdict) (sym (k .refuses .number) ∙ z));
+        close = λ z. close-of (zero-accepted (answerTo text n r .verdict) (sym (k .refuses .number) ∙ z));
+        quantiles = λ z. quantiles-of (zero-accepted (answerTo text n r .verdict) (sym (k .refuses .number) ∙ z));
       }

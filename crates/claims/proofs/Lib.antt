@@ -1,3 +1,4 @@
 mod Deriving
 mod Calls
 mod Tested
+mod AsFile

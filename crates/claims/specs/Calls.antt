@@ -13,16 +13,16 @@ use Rattle.pricing.specs.declared.Priced.{Priced}
 use Rattle.miguepo.specs.Bits.{readSigned}
 use Rattle.claims.specs.Demands.{Received}
 
--- The bytes from start to end, and none where these lie outside the file.
+-- The bytes from start to end, and none where these lie outside the text.
 abbrev pub handed : List ℕ → Priced → List ℕ
-handed file p = if leb (p .start) (p .end) && leb (p .end) (length file) then take (p .end - p .start) (drop (p .start) file) else []
+handed text p = if leb (p .start) (p .end) && leb (p .end) (length text) then take (p .end - p .start) (drop (p .start) text) else []
 
 abbrev pub priced : List ℕ → Priced → List ℤ → List ℕ → List ℤ → List ℕ → List ℤ → Received
-priced file p d h f r s =
+priced text p d h f r s =
     record {
       number = numberIn (p .verdict);
       place = placeIn (p .verdict);
-      line = handed file p;
+      line = handed text p;
       horizon = p .horizon;
       figures = p .figures;
       quantile = p .quantile;
@@ -40,11 +40,11 @@ quantileRead (suc reached) x = At x
 
 -- The fields of a host's struct in C, in their order, each read as its type there.
 abbrev pub hosted : List ℕ → List ℕ → List ℤ → List ℕ → List ℤ → List ℕ → List ℤ → Received
-hosted file result d h f r s =
+hosted text result d h f r s =
     record {
       number = getD result 0 0;
       place = getD result 1 0;
-      line = take (getD result 3 0) (drop (getD result 2 0) file);
+      line = take (getD result 3 0) (drop (getD result 2 0) text);
       horizon = getD result 4 0;
       figures = record { truncation = getD result 5 0; mean = getD result 6 0; premium = readSigned (getD result 7 0); within = getD result 8 0; gross = getD result 9 0 };
       quantile = quantileRead (getD result 10 0) (getD result 11 0);

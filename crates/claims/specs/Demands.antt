@@ -10,11 +10,11 @@ use Rattle.fund.specs.declared.Figures.{Figures}
 use Rattle.fund.specs.declared.Quantile.{Quantile}
 use Rattle.fund.specs.declared.Quantile.the-variants.{None}
 use Rattle.fund.specs.Base.{sumℤ}
-use Rattle.fund.specs.Reading.{FundFile, read, reading}
+use Rattle.fund.specs.Reading.{FundFile, Reading, read}
 use Rattle.fund.specs.Tariff.{loading}
 use Rattle.fund.specs.Refusals.{Lengths, numberIn, placeIn}
 use Rattle.fund.specs.Quantile.{QuantileSays}
-use Rattle.fund.specs.Answer.{Part, answer}
+use Rattle.fund.specs.Answer.{Part, answerTo}
 use Rattle.fund.specs.Distance.{fileDenominator, exactAt, exactPremiumAt}
 
 -- What a host has after a call: number and place, the line that it is handed, the horizon, the figures, the answer at the level, and its
@@ -32,15 +32,15 @@ pub record Received : Type 0 where
   pub R : List ℕ
   pub F : List ℤ
 
--- The bytes of a part of the file.
+-- The bytes of a part of the text.
 abbrev pub partBytes : List ℕ → Part → List ℕ
-partBytes file p = take (p .size) (drop (p .start) file)
+partBytes text p = take (p .size) (drop (p .start) text)
 
 -- Demand 1. Number, place and line are document 01's, whatever the bytes are.
-pub record Refuses (file : List ℕ) (n : Lengths) (o : Received) : Type 0 where
-  pub number : o .number ≡ numberIn (answer file n .verdict)
-  pub place : o .place ≡ placeIn (answer file n .verdict)
-  pub line : o .line ≡ partBytes file (answer file n .part)
+pub record Refuses (text : List ℕ) (r : Reading) (n : Lengths) (o : Received) : Type 0 where
+  pub number : o .number ≡ numberIn (answerTo text n r .verdict)
+  pub place : o .place ≡ placeIn (answerTo text n r .verdict)
+  pub line : o .line ≡ partBytes text (answerTo text n r .part)
 
 -- "A refusal gives number and place, zero for every figure, and zero in every lent result cell." It answers none at every level.
 pub record Zero (n : Lengths) (o : Received) : Type 0 where
@@ -54,20 +54,20 @@ pub record Zero (n : Lengths) (o : Received) : Type 0 where
   pub F : o .F ≡ replicate (n .F) (pos 0)
 
 -- Demand 2. Every figure and every lent cell is what document 01's steps define.
-pub record Method (file : List ℕ) (n : Lengths) (o : Received) : Type 0 where
-  pub figures : o .figures ≡ answer file n .figures
-  pub D : o .D ≡ answer file n .D
-  pub H : o .H ≡ answer file n .H
-  pub f : o .f ≡ answer file n .f
-  pub R : o .R ≡ answer file n .R
-  pub F : o .F ≡ answer file n .F
+pub record Method (text : List ℕ) (r : Reading) (n : Lengths) (o : Received) : Type 0 where
+  pub figures : o .figures ≡ answerTo text n r .figures
+  pub D : o .D ≡ answerTo text n r .D
+  pub H : o .H ≡ answerTo text n r .H
+  pub f : o .f ≡ answerTo text n r .f
+  pub R : o .R ≡ answerTo text n r .R
+  pub F : o .F ≡ answerTo text n r .F
 
--- Demand 3, of a fund that is accepted: the file holds a fund; each f(x) that the host has is within R(x) + 2×E of 10^12 times the
+-- Demand 3, of a fund that is accepted: a fund was read; each f(x) that the host has is within R(x) + 2×E of 10^12 times the
 -- exact value at x, and the premium within its bound of the exact premium; all times document 01's denominator. And the gross premium is
 -- never below the exact premium's loaded worth, both times 10^15 and the denominator.
-pub record Close (file : List ℕ) (o : Received) : Type 0 where
+pub record Close (r : Reading) (o : Received) : Type 0 where
   pub fund : FundFile
-  pub is-read : reading file ≡ read fund
+  pub is-read : r ≡ read fund
   pub horizon : o .horizon ≡ fund .header .horizon
   pub cell : (x : ℕ) → x ≤ o .horizon →
       natAbs (pos (fileDenominator fund) *ℤ getD (o .f) x (pos 0) -ℤ pos (10 ^ 12) *ℤ exactAt fund x) ≤ fileDenominator fund * (getD (o .R) x 0 + 2 * o .figures .truncation)
@@ -82,9 +82,10 @@ pub record Quantiles (level : ℕ) (o : Received) : Type 0 where
   pub says : level ≤ 10 ^ 12 → QuantileSays level (o .horizon) (o .F) (o .quantile)
   pub above : 10 ^ 12 < level → o .quantile ≡ None
 
-pub record Demands (file : List ℕ) (level : ℕ) (n : Lengths) (o : Received) : Type 0 where
-  pub refuses : Refuses file n o
+-- Of a file, the text is the file and the reading is its own; of sheets, the text is the header text.
+pub record Demands (text : List ℕ) (r : Reading) (level : ℕ) (n : Lengths) (o : Received) : Type 0 where
+  pub refuses : Refuses text r n o
   pub zero : 0 < o .number → Zero n o
-  pub method : Method file n o
-  pub close : o .number ≡ 0 → Close file o
+  pub method : Method text r n o
+  pub close : o .number ≡ 0 → Close r o
   pub quantiles : o .number ≡ 0 → Quantiles level o

@@ -1,3 +1,4 @@
 pub mod Demands
 pub mod Listing
 pub mod Calls
+pub mod Sheets

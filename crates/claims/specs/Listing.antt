@@ -4,9 +4,10 @@ use mathlib.Core.Bool.{Bool, true, false}
 use mathlib.Core.List.{List}
 use Prim.Native.Nat.{ℕ, _<_, _≤_}
 use lib.ListN.{length, take, drop}
-use Rattle.fund.specs.Listing.{listing}
+use Rattle.fund.specs.Reading.{Reading, reading}
+use Rattle.fund.specs.Listing.{listingTo}
 use Rattle.text.specs.Shown.{room}
-use Rattle.printing.specs.Printed.{levelLine}
+use Rattle.printing.specs.Printed.{levelLineTo}
 
 -- The text begins with what is shown, and what stood behind stays.
 pub record Begins (shown before after : List ℕ) (size : ℕ) : Type 0 where
@@ -23,13 +24,19 @@ pub record Shows (least : ℕ) (shown before after : List ℕ) (size : ℕ) : Ty
   pub listed : least ≤ length before → Begins shown before after size
   pub kept : length before < least → Unchanged before after size
 
--- The file's listing, in a text with room for every listing.
-abbrev pub Prints : List ℕ → List ℕ → List ℕ → ℕ → Type 0
-Prints file = Shows room (listing file)
+-- The listing of what was read, in a text with room for every listing.
+abbrev pub PrintsTo : List ℕ → Reading → List ℕ → List ℕ → ℕ → Type 0
+PrintsTo text r = Shows room (listingTo text r)
 
--- The line of the file's answer at a level, in a text of at least 64 bytes.
+abbrev pub Prints : List ℕ → List ℕ → List ℕ → ℕ → Type 0
+Prints file = PrintsTo file (reading file)
+
+-- The line of the answer at a level, in a text of at least 64 bytes.
+abbrev pub PrintsLevelTo : ℕ → List ℕ → Reading → List ℕ → List ℕ → ℕ → Type 0
+PrintsLevelTo level text r = Shows 64 (levelLineTo text r level)
+
 abbrev pub PrintsLevel : ℕ → List ℕ → List ℕ → List ℕ → ℕ → Type 0
-PrintsLevel level file = Shows 64 (levelLine file level)
+PrintsLevel level file = PrintsLevelTo level file (reading file)
 
 -- Standard input, of which `read` bytes stand in a buffer: whatever the file is, if these are its first bytes, as many as the buffer has
 -- room for, then the same is printed of it. Where it fails, the text stays as it is.

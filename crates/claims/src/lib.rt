@@ -1,10 +1,12 @@
 // What a customer may hold us to. Each function makes one public call and promises, in the plain words of specs/, what follows from
 // that call's contract alone. So a promise of a call that is weakened fails here.
+mod sheets;
 mod steps;
 
 use pricing::Priced;
 use printing::PrintedInput;
 ghost use mathlib.Core.Path.{_≡_};
+ghost use Rattle.fund.specs.Reading.{reading};
 ghost use Rattle.valuation.specs.Valued.{lengths};
 ghost use Rattle.claims.specs.Demands.{Demands};
 ghost use Rattle.claims.specs.Listing.{Prints, PrintsLevel, PrintsRead};
@@ -20,7 +22,7 @@ pub fn claimed_price(
     r: &mut [u64],
     sums: &mut [i64],
 ) -> Priced
-    ensures { λ p. ⌜ Demands (now (file .entry)) level
+    ensures { λ p. ⌜ Demands (now (file .entry)) (reading (now (file .entry))) level
         (lengths (now (transform .entry)) (now (h .entry)) (now (f .entry)) (now (r .entry)) (now (sums .entry)))
         (priced (now (file .entry)) p (now (transform .exit)) (now (h .exit)) (now (f .exit)) (now (r .exit)) (now (sums .exit))) ⌝ }
 {
@@ -45,7 +47,7 @@ pub fn claimed_host(
     sums: &mut [i64],
     result: &mut [u64; miguepo::FIELDS],
 )
-    ensures { λ _. ⌜ Demands (now (file .entry)) level
+    ensures { λ _. ⌜ Demands (now (file .entry)) (reading (now (file .entry))) level
         (lengths (now (transform .entry)) (now (h .entry)) (now (f .entry)) (now (r .entry)) (now (sums .entry)))
         (hosted (now (file .entry)) (now (result .exit)) (now (transform .exit)) (now (h .exit)) (now (f .exit)) (now (r .exit)) (now (sums .exit))) ⌝ }
 {

@@ -1,4 +1,4 @@
--- Demand 3 at the definitions: whatever bytes and slice lengths the definitions accept, the answer is within its bounds of the exact
+-- Demand 3 at the definitions: whatever was read and whatever slice lengths the definitions accept, the answer is within its bounds of the exact
 -- values (distance), and the gross premium not below the exact premium's loaded worth (never-below); and with lambda 0 the exact premium is the average excess over M of all outcomes of group 1 (average).
 use mathlib.Core.Path.{_≡_, sym, _∙_, ap, subst}
 use mathlib.Core.List.{List}
@@ -9,18 +9,18 @@ use lib.ListN.{getD}
 use Rattle.algebra.specs.RationalSum.{sumN-ext}
 use Rattle.fund.specs.declared.Verdict.the-variants.{Accepted}
 use Rattle.fund.specs.Base.{sum}
-use Rattle.fund.specs.Reading.{FundFile, read, reading}
+use Rattle.fund.specs.Reading.{FundFile, Reading, read}
 use Rattle.fund.specs.Folding.{lives}
 use Rattle.fund.specs.Transform.{unit, lambda}
 use Rattle.fund.specs.Recursion.{Cell}
 use Rattle.fund.specs.Premium.{premium, within, printedBound}
 use Rattle.fund.specs.Refusals.{Lengths, verdict}
-use Rattle.fund.specs.Answer.{fundTerms, fundStart, fundCells, fundTruncation, fundMean, fundPremium, fundWithin, fundFigures, Answer, accepted, answer}
+use Rattle.fund.specs.Answer.{fundTerms, fundStart, fundCells, fundTruncation, fundMean, fundPremium, fundWithin, fundFigures, Answer, accepted, answerTo}
 use Rattle.fund.specs.Exact.{singles, outcomes, excess}
 use Rattle.fund.specs.Distance.{fileDenominator, exactAt, exactPremiumAt, apart, WithinBounds, exactLoadedWorth, NeverBelow}
 use Rattle.laws.specs.Accepted.{Accepts, accepts}
 use Rattle.laws.specs.Cells.{sum-is}
-use Rattle.laws.specs.Ranges.{FundOk, read-ranges}
+use Rattle.laws.specs.Ranges.{FundOk}
 use Rattle.laws.specs.Tariff.{gross-covers}
 use Rattle.laws.specs.Answer.{answer-accepted, fundCell, fundCells-are, f-cell, R-cell}
 use Rattle.distance.specs.Lives.{all-folded}
@@ -73,25 +73,24 @@ module _ (fund : FundFile) (n : Lengths) (ok : FundOk fund) (a : Accepts fund n 
   unfolding exactLoadedWorth fundFigures accepted
   covers-exact = record { gross = gross-covers (fileDenominator fund) (fund .header .deductible) (fund .header .worth) (A .figures .within) (A .figures .premium) (exactPremiumAt fund (A .figures .mean)) close-premium }
 
-pub distance : (file : List ℕ) (n : Lengths) (fund : FundFile) → reading file ≡ read fund → answer file n .verdict ≡ Accepted → WithinBounds fund (answer file n)
-distance file n fund r e =
-    let c = answer-accepted file n fund r e in
-    let ok = read-ranges file fund r in
+pub distance : (text : List ℕ) (n : Lengths) (r : Reading) (fund : FundFile) → FundOk fund → r ≡ read fund → answerTo text n r .verdict ≡ Accepted → WithinBounds fund (answerTo text n r)
+distance text n r fund ok is e =
+    let c = answer-accepted text n r fund is e in
     let a = accepts fund n (fundCells (fund .header) (lives fund)) (c .verdict-is) in
     subst (λ (x : Answer). WithinBounds fund x) (sym (c .answer-is))
     (record { cell = close-cell fund n ok a; cells = close-cells fund n ok a; premium = close-premium fund n ok a })
 
-pub never-below : (file : List ℕ) (n : Lengths) (fund : FundFile) → reading file ≡ read fund → answer file n .verdict ≡ Accepted → NeverBelow fund (answer file n)
-never-below file n fund r e =
-    let c = answer-accepted file n fund r e in
+pub never-below : (text : List ℕ) (n : Lengths) (r : Reading) (fund : FundFile) → FundOk fund → r ≡ read fund → answerTo text n r .verdict ≡ Accepted → NeverBelow fund (answerTo text n r)
+never-below text n r fund ok is e =
+    let c = answer-accepted text n r fund is e in
     let a = accepts fund n (fundCells (fund .header) (lives fund)) (c .verdict-is) in
-    subst (λ (x : Answer). NeverBelow fund x) (sym (c .answer-is)) (covers-exact fund n (read-ranges file fund r) a)
+    subst (λ (x : Answer). NeverBelow fund x) (sym (c .answer-is)) (covers-exact fund n ok a)
 
-pub average : (file : List ℕ) (n : Lengths) (fund : FundFile) → reading file ≡ read fund → answer file n .verdict ≡ Accepted → lambda (fund .header .frequency) (lives fund) ≡ 0 →
-    exactPremiumAt fund (answer file n .figures .mean) *ℤ pos (10 ^ (6 * singles (lives fund))) ≡ pos (10 ^ 12 * excess (fund .header .deductible) (outcomes (lives fund)) * fileDenominator fund)
+pub average : (text : List ℕ) (n : Lengths) (r : Reading) (fund : FundFile) → r ≡ read fund → answerTo text n r .verdict ≡ Accepted → lambda (fund .header .frequency) (lives fund) ≡ 0 →
+    exactPremiumAt fund (answerTo text n r .figures .mean) *ℤ pos (10 ^ (6 * singles (lives fund))) ≡ pos (10 ^ 12 * excess (fund .header .deductible) (outcomes (lives fund)) * fileDenominator fund)
 unfolding exactPremiumAt fileDenominator fundMean fundFigures accepted
-average file n fund r e z =
-    let c = answer-accepted file n fund r e in
+average text n r fund is e z =
+    let c = answer-accepted text n r fund is e in
     let a = accepts fund n (fundCells (fund .header) (lives fund)) (c .verdict-is) in
     ap (λ (x : Answer). exactPremiumAt fund (x .figures .mean) *ℤ pos (10 ^ (6 * singles (lives fund)))) (c .answer-is)
     ∙ average-excess (fund .header .horizon) (fund .header .order) (fund .header .frequency) (lives fund) (a .limited-lives) (all-folded fund) z (fund .header .deductible) (a .deductible)

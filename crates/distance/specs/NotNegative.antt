@@ -16,14 +16,14 @@ use Rattle.algebra.specs.Embedding.{ofℤ, nat, ofℤ-add, ofℤ-neg, ofℤ-sub
 use Rattle.algebra.specs.Quotient.{cancel}
 use Rattle.fund.specs.declared.Verdict.the-variants.{Accepted}
 use Rattle.fund.specs.Limits.{most-deductible, most-amount}
-use Rattle.fund.specs.Reading.{FundFile, read, reading}
+use Rattle.fund.specs.Reading.{FundFile, Reading, read}
 use Rattle.fund.specs.Folding.{lives}
 use Rattle.fund.specs.Refusals.{Lengths}
-use Rattle.fund.specs.Answer.{fundCells, fundMean, fundFigures, Answer, accepted, answer}
+use Rattle.fund.specs.Answer.{fundCells, fundMean, fundFigures, Answer, accepted, answerTo}
 use Rattle.fund.specs.Exact.{singles, denominator, factorial}
 use Rattle.fund.specs.Distance.{fileDenominator, exactPremiumAt}
 use Rattle.laws.specs.Accepted.{Accepts, accepts}
-use Rattle.laws.specs.Ranges.{FundOk, read-ranges}
+use Rattle.laws.specs.Ranges.{FundOk}
 use Rattle.laws.specs.Answer.{answer-accepted}
 use Rattle.distance.specs.Weights.{amounts-below}
 use Rattle.distance.specs.ExactPremium.{exact-premium-low}
@@ -76,11 +76,12 @@ exact-low fund n ok a =
     exact-premium-low (fund .header .horizon) (fund .header .order) (fund .header .frequency) (lives fund) (ok .header .order-most) (priceable fund n a)
     (fund .header .deductible) (a .deductible) (suc most-amount) (amounts-below fund (ok .rows .members)) (omega arith) few
 
-pub not-negative : (file : List ℕ) (n : Lengths) (fund : FundFile) → reading file ≡ read fund → answer file n .verdict ≡ Accepted →
-    pos 0 ≤ℤ (answer file n .figures .premium +ℤ pos (answer file n .figures .within))
-not-negative file n fund r e =
-    let c = answer-accepted file n fund r e in
+pub not-negative : (text : List ℕ) (n : Lengths) (r : Reading) (fund : FundFile) → FundOk fund → r ≡ read fund → answerTo text n r .verdict ≡ Accepted →
+    pos 0 ≤ℤ (answerTo text n r .figures .premium +ℤ pos (answerTo text n r .figures .within))
+not-negative text n r fund ok is e =
+    let c = answer-accepted text n r fund is e in
     let a = accepts fund n (fundCells (fund .header) (lives fund)) (c .verdict-is) in
-    above-half (fileDenominator fund) (answer file n .figures .within) (answer file n .figures .premium) (exactPremiumAt fund (answer file n .figures .mean)) (denominator-pos fund)
-    (distance file n fund r e .premium)
-    (subst (λ (x : Answer). negQ (nat (fileDenominator fund)) ≤ nat 2 * ofℤ (exactPremiumAt fund (x .figures .mean))) (sym (c .answer-is)) (exact-low fund n (read-ranges file fund r) a))
+    let given = answerTo text n r in
+    above-half (fileDenominator fund) (given .figures .within) (given .figures .premium) (exactPremiumAt fund (given .figures .mean)) (denominator-pos fund)
+    (distance text n r fund ok is e .premium)
+    (subst (λ (x : Answer). negQ (nat (fileDenominator fund)) ≤ nat 2 * ofℤ (exactPremiumAt fund (x .figures .mean))) (sym (c .answer-is)) (exact-low fund n ok a))

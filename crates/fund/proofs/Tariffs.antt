@@ -29,5 +29,5 @@ abbrev filed : GrossRow → GrossRow
 filed r = record { file = r .file; gross = answer (r .file) enough .figures .gross }
 
 pub every-file : map filed grossFiles ≡ grossFiles
-unfolding near nearest up bytes total sum sumℤ table alternate begun linesFrom lines digits isNumber valueFrom value inFirst fields allNumbers numbers behind spelled between inRanges headerLines headerOf rowOf rising rateInRange memberInRange noMember atEnd readRows readHeader reading heldUntil rateInForce folded life lives unit nextRow row placed termOf rowTerms singleTerms deathWeight disabilityWeight replacedTerm replacedTerms terms sumD sumH D H lambda load w truncation mean t alternating multiplied start c startBound entries sumR sumF nextCell cells sumBelow boundBelow premium within loading withBound gross first unmatched half wide anyShort short refuse at0 firstMember valued matched verdict fundTerms fundStart fundCells fundTruncation fundMean fundPremium fundWithin fundFigures lineAt part refused lent accepted answerOf answerTo answer runningSum text file oneBeyond grossFiles
+unfolding near nearest up bytes total sum sumℤ table alternate begun linesFrom lines digits isNumber valueFrom value inFirst fields allNumbers numbers behind spelled between inRanges headerLines headerOf rowOf rising rateInRange memberInRange noMember atEnd readRows readHeader reading heldUntil rateInForce folded life lives unit nextRow row placed termOf rowTerms singleTerms deathWeight disabilityWeight replacedTerm replacedTerms terms sumD sumH D H lambda load w truncation mean t alternating multiplied start c startBound entries sumR sumF nextCell cells sumBelow boundBelow premium within loading withBound gross first unmatched half wide anyShort short refuse at0 firstMember valued matched verdict fundTerms fundStart fundCells fundTruncation fundMean fundPremium fundWithin fundFigures lineAt part refused lent accepted answerOf answerTo runningSum text file oneBeyond grossFiles
 every-file = refl

@@ -8,7 +8,7 @@ use Rattle.fund.specs.declared.Fund.{Fund}
 use Rattle.fund.specs.declared.Life.{Life}
 use Rattle.fund.specs.declared.Figures.{Figures}
 use Rattle.fund.specs.declared.Refusal.{Refusal}
-use Rattle.fund.specs.declared.Refusal.the-variants.{Form, Range, Edition, Deductible, Unmatched, Half, Load, Order, Short, Wide}
+use Rattle.fund.specs.declared.Refusal.the-variants.{Form, Range, Edition, Deductible, Unmatched, Half, Load, Order, Short, Wide, Cell as CellRefusal}
 use Rattle.fund.specs.declared.Verdict.{Verdict}
 use Rattle.fund.specs.declared.Verdict.the-variants.{Accepted, Refused}
 use Rattle.fund.specs.Base.{if_then_else_, table}
@@ -82,6 +82,7 @@ namesLine Load = false
 namesLine Order = false
 namesLine Short = false
 namesLine Wide = false
+namesLine CellRefusal = false
 
 unfoldable pub lineAt : List ℕ → ℕ → Part
 lineAt file place = getD (map (λ (l : Line). record { start = l .start; size = length (l .text) }) (lines file)) (place - 1) empty
@@ -144,5 +145,5 @@ unfoldable pub answerTo : List ℕ → Lengths → Reading → Answer
 answerTo file n (read fund) = answerOf file n fund (verdict fund n (fundCells (fund .header) (lives fund)))
 answerTo file n (stopped why place) = refused file n (Refused why place)
 
-unfoldable pub answer : List ℕ → Lengths → Answer
+abbrev pub answer : List ℕ → Lengths → Answer
 answer file n = answerTo file n (reading file)

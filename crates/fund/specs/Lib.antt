@@ -12,6 +12,8 @@ pub mod Refusals
 pub mod Quantile
 pub mod Answer
 pub mod Listing
+pub mod Cells
+pub mod Sheets
 pub mod Exact
 pub mod Distance
 pub mod Starred

@@ -13,7 +13,7 @@ use Rattle.fund.specs.Base.{bytes}
 use Rattle.fund.specs.Reading.{Reading, read, stopped, reading}
 use Rattle.fund.specs.Premium.{printedBound}
 use Rattle.fund.specs.Refusals.{Lengths, numberOf}
-use Rattle.fund.specs.Answer.{Answer, answer}
+use Rattle.fund.specs.Answer.{Answer, answerTo}
 
 -- A number in decimal. A number has no more digits than the number itself and one.
 unfoldable pub digitsWithin : ℕ → ℕ → List ℕ → List ℕ
@@ -67,7 +67,11 @@ horizonIn (stopped why place) = 0
 abbrev pub enough : Lengths
 enough = record { D = suc most-horizon; H = suc most-horizon; f = suc most-horizon; R = suc most-horizon; F = suc most-horizon }
 
-unfoldable pub listing : List ℕ → List ℕ
-listing file =
-    let a = answer file enough in
-    printed a (horizonIn (reading file)) (a .verdict)
+-- The listing of what was read of a text.
+unfoldable pub listingTo : List ℕ → Reading → List ℕ
+listingTo text r =
+    let a = answerTo text enough r in
+    printed a (horizonIn r) (a .verdict)
+
+abbrev pub listing : List ℕ → List ℕ
+listing file = listingTo file (reading file)

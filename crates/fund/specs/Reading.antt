@@ -143,15 +143,19 @@ readRows n header rates members (l ∷ ls) =
       | otherRow ↦ stopped Form n
     ]
 
--- The header lines that are left, from line n on, after the numbers that are read; then the rows.
-unfoldable pub readHeader : List HeaderLine → ℕ → List ℕ → List Line → Reading
-readHeader [] n ns ls = readRows n (headerOf ns) [] [] ls
-readHeader (h ∷ hs) n ns [] = stopped Form n
-readHeader (h ∷ hs) n ns (l ∷ ls) =
+-- The header lines that are left, from line n on, after the numbers that are read; then what follows the header.
+unfoldable pub readHeader : (ℕ → Fund → List Line → Reading) → List HeaderLine → ℕ → List ℕ → List Line → Reading
+readHeader after [] n ns ls = after n (headerOf ns) ls
+readHeader after (h ∷ hs) n ns [] = stopped Form n
+readHeader after (h ∷ hs) n ns (l ∷ ls) =
     elim (spelled (h .key) (length (h .ranges)) l) [
       | none ↦ stopped Form n
-      | some v ↦ elim (inRanges (h .ranges) v) [ false ↦ stopped Range n | true ↦ readHeader hs (suc n) (ns ++ v) ls ]
+      | some v ↦ elim (inRanges (h .ranges) v) [ false ↦ stopped Range n | true ↦ readHeader after hs (suc n) (ns ++ v) ls ]
     ]
 
+-- In a file the rows follow.
+abbrev pub fileRows : ℕ → Fund → List Line → Reading
+fileRows n header ls = readRows n header [] [] ls
+
 unfoldable pub reading : List ℕ → Reading
-reading file = readHeader headerLines 1 [] (lines file)
+reading file = readHeader fileRows headerLines 1 [] (lines file)

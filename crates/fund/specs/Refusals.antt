@@ -10,7 +10,7 @@ use Rattle.fund.specs.declared.Rate.{Rate}
 use Rattle.fund.specs.declared.Member.{Member}
 use Rattle.fund.specs.declared.Life.{Life}
 use Rattle.fund.specs.declared.Refusal.{Refusal}
-use Rattle.fund.specs.declared.Refusal.the-variants.{Form, Range, Edition, Deductible, Unmatched, Half, Load, Order, Short, Wide}
+use Rattle.fund.specs.declared.Refusal.the-variants.{Form, Range, Edition, Deductible, Unmatched, Half, Load, Order, Short, Wide, Cell as CellRefusal}
 use Rattle.fund.specs.declared.Verdict.{Verdict}
 use Rattle.fund.specs.declared.Verdict.the-variants.{Accepted, Refused}
 use Rattle.fund.specs.Limits.{half-rate, most-load, most-truncation, most-bound}
@@ -31,6 +31,7 @@ numberOf Load = 7
 numberOf Order = 8
 numberOf Short = 9
 numberOf Wide = 10
+numberOf CellRefusal = 11
 
 -- "number and place are 0" for a fund that is accepted.
 abbrev pub numberIn : Verdict → ℕ

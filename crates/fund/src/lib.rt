@@ -48,7 +48,41 @@ pub struct Life {
     pub e: u64,
 }
 
-// Why pricing stops, in the order of document 01's table.
+// A cell of a sheet: "A cell is either a number or a blank".
+pub enum SheetCell {
+    Number(f64),
+    Blank,
+}
+
+// A row of the rates' sheet: its age, q and i.
+pub struct RateFloats {
+    pub age: f64,
+    pub q: f64,
+    pub i: f64,
+}
+
+// A row of the members' sheet, "a record of four such floats": age, group, and the amounts at death d and at disability e.
+pub struct MemberFloats {
+    pub age: f64,
+    pub group: f64,
+    pub d: f64,
+    pub e: f64,
+}
+
+// What a cell is taken as, or that it is not taken.
+pub enum Taken {
+    As(u64),
+    Not,
+}
+
+// What a sheet's row is taken as; or one of its cells is not taken, or it is cut short.
+pub enum SheetRow {
+    Rate(Rate),
+    Member(Member),
+    NotTaken,
+}
+
+// Why pricing stops, in the order of document 01's table; last, document 02, §6: "11 (cell)".
 pub enum Refusal {
     Form,
     Range,
@@ -60,6 +94,7 @@ pub enum Refusal {
     Order,
     Short,
     Wide,
+    Cell,
 }
 
 // What a pricing call says of a file: it is accepted, or refused at a place.
@@ -180,6 +215,11 @@ impl Fund {
 
     pub const HEADER_LINES: usize = 7;
 
+    // The bytes of a row of either sheet: three cells and four.
+    pub const RATE_WIDTH: usize = 24;
+
+    pub const MEMBER_WIDTH: usize = 32;
+
     // The header lines of the definition are as many.
     pub fn header_lines() -> usize
         ensures { λ r. ⌜ r ≡ length headerLines ⌝ }
@@ -252,5 +292,6 @@ pub fn number(why: Refusal) -> u64
         Refusal::Order => 8,
         Refusal::Short => 9,
         Refusal::Wide => 10,
+        Refusal::Cell => 11,
     }
 }

@@ -1,4 +1,4 @@
--- The answer of a call that accepts: the file was read (accepted-read), no refusal's condition holds, and the answer is the fund's
+-- The answer of a call that accepts: a fund was read (accepted-read), no refusal's condition holds, and the answer is the fund's
 -- figures (answer-accepted). The cells it leaves are those of the sequence (f-cell, R-cell). An empty file has no line (no-line).
 use mathlib.Core.Path.{_≡_, refl, sym, _∙_, ap}
 use mathlib.Core.Bool.{Bool, true, false}
@@ -21,33 +21,30 @@ use Rattle.fund.specs.Answer.{empty, namesLine, lineAt, part, fundTerms, fundSt
 use Rattle.laws.specs.Tables.{length-table, getD-table, map-table}
 use Rattle.laws.specs.Cells.{termCell, cells-are}
 
-pub record Read (file : List ℕ) : Type 0 where
+pub record Read (r : Reading) : Type 0 where
   pub fund : FundFile
-  pub is-read : reading file ≡ read fund
+  pub is-read : r ≡ read fund
 
-not-accepted : (file : List ℕ) (n : Lengths) (why : _) (place : ℕ) → refused file n (Refused why place) .verdict ≡ Accepted → ⊥
+not-accepted : (text : List ℕ) (n : Lengths) (why : _) (place : ℕ) → refused text n (Refused why place) .verdict ≡ Accepted → ⊥
 unfolding refused
-not-accepted file n why place e = let z : _≡_ {A = ℕ} 0 1 = cc in omega arith
+not-accepted text n why place e = let z : _≡_ {A = ℕ} 0 1 = cc in omega arith
 
-pub accepted-read : (file : List ℕ) (n : Lengths) → answer file n .verdict ≡ Accepted → Read file
-unfolding answer answerTo
-accepted-read file n e = go (reading file) refl e
-  where
-    go : (r : Reading) → reading file ≡ r → answerTo file n r .verdict ≡ Accepted → Read file
-    go (read fund) s h = record { fund = fund; is-read = s }
-    go (stopped why place) s h = absurd (not-accepted file n why place h)
+pub accepted-read : (text : List ℕ) (n : Lengths) (r : Reading) → answerTo text n r .verdict ≡ Accepted → Read r
+unfolding answerTo
+accepted-read text n (read fund) e = record { fund = fund; is-read = refl }
+accepted-read text n (stopped why place) e = absurd (not-accepted text n why place e)
 
-pub record Accepting (file : List ℕ) (n : Lengths) (fund : FundFile) : Type 0 where
+pub record Accepting (text : List ℕ) (n : Lengths) (r : Reading) (fund : FundFile) : Type 0 where
   pub verdict-is : verdict fund n (fundCells (fund .header) (lives fund)) ≡ Accepted
-  pub answer-is : answer file n ≡ accepted (fund .header) (lives fund) n
+  pub answer-is : answerTo text n r ≡ accepted (fund .header) (lives fund) n
 
-pub answer-accepted : (file : List ℕ) (n : Lengths) (fund : FundFile) → reading file ≡ read fund → answer file n .verdict ≡ Accepted → Accepting file n fund
-unfolding answer answerTo answerOf
-answer-accepted file n fund r e = go (verdict fund n (fundCells (fund .header) (lives fund))) refl (ap (λ s. answerTo file n s .verdict) (sym r) ∙ e)
+pub answer-accepted : (text : List ℕ) (n : Lengths) (r : Reading) (fund : FundFile) → r ≡ read fund → answerTo text n r .verdict ≡ Accepted → Accepting text n r fund
+unfolding answerTo answerOf
+answer-accepted text n r fund is e = go (verdict fund n (fundCells (fund .header) (lives fund))) refl (ap (λ s. answerTo text n s .verdict) (sym is) ∙ e)
   where
-    go : (v : Verdict) → verdict fund n (fundCells (fund .header) (lives fund)) ≡ v → answerOf file n fund v .verdict ≡ Accepted → Accepting file n fund
-    go Accepted s h = record { verdict-is = s; answer-is = ap (answerTo file n) r ∙ ap (answerOf file n fund) s }
-    go (Refused why place) s h = absurd (not-accepted file n why place h)
+    go : (v : Verdict) → verdict fund n (fundCells (fund .header) (lives fund)) ≡ v → answerOf text n fund v .verdict ≡ Accepted → Accepting text n r fund
+    go Accepted s h = record { verdict-is = s; answer-is = ap (answerTo text n) is ∙ ap (answerOf text n fund) s }
+    go (Refused why place) s h = absurd (not-accepted text n why place h)
 
 lent-at : {A : Type 0} (blank : A) (n k x : ℕ) (g : ℕ → A) → x < k → getD (lent blank n (table k g)) x blank ≡ g x
 unfolding lent

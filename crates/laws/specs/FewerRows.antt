@@ -15,7 +15,7 @@ use Rattle.fund.specs.declared.Refusal.the-variants.{Form, Range}
 use Rattle.fund.specs.Limits.{most-rates, most-age, most-rate}
 use Rattle.fund.specs.Lines.{Line}
 use Rattle.fund.specs.Spelling.{spelled}
-use Rattle.fund.specs.Reading.{FundFile, read, inRanges, HeaderLine, headerLines, headerOf, rising, rateInRange, noMember, readRows, readHeader, reading}
+use Rattle.fund.specs.Reading.{FundFile, read, inRanges, HeaderLine, headerLines, headerOf, rising, rateInRange, noMember, readRows, readHeader, reading, fileRows}
 use Rattle.laws.specs.Accepted.{All}
 use Rattle.laws.specs.InForce.{Rising}
 use Rattle.laws.specs.Passing.{never, pass, PassedLine, rateLine, memberLine, endLine, passed-line, on-rate, on-member, on-end}
@@ -116,7 +116,7 @@ rows-left (l ∷ ls) j n header rates fund k few e = go j few (passed-line n hea
 
 -- ---- the header
 header-left : (hs : List HeaderLine) (j n : ℕ) (ns : List ℕ) (ls : List Line) (fund : FundFile) → j < length (fund .rates) →
-    readHeader hs n ns ls ≡ read fund → readHeader hs n ns (dropAt (length hs + j) ls) ≡ read (fewer j fund)
+    readHeader fileRows hs n ns ls ≡ read fund → readHeader fileRows hs n ns (dropAt (length hs + j) ls) ≡ read (fewer j fund)
 unfolding readHeader
 header-left [] j n ns ls fund few e =
     let z : 0 + j ≡ j = omega arith in
@@ -124,15 +124,15 @@ header-left [] j n ns ls fund few e =
 header-left (h ∷ hs) j n ns [] fund few e = absurd (never Form n fund e)
 header-left (h ∷ hs) j n ns (l ∷ ls) fund few e =
     let z : suc (length hs) + j ≡ suc (length hs + j) = omega arith in
-    ap (λ k. readHeader (h ∷ hs) n ns (dropAt k (l ∷ ls))) z
+    ap (λ k. readHeader fileRows (h ∷ hs) n ns (dropAt k (l ∷ ls))) z
     ∙ go (spelled (h .key) (length (h .ranges)) l) refl e (λ vs. header-left hs j (suc n) vs ls fund few)
   where
-    go : (o : Option (List ℕ)) → spelled (h .key) (length (h .ranges)) l ≡ o → readHeader (h ∷ hs) n ns (l ∷ ls) ≡ read fund →
-        ((vs : List ℕ) → readHeader hs (suc n) vs ls ≡ read fund → readHeader hs (suc n) vs (dropAt (length hs + j) ls) ≡ read (fewer j fund)) →
-        readHeader (h ∷ hs) n ns (l ∷ dropAt (length hs + j) ls) ≡ read (fewer j fund)
+    go : (o : Option (List ℕ)) → spelled (h .key) (length (h .ranges)) l ≡ o → readHeader fileRows (h ∷ hs) n ns (l ∷ ls) ≡ read fund →
+        ((vs : List ℕ) → readHeader fileRows hs (suc n) vs ls ≡ read fund → readHeader fileRows hs (suc n) vs (dropAt (length hs + j) ls) ≡ read (fewer j fund)) →
+        readHeader fileRows (h ∷ hs) n ns (l ∷ dropAt (length hs + j) ls) ≡ read (fewer j fund)
     go none s w ih = absurd (never Form n fund (rw (s, readHeader) at w))
     go (some vs) s w ih =
-        let h2 = pass (inRanges (h .ranges) vs) Range n (readHeader hs (suc n) (ns ++ vs) ls) fund (rw (s, readHeader) at w) in
+        let h2 = pass (inRanges (h .ranges) vs) Range n (readHeader fileRows hs (suc n) (ns ++ vs) ls) fund (rw (s, readHeader) at w) in
         rw (s, readHeader) (rw (h2 .0) (ih (ns ++ vs) (h2 .1)))
 
 -- The rate lines stand behind the header lines.
@@ -140,5 +140,5 @@ pub read-without : (file : List ℕ) (fund : FundFile) (j : ℕ) → reading fil
     reading (withoutLine (length headerLines + j) file) ≡ read (fewer j fund)
 read-without file fund j e few =
     reading-texts (withoutLine (length headerLines + j) file)
-    ∙ ap (readHeader headerLines 1 []) (texts-without (length headerLines + j) file)
+    ∙ ap (readHeader fileRows headerLines 1 []) (texts-without (length headerLines + j) file)
     ∙ header-left headerLines j 1 [] (texts file) fund few (sym (reading-texts file) ∙ e)

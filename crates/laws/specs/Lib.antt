@@ -21,3 +21,12 @@ pub mod Texts
 pub mod FewerRows
 pub mod LeftOut
 pub mod OneFrequency
+pub mod Decimals
+pub mod RowTexts
+pub mod TakenRows
+pub mod HeaderOutcome
+pub mod SheetFile
+pub mod SheetAnswer
+pub mod NoCell
+pub mod SheetRows
+pub mod SheetPrefix

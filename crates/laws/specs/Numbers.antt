@@ -3,7 +3,7 @@ use mathlib.Core.Path.{_≡_, refl}
 use Prim.Native.Nat.{ℕ, _≤_}
 use native.Mathlib.Omega.{arith}
 use Rattle.fund.specs.declared.Refusal.{Refusal}
-use Rattle.fund.specs.declared.Refusal.the-variants.{Form, Range, Edition, Deductible, Unmatched, Half, Load, Order, Short, Wide}
+use Rattle.fund.specs.declared.Refusal.the-variants.{Form, Range, Edition, Deductible, Unmatched, Half, Load, Order, Short, Wide, Cell}
 use Rattle.fund.specs.declared.Verdict.{Verdict}
 use Rattle.fund.specs.declared.Verdict.the-variants.{Accepted, Refused}
 use Rattle.fund.specs.Refusals.{numberOf, numberIn}
@@ -19,6 +19,7 @@ number-above Load = omega arith
 number-above Order = omega arith
 number-above Short = omega arith
 number-above Wide = omega arith
+number-above Cell = omega arith
 
 pub zero-accepted : (v : Verdict) → numberIn v ≡ 0 → v ≡ Accepted
 zero-accepted Accepted e = refl

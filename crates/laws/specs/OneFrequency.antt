@@ -187,7 +187,6 @@ answer-by file n (stopped why place) = refl
 
 -- With the two weights it is today's answer.
 pub answer-is : (file : List ℕ) (n : Lengths) → answer file n ≡ answerBy today file n (reading file)
-unfolding answer
 answer-is file n = answer-by file n (reading file)
 
 module _ (file : List ℕ) (fund : FundFile) (a : ℕ) (is : reading file ≡ read fund) (equal : fund .header .frequency ≡ both a) where

@@ -61,7 +61,6 @@ answer-by file n (read fund) = fund-answer-is file n fund _
 answer-by file n (stopped why place) = refl
 
 pub answer-is : (file : List ℕ) (n : Lengths) → answer file n ≡ answerBy rateInForce file n (reading file)
-unfolding answer
 answer-is file n = answer-by file n (reading file)
 
 -- ---- one search and the other

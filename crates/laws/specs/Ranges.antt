@@ -1,5 +1,5 @@
 -- What holds of every fund that is read: the header's figures are in their ranges, and so are all rate rows and member rows and
--- their numbers; the ages of the rate rows rise (read-ranges).
+-- their numbers; the ages of the rate rows rise (read-ranges; of sheets, sheet-ranges).
 use mathlib.Core.Path.{_≡_, refl, sym, _∙_, ap, subst}
 use mathlib.Core.Bool.{Bool, true, false, _&&_}
 use mathlib.Core.List.{List, [], _∷_, _++_, map, append-nil, append-assoc}
@@ -13,15 +13,18 @@ use Rattle.fund.specs.declared.Fund.{Fund}
 use Rattle.fund.specs.declared.Frequencies.{Frequencies}
 use Rattle.fund.specs.declared.Rate.{Rate}
 use Rattle.fund.specs.declared.Member.{Member}
-use Rattle.fund.specs.declared.Refusal.the-variants.{Form, Range}
+use Rattle.fund.specs.declared.Refusal.the-variants.{Form, Range, Cell as CellRefusal}
+use Rattle.fund.specs.declared.SheetRow.{SheetRow}
+use Rattle.fund.specs.declared.SheetRow.the-variants.{Rate as RateRow, Member as MemberRow, NotTaken}
 use Rattle.fund.specs.Limits.{least-edition, most-edition, most-horizon, least-order, most-order, most-frequency, most-deductible, least-worth, most-worth, most-rates, most-age, most-rate, most-members, least-group, most-group, most-amount}
 use Rattle.fund.specs.Base.{if_then_else_}
 use Rattle.fund.specs.Lines.{Line, lines}
 use Rattle.fund.specs.Spelling.{value, fields, allNumbers, numbers, behind, spelled}
-use Rattle.fund.specs.Reading.{FundFile, read, between, NumberRange, inRanges, HeaderLine, headerLines, headerOf, rising, rateInRange, memberInRange, readRows, readHeader, reading}
+use Rattle.fund.specs.Reading.{FundFile, Reading, read, between, NumberRange, inRanges, HeaderLine, headerLines, headerOf, rising, rateInRange, memberInRange, readRows, readHeader, reading, fileRows}
+use Rattle.fund.specs.Sheets.{sheetRows, readSheetRows, readSheets, sheetReading}
 use Rattle.laws.specs.Accepted.{All}
 use Rattle.laws.specs.InForce.{Rising}
-use Rattle.laws.specs.Passing.{never, pass, PassedLine, rateLine, memberLine, endLine, passed-line}
+use Rattle.laws.specs.Passing.{never, pass, fundSoFar, PassedLine, rateLine, memberLine, endLine, passed-line}
 
 pub record RateOk (r : Rate) : Type 0 where
   pub age : r .age ≤ most-age
@@ -195,24 +198,25 @@ pub record ReadsHeader (hs : List HeaderLine) (ns : List ℕ) (fund : FundFile) 
   pub values-within : InRanges (rangesOf hs) values
   pub reads : Reads (headerOf (ns ++ values)) fund
 
-header-ranges : (hs : List HeaderLine) (n : ℕ) (ns : List ℕ) (ls : List Line) (fund : FundFile) → readHeader hs n ns ls ≡ read fund → ReadsHeader hs ns fund
-unfolding readHeader
-header-ranges [] n ns ls fund e =
-    record { values = []; values-within = tt; reads = rw append-nil (rows-ranges ls n (headerOf ns) [] [] fund (record { rates = tt; rates-rise = tt; members = tt; few-rates = omega arith; few-members = omega arith }) e) }
-header-ranges (h ∷ hs) n ns [] fund e = absurd (never Form n fund e)
-header-ranges (h ∷ hs) n ns (l ∷ ls) fund e = go (spelled (h .key) (length (h .ranges)) l) refl e (λ ms. header-ranges hs (suc n) ms ls fund)
-  where
-    go : (o : Option (List ℕ)) → spelled (h .key) (length (h .ranges)) l ≡ o → readHeader (h ∷ hs) n ns (l ∷ ls) ≡ read fund →
-        ((ms : List ℕ) → readHeader hs (suc n) ms ls ≡ read fund → ReadsHeader hs ms fund) → ReadsHeader (h ∷ hs) ns fund
-    go none s k ih = absurd (never Form n fund (rw (s, readHeader) at k))
-    go (some vs) s k ih =
-        let h2 = pass (inRanges (h .ranges) vs) Range n (readHeader hs (suc n) (ns ++ vs) ls) fund (rw (s, readHeader) at k) in
-        let r = ih (ns ++ vs) (h2 .1) in
-        record {
-          values = vs ++ r .values;
-          values-within = in-ranges-append (h .ranges) (rangesOf hs) vs (r .values) (in-ranges (h .ranges) vs (h2 .0)) (r .values-within);
-          reads = subst (λ ms. Reads (headerOf ms) fund) (append-assoc ns vs (r .values)) (r .reads);
-        }
+-- what follows the header reads a fund with this header, and rows in their ranges
+module _ (after : ℕ → Fund → List Line → Reading) (fund : FundFile) (behind : (n : ℕ) (header : Fund) (ls : List Line) → after n header ls ≡ read fund → Reads header fund) where
+  header-ranges : (hs : List HeaderLine) (n : ℕ) (ns : List ℕ) (ls : List Line) → readHeader after hs n ns ls ≡ read fund → ReadsHeader hs ns fund
+  unfolding readHeader
+  header-ranges [] n ns ls e = record { values = []; values-within = tt; reads = rw append-nil (behind n (headerOf ns) ls e) }
+  header-ranges (h ∷ hs) n ns [] e = absurd (never Form n fund e)
+  header-ranges (h ∷ hs) n ns (l ∷ ls) e = go (spelled (h .key) (length (h .ranges)) l) refl e (λ ms. header-ranges hs (suc n) ms ls)
+    where
+      go : (o : Option (List ℕ)) → spelled (h .key) (length (h .ranges)) l ≡ o → readHeader after (h ∷ hs) n ns (l ∷ ls) ≡ read fund →
+          ((ms : List ℕ) → readHeader after hs (suc n) ms ls ≡ read fund → ReadsHeader hs ms fund) → ReadsHeader (h ∷ hs) ns fund
+      go none s k ih = absurd (never Form n fund (rw (s, readHeader) at k))
+      go (some vs) s k ih =
+          let h2 = pass (inRanges (h .ranges) vs) Range n (readHeader after hs (suc n) (ns ++ vs) ls) fund (rw (s, readHeader) at k) in
+          let r = ih (ns ++ vs) (h2 .1) in
+          record {
+            values = vs ++ r .values;
+            values-within = in-ranges-append (h .ranges) (rangesOf hs) vs (r .values) (in-ranges (h .ranges) vs (h2 .0)) (r .values-within);
+            reads = subst (λ ms. Reads (headerOf ms) fund) (append-assoc ns vs (r .values)) (r .reads);
+          }
 
 pub record FrequenciesOk (ab : Frequencies) : Type 0 where
   pub death : ab .death ≤ most-frequency
@@ -261,8 +265,37 @@ header-ok (a ∷ b ∷ c ∷ d ∷ e ∷ f ∷ []) w = absurd (w .1 .1 .1 .1 .1 
 header-ok (a ∷ b ∷ c ∷ d ∷ e ∷ f ∷ g ∷ []) w = absurd (w .1 .1 .1 .1 .1 .1 .1)
 header-ok (a ∷ b ∷ c ∷ d ∷ e ∷ f ∷ g ∷ h ∷ i ∷ vs) w = absurd (w .1 .1 .1 .1 .1 .1 .1 .1)
 
+no-rows : RowsOk [] []
+no-rows = record { rates = tt; rates-rise = tt; members = tt; few-rates = omega arith; few-members = omega arith }
+
+text-ranges : (after : ℕ → Fund → List Line → Reading) (text : List ℕ) (fund : FundFile) → ((n : ℕ) (header : Fund) (ls : List Line) → after n header ls ≡ read fund → Reads header fund) →
+    readHeader after headerLines 1 [] (lines text) ≡ read fund → FundOk fund
+text-ranges after text fund behind e =
+    let r = header-ranges after fund behind headerLines 1 [] (lines text) e in
+    record { header = subst (λ f. HeaderOk f) (sym (r .reads .header-is)) (header-ok (r .values) (r .values-within)); rows = r .reads .rows }
+
 pub read-ranges : (file : List ℕ) (fund : FundFile) → reading file ≡ read fund → FundOk fund
 unfolding reading
-read-ranges file fund e =
-    let r = header-ranges headerLines 1 [] (lines file) fund e in
-    record { header = subst (λ f. HeaderOk f) (sym (r .reads .header-is)) (header-ok (r .values) (r .values-within)); rows = r .reads .rows }
+read-ranges file fund e = text-ranges fileRows file fund (λ n header ls. rows-ranges ls n header [] [] fund no-rows) e
+
+-- ---- sheets
+sheet-rows-ranges : (rows : List SheetRow) (n : ℕ) (header : Fund) (rates : List Rate) (members : List Member) (fund : FundFile) → RowsOk rates members →
+    readSheetRows n header rates members rows ≡ read fund → Reads header fund
+unfolding readSheetRows
+sheet-rows-ranges [] n header rates members fund k e = let z : fundSoFar n header rates members ≡ fund = cc in subst (λ f. Reads header f) z (record { header-is = refl; rows = k })
+sheet-rows-ranges (NotTaken ∷ rows) n header rates members fund k e = absurd (never CellRefusal _ fund e)
+sheet-rows-ranges (RateRow r ∷ rows) n header rates members fund k e =
+    let h = pass (rateInRange rates r) Range n _ fund e in
+    sheet-rows-ranges rows (suc n) header (rates ++ (r ∷ [])) members fund (more-rates rates members r k (h .0)) (h .1)
+sheet-rows-ranges (MemberRow m ∷ rows) n header rates members fund k e =
+    let h = pass (memberInRange members m) Range n _ fund e in
+    sheet-rows-ranges rows (suc n) header rates (members ++ (m ∷ [])) fund (more-members rates members m k (h .0)) (h .1)
+
+sheets-ranges : (rows : List SheetRow) (fund : FundFile) (n : ℕ) (header : Fund) (ls : List Line) → readSheets rows n header ls ≡ read fund → Reads header fund
+unfolding readSheets
+sheets-ranges rows fund n header [] e = sheet-rows-ranges rows n header [] [] fund no-rows e
+sheets-ranges rows fund n header (l ∷ ls) e = absurd (never Form n fund e)
+
+pub sheet-ranges : (header rates members : List ℕ) (fund : FundFile) → sheetReading header rates members ≡ read fund → FundOk fund
+unfolding sheetReading
+sheet-ranges header rates members fund e = text-ranges (readSheets (sheetRows rates members)) header fund (sheets-ranges (sheetRows rates members) fund) e

@@ -173,7 +173,7 @@ module _ (header : Fund) (rates rates′ : List Rate) (members : List Member) (k
       ∙ verdict-later k header n (first (unmatched rates′) (firstMember fund′) members) (first half (firstMember fund′) (lives fund′)) (lives fund′)
 
   pub same-answers : (file file′ : List ℕ) (n : Lengths) → reading file ≡ read fund → reading file′ ≡ read fund′ → SameButPlaces k (answer file n) (answer file′ n)
-  unfolding answer answerTo answerOf refused accepted
+  unfolding answerTo answerOf refused accepted
   same-answers file file′ n is is′ = rw (is, is′, verdict-moved n) (go (verdict fund′ n (fundCells header (lives fund′))))
     where
       go : (v : Verdict) → SameButPlaces k (answerOf file n fund (later k v)) (answerOf file′ n fund′ v)

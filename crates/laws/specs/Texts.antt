@@ -15,7 +15,7 @@ use Rattle.fund.specs.declared.Refusal.the-variants.{Form, Range}
 use Rattle.fund.specs.Base.{if_then_else_}
 use Rattle.fund.specs.Lines.{Line, begun, linesFrom, lines}
 use Rattle.fund.specs.Spelling.{spelled}
-use Rattle.fund.specs.Reading.{FundFile, stopped, inRanges, HeaderLine, headerLines, headerOf, Row, rateRow, memberRow, endRow, otherRow, rowOf, rateInRange, memberInRange, noMember, atEnd, readRows, readHeader, reading}
+use Rattle.fund.specs.Reading.{FundFile, stopped, inRanges, HeaderLine, headerLines, headerOf, Row, rateRow, memberRow, endRow, otherRow, rowOf, rateInRange, memberInRange, noMember, atEnd, readRows, readHeader, reading, fileRows}
 use Rattle.laws.specs.Passing.{on-pass}
 
 -- a line that starts nowhere
@@ -71,20 +71,20 @@ rows-bare (l ∷ ls) n header rates members = go (rowOf l) refl (λ rs ms. rows-
         rw (row-bare l ∙ s, s, readRows) (on-pass (eqb k (length members)) (stopped Range n) _ _ (λ _. end-bare (suc n) (record { header = header; rates = rates; members = members }) ls))
     go otherRow s ih = rw (row-bare l ∙ s, s, readRows)
 
-header-bare : (hs : List HeaderLine) (n : ℕ) (ns : List ℕ) (ls : List Line) → readHeader hs n ns (map bare ls) ≡ readHeader hs n ns ls
+header-bare : (hs : List HeaderLine) (n : ℕ) (ns : List ℕ) (ls : List Line) → readHeader fileRows hs n ns (map bare ls) ≡ readHeader fileRows hs n ns ls
 unfolding readHeader
 header-bare [] n ns ls = rows-bare ls n (headerOf ns) [] []
 header-bare (h ∷ hs) n ns [] = refl
 header-bare (h ∷ hs) n ns (l ∷ ls) = go (spelled (h .key) (length (h .ranges)) l) refl (λ vs. header-bare hs (suc n) vs ls)
   where
-    go : (o : Option (List ℕ)) → spelled (h .key) (length (h .ranges)) l ≡ o → ((vs : List ℕ) → readHeader hs (suc n) vs (map bare ls) ≡ readHeader hs (suc n) vs ls) →
-        readHeader (h ∷ hs) n ns (bare l ∷ map bare ls) ≡ readHeader (h ∷ hs) n ns (l ∷ ls)
+    go : (o : Option (List ℕ)) → spelled (h .key) (length (h .ranges)) l ≡ o → ((vs : List ℕ) → readHeader fileRows hs (suc n) vs (map bare ls) ≡ readHeader fileRows hs (suc n) vs ls) →
+        readHeader fileRows (h ∷ hs) n ns (bare l ∷ map bare ls) ≡ readHeader fileRows (h ∷ hs) n ns (l ∷ ls)
     go none s ih = rw (spelled-bare (h .key) (length (h .ranges)) l ∙ s, s, readHeader)
     go (some v) s ih = rw (spelled-bare (h .key) (length (h .ranges)) l ∙ s, s, readHeader) (on-pass (inRanges (h .ranges) v) (stopped Range n) _ _ (λ _. ih (ns ++ v)))
 
-pub reading-texts : (file : List ℕ) → reading file ≡ readHeader headerLines 1 [] (texts file)
+pub reading-texts : (file : List ℕ) → reading file ≡ readHeader fileRows headerLines 1 [] (texts file)
 unfolding reading lines
-reading-texts file = sym (header-bare headerLines 1 [] (linesFrom 0 file)) ∙ ap (readHeader headerLines 1 []) (texts-are 0 file)
+reading-texts file = sym (header-bare headerLines 1 [] (linesFrom 0 file)) ∙ ap (readHeader fileRows headerLines 1 []) (texts-are 0 file)
 
 -- ---- a file without a line
 -- What follows the first line feed.

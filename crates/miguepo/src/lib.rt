@@ -1,12 +1,16 @@
-// The pricing call for C, as include/miguepo.h declares it.
+// The pricing calls for C, as include/miguepo.h declares them.
 use fund::Quantile;
 use fund::Verdict;
+use pricing::Priced;
 ghost use mathlib.Core.Path.{_≡_};
+ghost use Prim.Native.Nat.{_≤_};
+ghost use Rattle.fund.specs.Reading.{reading};
 ghost use Rattle.fund.specs.Refusals.{numberIn, placeIn};
 ghost use Rattle.fund.specs.Quantile.{reachedIn, quantileIn};
+ghost use Rattle.fund.specs.Sheets.{sheetReading};
 ghost use Rattle.valuation.specs.Valued.{lengths};
 ghost use Rattle.miguepo.specs.Bits.{bitsOf};
-ghost use Rattle.miguepo.specs.Host.{Hosts};
+ghost use Rattle.miguepo.specs.Host.{pricedFields, Hosts};
 
 // How many fields the struct has that C declares.
 pub const FIELDS: usize = 12;
@@ -58,24 +62,11 @@ fn bits(z: i64) -> u64
     z as u64
 }
 
-// Prices the fund of a file into the five result slices, answers at a level, and fills the struct: on this side its fields, eight bytes
-// each, are an array.
-#[no_mangle]
-pub extern "C" fn miguepo_price(
-    file: &[u8],
-    level: u64,
-    transform: &mut [i64],
-    h: &mut [u64],
-    f: &mut [i64],
-    r: &mut [u64],
-    sums: &mut [i64],
-    result: &mut [u64; FIELDS],
-)
-    ensures { λ _. ⌜ Hosts (now (file .entry)) level
-        (lengths (now (transform .entry)) (now (h .entry)) (now (f .entry)) (now (r .entry)) (now (sums .entry)))
-        (now (result .exit)) (now (transform .exit)) (now (h .exit)) (now (f .exit)) (now (r .exit)) (now (sums .exit)) ⌝ }
+// Fills the struct with what a call answered: on this side its fields, eight bytes each, are an array.
+fn hand_over(priced: Priced, result: &mut [u64; FIELDS])
+    requires { ⌜ priced .start ≤ priced .end ⌝ }
+    ensures { λ _. ⌜ now (result .exit) ≡ pricedFields priced ⌝ }
 {
-    let priced = pricing::price(file, level, transform, h, f, r, sums);
     let verdict = priced.verdict;
     let figures = priced.figures;
     let number = verdict_number(verdict);
@@ -99,4 +90,46 @@ pub extern "C" fn miguepo_price(
         reached,
         x,
     ];
+}
+
+// Prices the fund of a file into the five result slices, answers at a level, and fills the struct.
+#[no_mangle]
+pub extern "C" fn miguepo_price(
+    file: &[u8],
+    level: u64,
+    transform: &mut [i64],
+    h: &mut [u64],
+    f: &mut [i64],
+    r: &mut [u64],
+    sums: &mut [i64],
+    result: &mut [u64; FIELDS],
+)
+    ensures { λ _. ⌜ Hosts (now (file .entry)) (reading (now (file .entry))) level
+        (lengths (now (transform .entry)) (now (h .entry)) (now (f .entry)) (now (r .entry)) (now (sums .entry)))
+        (now (result .exit)) (now (transform .exit)) (now (h .exit)) (now (f .exit)) (now (r .exit)) (now (sums .exit)) ⌝ }
+{
+    let priced = pricing::price(file, level, transform, h, f, r, sums);
+    hand_over(priced, result);
+}
+
+// The same of a header text and two sheets of binary64 cells, of rates and of members.
+#[no_mangle]
+pub extern "C" fn miguepo_price_sheets(
+    header: &[u8],
+    rates: &[u8],
+    members: &[u8],
+    level: u64,
+    transform: &mut [i64],
+    h: &mut [u64],
+    f: &mut [i64],
+    r: &mut [u64],
+    sums: &mut [i64],
+    result: &mut [u64; FIELDS],
+)
+    ensures { λ _. ⌜ Hosts (now (header .entry)) (sheetReading (now (header .entry)) (now (rates .entry)) (now (members .entry))) level
+        (lengths (now (transform .entry)) (now (h .entry)) (now (f .entry)) (now (r .entry)) (now (sums .entry)))
+        (now (result .exit)) (now (transform .exit)) (now (h .exit)) (now (f .exit)) (now (r .exit)) (now (sums .exit)) ⌝ }
+{
+    let priced = pricing::price_sheets(header, rates, members, level, transform, h, f, r, sums);
+    hand_over(priced, result);
 }

@@ -12,7 +12,7 @@ use Rattle.fund.specs.Reading.{FundFile, Reading, read, stopped, headerLines, r
 use Rattle.fund.specs.Folding.{lives}
 use Rattle.fund.specs.Refusals.{Lengths, verdict}
 use Rattle.fund.specs.Answer.{fundCells, refused, answerOf, answerTo, answer}
-use Rattle.fund.specs.Listing.{printed, horizonIn, enough, listing}
+use Rattle.fund.specs.Listing.{printed, horizonIn, enough, listingTo, listing}
 use Rattle.prefix.specs.Lines.{lines-cut}
 use Rattle.prefix.specs.Reading.{bytes-for, KeysShort, header-same}
 
@@ -39,7 +39,7 @@ printed-to f g n (read fund) = printed-of f g n fund _ (verdict fund n (fundCell
 printed-to f g n (stopped why place) = refl
 
 listing-of-reading : (f g : List ℕ) → reading f ≡ reading g → listing f ≡ listing g
-unfolding listing answer
+unfolding listingTo
 listing-of-reading f g e =
     ap (λ r. printed (answerTo f enough r) (horizonIn r) (answerTo f enough r .verdict)) e ∙ printed-to f g enough (reading g)
 

@@ -17,7 +17,7 @@ use Rattle.fund.specs.Limits.{most-rates, most-members}
 use Rattle.fund.specs.Base.{bytes}
 use Rattle.fund.specs.Lines.{Line}
 use Rattle.fund.specs.Spelling.{spelled}
-use Rattle.fund.specs.Reading.{FundFile, stopped, inRanges, HeaderLine, headerOf, Row, rateRow, memberRow, endRow, otherRow, rowOf, rateInRange, memberInRange, noMember, atEnd, readRows, readHeader}
+use Rattle.fund.specs.Reading.{FundFile, stopped, inRanges, HeaderLine, headerOf, Row, rateRow, memberRow, endRow, otherRow, rowOf, rateInRange, memberInRange, noMember, atEnd, readRows, readHeader, fileRows}
 use Rattle.laws.specs.Accepted.{All}
 use Rattle.laws.specs.Passing.{on-pass}
 use Rattle.prefix.specs.Lines.{Cut, over, spent, same, inside}
@@ -109,12 +109,12 @@ rows-same k header rates members (same {n} {m} {xs} {ys} l h c) room =
 abbrev pub KeysShort : List HeaderLine → Type 0
 KeysShort hs = All (λ (h : HeaderLine). length (h .key) + 8 * length (h .ranges) ≤ most-line) hs
 
-header-stop : (h : HeaderLine) (hs : List HeaderLine) (k : ℕ) (ns : List ℕ) (l : Line) (ls : List Line) → length (h .key) + 8 * length (h .ranges) ≤ most-line → Unspelled l → readHeader (h ∷ hs) k ns (l ∷ ls) ≡ stopped Form k
+header-stop : (h : HeaderLine) (hs : List HeaderLine) (k : ℕ) (ns : List ℕ) (l : Line) (ls : List Line) → length (h .key) + 8 * length (h .ranges) ≤ most-line → Unspelled l → readHeader fileRows (h ∷ hs) k ns (l ∷ ls) ≡ stopped Form k
 unfolding readHeader
 header-stop h hs k ns l ls short u = rw (u (h .key) (length (h .ranges)) short, readHeader)
 
 pub header-same : (hs : List HeaderLine) (k : ℕ) (ns : List ℕ) {n : ℕ} {xs ys : List Line} → KeysShort hs → Cut n xs ys →
-    bytes-for (length hs + most-rates + most-members) ≤ n → readHeader hs k ns xs ≡ readHeader hs k ns ys
+    bytes-for (length hs + most-rates + most-members) ≤ n → readHeader fileRows hs k ns xs ≡ readHeader fileRows hs k ns ys
 unfolding readHeader
 header-same [] k ns keys c room = rows-same k (headerOf ns) [] [] c (record { few-rates = omega arith; few-members = omega arith; enough = omega arith })
 header-same (h ∷ hs) k ns keys over room = refl
@@ -125,6 +125,6 @@ header-same (h ∷ hs) k ns keys (same {n} {m} {xs} {ys} l g c) room =
     by-length l (λ short. go (spelled (h .key) (length (h .ranges)) l) refl (λ vs. header-same hs (suc k) vs (keys .1) c (omega arith)))
     (λ u. header-stop h hs k ns l xs (keys .0) u ∙ sym (header-stop h hs k ns l ys (keys .0) u))
   where
-    go : (o : Option (List ℕ)) → spelled (h .key) (length (h .ranges)) l ≡ o → ((vs : List ℕ) → readHeader hs (suc k) vs xs ≡ readHeader hs (suc k) vs ys) → readHeader (h ∷ hs) k ns (l ∷ xs) ≡ readHeader (h ∷ hs) k ns (l ∷ ys)
+    go : (o : Option (List ℕ)) → spelled (h .key) (length (h .ranges)) l ≡ o → ((vs : List ℕ) → readHeader fileRows hs (suc k) vs xs ≡ readHeader fileRows hs (suc k) vs ys) → readHeader fileRows (h ∷ hs) k ns (l ∷ xs) ≡ readHeader fileRows (h ∷ hs) k ns (l ∷ ys)
     go none s ih = rw (s, readHeader)
     go (some v) s ih = rw (s, readHeader) (on-pass (inRanges (h .ranges) v) (stopped Range k) _ _ (λ _. ih (ns ++ v)))

@@ -12,12 +12,12 @@ use Rattle.fund.specs.declared.Refusal.{Refusal}
 use Rattle.fund.specs.declared.Verdict.{Verdict}
 use Rattle.fund.specs.declared.Verdict.the-variants.{Accepted, Refused}
 use Rattle.fund.specs.Limits.{most-rates, most-members}
-use Rattle.fund.specs.Reading.{FundFile, Reading, read, stopped, reading}
+use Rattle.fund.specs.Reading.{FundFile, Reading, read, stopped}
 use Rattle.fund.specs.Folding.{life, lives}
 use Rattle.fund.specs.Refusals.{Lengths, matched}
-use Rattle.fund.specs.Answer.{Answer, refused, answer}
+use Rattle.fund.specs.Answer.{Answer, refused, answerTo}
 use Rattle.fund.specs.Listing.{horizonIn}
-use Rattle.laws.specs.Ranges.{read-ranges}
+use Rattle.laws.specs.Ranges.{FundOk}
 use Rattle.laws.specs.Rows.{blankRate, blankMember, blankLife, rows-back}
 use Rattle.reader.specs.declared.FileRead.{FileRead}
 use Rattle.reader.specs.Read.{rateTable, memberTable, fileRead}
@@ -28,39 +28,39 @@ use Rattle.pricing.specs.Priced.{lined, MatchedFund}
 use Rattle.pricing.proofs.Valuing.{lined-refused}
 
 -- ---- what was read
-module _ (file : List ℕ) (r : FileRead) (e : r ≡ fileRead (reading file)) where
-  stops : (why : Refusal) (place : ℕ) → r .verdict ≡ Refused why place → (x : Reading) → reading file ≡ x → reading file ≡ stopped why place
+module _ (r : Reading) (found : FileRead) (e : found ≡ fileRead r) where
+  stops : (why : Refusal) (place : ℕ) → found .verdict ≡ Refused why place → (x : Reading) → r ≡ x → r ≡ stopped why place
   unfolding fileRead
   stops why place v (read fund) z =
-      let w : r ≡ fileRead (read fund) = e ∙ ap fileRead z in
+      let w : found ≡ fileRead (read fund) = e ∙ ap fileRead z in
       let u : Accepted ≡ Refused why place = sym (ap (λ (x : FileRead). x .verdict) w) ∙ v in
       let n : _≡_ {A = ℕ} 0 1 = cc in
       absurd (omega arith)
   stops why place v (stopped why′ place′) z =
-      let w : r ≡ fileRead (stopped why′ place′) = e ∙ ap fileRead z in
+      let w : found ≡ fileRead (stopped why′ place′) = e ∙ ap fileRead z in
       let u : Refused why′ place′ ≡ Refused why place = sym (ap (λ (x : FileRead). x .verdict) w) ∙ v in
       z ∙ cc
 
-  pub stop-answers : (why : Refusal) (place : ℕ) → r .verdict ≡ Refused why place → (n : Lengths) (a : Answer) → a ≡ refused [] n (Refused why place) → lined file a ≡ answer file n
-  stop-answers why place v n a k =
-      ap (lined file) k ∙ lined-refused file n why place ∙ sym (answer-stopped file n why place (stops why place v (reading file) refl))
+  pub stop-answers : (text : List ℕ) (why : Refusal) (place : ℕ) → found .verdict ≡ Refused why place → (n : Lengths) (a : Answer) → a ≡ refused [] n (Refused why place) → lined text a ≡ answerTo text n r
+  stop-answers text why place v n a k =
+      ap (lined text) k ∙ lined-refused text n why place ∙ sym (answer-stopped text n r why place (stops why place v r refl))
 
-  -- a file that is accepted by reading was read
-  pub horizon-read : r .verdict ≡ Accepted → r .fund .horizon ≡ horizonIn (reading file)
+  -- what reading accepts was read
+  pub horizon-read : found .verdict ≡ Accepted → found .fund .horizon ≡ horizonIn r
   unfolding fileRead horizonIn
-  horizon-read u = go (reading file) refl
+  horizon-read u = go r refl
     where
-      go : (x : Reading) → reading file ≡ x → r .fund .horizon ≡ horizonIn (reading file)
+      go : (x : Reading) → r ≡ x → found .fund .horizon ≡ horizonIn r
       go (read fund) z = ap (λ (x : FileRead). x .fund .horizon) (e ∙ ap fileRead z) ∙ ap horizonIn (sym z)
       go (stopped why place) z =
           let w : Refused why place ≡ Accepted = sym (ap (λ (x : FileRead). x .verdict) (e ∙ ap fileRead z)) ∙ u in
           let n : _≡_ {A = ℕ} 0 1 = cc in
           absurd (omega arith)
 
-  tables-back : (fund : FundFile) → reading file ≡ read fund → matchedTables (fund .header) (rateTable (fund .rates)) (length (fund .rates)) (memberTable (fund .members)) (length (fund .members)) ≡ matching fund
+  tables-back : (fund : FundFile) → FundOk fund → matchedTables (fund .header) (rateTable (fund .rates)) (length (fund .rates)) (memberTable (fund .members)) (length (fund .members)) ≡ matching fund
   unfolding matchedTables rateTable memberTable
-  tables-back fund z =
-      let ok = read-ranges file fund z .rows in
+  tables-back fund inside =
+      let ok = inside .rows in
       rw (
         le-leb (length (fund .rates)) most-rates (ok .few-rates),
         le-leb (length (fund .members)) most-members (ok .few-members),
@@ -68,25 +68,26 @@ module _ (file : List ℕ) (r : FileRead) (e : r ≡ fileRead (reading file)) wh
         rows-back blankMember most-members (fund .members),
       )
 
-  matched-fund : (m : Matched) → m ≡ matchedTables (r .fund) (r .rates) (r .rated) (r .members) (r .enrolled) → r .verdict ≡ Accepted → (x : Reading) → reading file ≡ x → MatchedFund file (r .fund) m (r .enrolled)
+  matched-fund : ((fund : FundFile) → r ≡ read fund → FundOk fund) → (m : Matched) → m ≡ matchedTables (found .fund) (found .rates) (found .rated) (found .members) (found .enrolled) → found .verdict ≡ Accepted → (x : Reading) → r ≡ x → MatchedFund r (found .fund) m (found .enrolled)
   unfolding fileRead
-  matched-fund m k v (read fund) z =
-      let w : r ≡ fileRead (read fund) = e ∙ ap fileRead z in
+  matched-fund inside m k v (read fund) z =
+      let w : found ≡ fileRead (read fund) = e ∙ ap fileRead z in
       record {
         of = fund;
         is = z;
+        ok = inside fund z;
         header = ap (λ (x : FileRead). x .fund) w;
-        matched = k ∙ ap (λ (x : FileRead). matchedTables (x .fund) (x .rates) (x .rated) (x .members) (x .enrolled)) w ∙ tables-back fund z;
+        matched = k ∙ ap (λ (x : FileRead). matchedTables (x .fund) (x .rates) (x .rated) (x .members) (x .enrolled)) w ∙ tables-back fund (inside fund z);
         members = ap (λ (x : FileRead). x .enrolled) w;
       }
-  matched-fund m k v (stopped why place) z =
-      let w : r ≡ fileRead (stopped why place) = e ∙ ap fileRead z in
+  matched-fund inside m k v (stopped why place) z =
+      let w : found ≡ fileRead (stopped why place) = e ∙ ap fileRead z in
       let u : Refused why place ≡ Accepted = sym (ap (λ (x : FileRead). x .verdict) w) ∙ v in
       let n : _≡_ {A = ℕ} 0 1 = cc in
       absurd (omega arith)
 
-  pub read-matched : (m : Matched) → m ≡ matchedTables (r .fund) (r .rates) (r .rated) (r .members) (r .enrolled) → r .verdict ≡ Accepted → MatchedFund file (r .fund) m (r .enrolled)
-  read-matched m k v = matched-fund m k v (reading file) refl
+  pub read-matched : ((fund : FundFile) → r ≡ read fund → FundOk fund) → (m : Matched) → m ≡ matchedTables (found .fund) (found .rates) (found .rated) (found .members) (found .enrolled) → found .verdict ≡ Accepted → MatchedFund r (found .fund) m (found .enrolled)
+  read-matched inside m k v = matched-fund inside m k v r refl
 
 -- ---- what 3 to 6 answered
 verdict-with : (ms : List Life) (v : Verdict) → withLives ms v .verdict ≡ v
@@ -94,13 +95,13 @@ unfolding withLives
 verdict-with ms Accepted = refl
 verdict-with ms (Refused why place) = refl
 
-module _ (file : List ℕ) (fund : Fund) (m : Matched) (enrolled : ℕ) (k : MatchedFund file fund m enrolled) where
+module _ (r : Reading) (fund : Fund) (m : Matched) (enrolled : ℕ) (k : MatchedFund r fund m enrolled) where
   pub matched-verdict : m .verdict ≡ matched (k .of) Accepted
   unfolding matching
   matched-verdict = ap (λ (x : Matched). x .verdict) (k .matched) ∙ verdict-with (lives (k .of)) (matched (k .of) Accepted)
 
   pub few-enrolled : enrolled ≤ most-members
-  few-enrolled = omega (arith, k .members, read-ranges file (k .of) (k .is) .rows .few-members)
+  few-enrolled = omega (arith, k .members, k .ok .rows .few-members)
 
   pub few-lives : length (take enrolled (m .lives)) ≤ most-members
   few-lives = omega (arith, length-take enrolled (m .lives), few-enrolled)

@@ -9,12 +9,13 @@ use lib.ListN.{length, take, drop}
 use Rattle.fund.specs.declared.Refusal.{Refusal}
 use Rattle.fund.specs.declared.Verdict.{Verdict}
 use Rattle.fund.specs.declared.Verdict.the-variants.{Refused}
-use Rattle.fund.specs.Reading.{reading}
+use Rattle.fund.specs.Reading.{FundFile, Reading, read}
 use Rattle.fund.specs.Refusals.{Lengths}
 use Rattle.fund.specs.Quantile.{quantileOf}
-use Rattle.fund.specs.Answer.{Answer, refused, answer}
+use Rattle.fund.specs.Answer.{Answer, refused, answerTo}
 use Rattle.fund.specs.Listing.{horizonIn}
 use Rattle.fund.specs.Distance.{WithinBounds, NeverBelow}
+use Rattle.laws.specs.Ranges.{FundOk}
 use Rattle.distance.specs.Distance.{distance, never-below}
 use Rattle.valuation.specs.declared.Valued.{Valued}
 use Rattle.valuation.specs.Valued.{left as leftOf}
@@ -26,26 +27,26 @@ pub refused-horizon : (a : Answer) (n : Lengths) (why : Refusal) (place X : ℕ)
 unfolding refused
 refused-horizon a n why place X e = rw e refl
 
-module _ (file : List ℕ) (level : ℕ) (n : Lengths) (p : Priced) (v : Valued) (X : ℕ) (d : List ℤ) (h : List ℕ) (f : List ℤ) (r : List ℕ) (s : List ℤ) (t : Tells file level X v s p)
-    (is : lined file (leftOf v d h f r s) ≡ answer file n) where
-  answers : horizonWith (v .verdict) X ≡ horizonWith (v .verdict) (horizonIn (reading file)) → Answers file level p (left p d h f r s) (answer file n)
+module _ (text : List ℕ) (r : Reading) (level : ℕ) (n : Lengths) (p : Priced) (v : Valued) (X : ℕ) (d : List ℤ) (h : List ℕ) (f : List ℤ) (bounds : List ℕ) (s : List ℤ) (t : Tells text level X v s p)
+    (is : lined text (leftOf v d h f bounds s) ≡ answerTo text n r) where
+  answers : horizonWith (v .verdict) X ≡ horizonWith (v .verdict) (horizonIn r) → Answers text r level p (left p d h f bounds s) (answerTo text n r)
   answers x =
       record {
-        answer = (λ i. record { verdict = t .verdict i; part = t .line i; figures = t .figures i; D = d; H = h; f = f; R = r; F = s }) ∙ is;
-        horizon = t .horizon ∙ x ∙ ap (λ w. horizonWith w (horizonIn (reading file))) (sym (t .verdict));
+        answer = (λ i. record { verdict = t .verdict i; part = t .line i; figures = t .figures i; D = d; H = h; f = f; R = bounds; F = s }) ∙ is;
+        horizon = t .horizon ∙ x ∙ ap (λ w. horizonWith w (horizonIn r)) (sym (t .verdict));
         quantile = t .quantile ∙ ap (quantileOf level (p .horizon) s) (sym (t .verdict));
         ordered = t .ordered;
         inside = t .inside;
       }
 
-  pub prices : horizonWith (v .verdict) X ≡ horizonWith (v .verdict) (horizonIn (reading file)) → Prices file level n p (left p d h f r s)
-  prices x =
+  pub prices : ((fund : FundFile) → r ≡ read fund → FundOk fund) → horizonWith (v .verdict) X ≡ horizonWith (v .verdict) (horizonIn r) → Prices text r level n p (left p d h f bounds s)
+  prices ok x =
       let k = answers x in
       let v = sym (ap (λ (x : Answer). x .verdict) (k .answer)) in
       record {
         answers = k;
-        distance = λ fund r e. subst (λ (x : Answer). WithinBounds fund x) (sym (k .answer)) (distance file n fund r (v ∙ e));
-        never-below = λ fund r e. subst (λ (x : Answer). NeverBelow fund x) (sym (k .answer)) (never-below file n fund r (v ∙ e));
+        distance = λ fund z e. subst (λ (x : Answer). WithinBounds fund x) (sym (k .answer)) (distance text n r fund (ok fund z) z (v ∙ e));
+        never-below = λ fund z e. subst (λ (x : Answer). NeverBelow fund x) (sym (k .answer)) (never-below text n r fund (ok fund z) z (v ∙ e));
       }
 
 module _ (file : List ℕ) (p : Priced) where

@@ -16,10 +16,10 @@ use Rattle.fund.specs.declared.Verdict.{Verdict}
 use Rattle.fund.specs.declared.Verdict.the-variants.{Accepted, Refused}
 use Rattle.fund.specs.Base.{if_then_else_}
 use Rattle.fund.specs.Limits.{most-rate}
-use Rattle.fund.specs.Reading.{FundFile, read, stopped, reading}
+use Rattle.fund.specs.Reading.{FundFile, Reading, read, stopped}
 use Rattle.fund.specs.Folding.{rateInForce, folded, life, lives}
 use Rattle.fund.specs.Refusals.{Lengths, refuse, valued, matched, verdict}
-use Rattle.fund.specs.Answer.{refused, fundCells, answerOf, answerTo, answer}
+use Rattle.fund.specs.Answer.{refused, fundCells, answerOf, answerTo}
 use Rattle.laws.specs.Accepted.{All, Limited, not-half, all-map, refuse-accepted, first-none}
 use Rattle.laws.specs.InForce.{in-force-all}
 use Rattle.laws.specs.Ranges.{RateOk, MemberOk, FundOk}
@@ -89,18 +89,18 @@ matched-first file v =
     ∙ refuse-after Edition _ _ v
 
 -- ---- the answer of a call
-pub answer-stopped : (file : List ℕ) (n : Lengths) (why : Refusal) (place : ℕ) → reading file ≡ stopped why place → answer file n ≡ refused file n (Refused why place)
-unfolding answer answerTo
-answer-stopped file n why place e = ap (answerTo file n) e
+pub answer-stopped : (text : List ℕ) (n : Lengths) (r : Reading) (why : Refusal) (place : ℕ) → r ≡ stopped why place → answerTo text n r ≡ refused text n (Refused why place)
+unfolding answerTo
+answer-stopped text n r why place e = ap (answerTo text n) e
 
-module _ (file : List ℕ) (n : Lengths) (fund : FundFile) (e : reading file ≡ read fund) where
+module _ (text : List ℕ) (n : Lengths) (r : Reading) (fund : FundFile) (e : r ≡ read fund) where
   abbrev rest : Verdict
   rest = valued (fund .header) (lives fund) n (fundCells (fund .header) (lives fund))
 
-  pub answer-matched : (why : Refusal) (place : ℕ) → matched fund Accepted ≡ Refused why place → answer file n ≡ refused file n (Refused why place)
-  unfolding answer answerTo answerOf verdict
-  answer-matched why place m = ap (answerTo file n) e ∙ ap (answerOf file n fund) (matched-first fund rest ∙ ap (λ u. thenVerdict u rest) m)
+  pub answer-matched : (why : Refusal) (place : ℕ) → matched fund Accepted ≡ Refused why place → answerTo text n r ≡ refused text n (Refused why place)
+  unfolding answerTo answerOf verdict
+  answer-matched why place m = ap (answerTo text n) e ∙ ap (answerOf text n fund) (matched-first fund rest ∙ ap (λ u. thenVerdict u rest) m)
 
-  pub answer-valued : matched fund Accepted ≡ Accepted → answer file n ≡ answerOf file n fund (valued (fund .header) (lives fund) n (fundCells (fund .header) (lives fund)))
-  unfolding answer answerTo verdict
-  answer-valued m = ap (answerTo file n) e ∙ ap (answerOf file n fund) (matched-first fund rest ∙ ap (λ u. thenVerdict u rest) m)
+  pub answer-valued : matched fund Accepted ≡ Accepted → answerTo text n r ≡ answerOf text n fund (valued (fund .header) (lives fund) n (fundCells (fund .header) (lives fund)))
+  unfolding answerTo verdict
+  answer-valued m = ap (answerTo text n) e ∙ ap (answerOf text n fund) (matched-first fund rest ∙ ap (λ u. thenVerdict u rest) m)

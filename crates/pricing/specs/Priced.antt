@@ -10,12 +10,15 @@ use Rattle.fund.specs.declared.Fund.{Fund}
 use Rattle.fund.specs.declared.Verdict.{Verdict}
 use Rattle.fund.specs.declared.Verdict.the-variants.{Accepted, Refused}
 use Rattle.fund.specs.Base.{if_then_else_}
-use Rattle.fund.specs.Reading.{FundFile, read, reading}
+use Rattle.fund.specs.Reading.{FundFile, Reading, read}
 use Rattle.fund.specs.Refusals.{Lengths}
 use Rattle.fund.specs.Quantile.{quantileOf}
-use Rattle.fund.specs.Answer.{part, Answer, answer}
+use Rattle.fund.specs.Answer.{part, Answer, answerTo}
 use Rattle.fund.specs.Listing.{horizonIn}
 use Rattle.fund.specs.Distance.{WithinBounds, NeverBelow}
+use Rattle.laws.specs.Ranges.{FundOk}
+use Rattle.reader.specs.declared.FileRead.{FileRead}
+use Rattle.reader.specs.Read.{fileRead}
 use Rattle.matching.specs.declared.table.Matched.{Matched}
 use Rattle.matching.specs.Matching.{matching}
 use Rattle.valuation.specs.declared.Valued.{Valued}
@@ -40,49 +43,55 @@ abbrev pub horizonWith : Verdict → ℕ → ℕ
 horizonWith Accepted X = X
 horizonWith (Refused why place) X = 0
 
--- What is left is the answer, its part lies in the file, the horizon is the file's, and the answer at the level is that of the sums that
+-- What is left is the answer, its part lies in the text, the horizon is that of what was read, and the answer at the level is that of the sums that
 -- are left.
-pub record Answers (file : List ℕ) (level : ℕ) (p : Priced) (a is : Answer) : Type 0 where
+pub record Answers (text : List ℕ) (r : Reading) (level : ℕ) (p : Priced) (a is : Answer) : Type 0 where
   pub answer : a ≡ is
-  pub horizon : p .horizon ≡ horizonWith (p .verdict) (horizonIn (reading file))
+  pub horizon : p .horizon ≡ horizonWith (p .verdict) (horizonIn r)
   pub quantile : p .quantile ≡ quantileOf level (p .horizon) (a .F) (p .verdict)
   pub ordered : p .start ≤ p .end
-  pub inside : p .end ≤ length file
+  pub inside : p .end ≤ length text
 
--- The contract of the call. For each sequence of bytes, any level and any lengths of the slices, the answer is the definition's: number,
+-- The contract of a call. For each sequence of bytes, any level and any lengths of the slices, the answer is the definition's: number,
 -- place, part, figures, every lent cell, and the answer at the level. And demand 3: whenever it accepts, each f(x) and the premium are within their
--- bounds of the exact values, and the gross premium is never below the exact premium's loaded worth.
-pub record Prices (file : List ℕ) (level : ℕ) (n : Lengths) (p : Priced) (a : Answer) : Type 0 where
-  pub answers : Answers file level p a (answer file n)
-  pub distance : (fund : FundFile) → reading file ≡ read fund → a .verdict ≡ Accepted → WithinBounds fund a
-  pub never-below : (fund : FundFile) → reading file ≡ read fund → a .verdict ≡ Accepted → NeverBelow fund a
+-- bounds of the exact values, and the gross premium is never below the exact premium's loaded worth. The reading is that of a file, whose
+-- text it is, or that of a header text and two sheets.
+pub record Prices (text : List ℕ) (r : Reading) (level : ℕ) (n : Lengths) (p : Priced) (a : Answer) : Type 0 where
+  pub answers : Answers text r level p a (answerTo text n r)
+  pub distance : (fund : FundFile) → r ≡ read fund → a .verdict ≡ Accepted → WithinBounds fund a
+  pub never-below : (fund : FundFile) → r ≡ read fund → a .verdict ≡ Accepted → NeverBelow fund a
 
--- Reading gave a fund file, whose header and members these are, and whose refusals 3 to 6 and lives were found.
-pub record MatchedFund (file : List ℕ) (fund : Fund) (m : Matched) (enrolled : ℕ) : Type 0 where
+-- So is the call for every reading of which this was found.
+abbrev pub PricesFound : List ℕ → FileRead → ℕ → Lengths → Priced → Answer → Type 0
+PricesFound text found level n p a = (r : Reading) → found ≡ fileRead r → ((fund : FundFile) → r ≡ read fund → FundOk fund) → Prices text r level n p a
+
+-- Reading gave a fund, in its ranges, whose header and members these are, and whose refusals 3 to 6 and lives were found.
+pub record MatchedFund (r : Reading) (fund : Fund) (m : Matched) (enrolled : ℕ) : Type 0 where
   pub of : FundFile
-  pub is : reading file ≡ read of
+  pub is : r ≡ read of
+  pub ok : FundOk of
   pub header : fund ≡ of .header
   pub matched : m ≡ matching of
   pub members : enrolled ≡ length (of .members)
 
 -- An answer with the line of its verdict.
 abbrev pub lined : List ℕ → Answer → Answer
-lined file a = record { verdict = a .verdict; part = part file (a .verdict); figures = a .figures; D = a .D; H = a .H; f = a .f; R = a .R; F = a .F }
+lined text a = record { verdict = a .verdict; part = part text (a .verdict); figures = a .figures; D = a .D; H = a .H; f = a .f; R = a .R; F = a .F }
 
--- With its line, the answer is that of every file of which this is known.
+-- With its line, the answer is that of every reading of which this is known.
 abbrev pub ValuedFor : Fund → Matched → ℕ → Lengths → Answer → Type 0
-ValuedFor fund m enrolled n a = (file : List ℕ) → MatchedFund file fund m enrolled → lined file a ≡ answer file n
+ValuedFor fund m enrolled n a = (text : List ℕ) (r : Reading) → MatchedFund r fund m enrolled → lined text a ≡ answerTo text n r
 
 -- What is told of a valuation and of the sums that it left.
-pub record Tells (file : List ℕ) (level X : ℕ) (v : Valued) (sums : List ℤ) (p : Priced) : Type 0 where
+pub record Tells (text : List ℕ) (level X : ℕ) (v : Valued) (sums : List ℤ) (p : Priced) : Type 0 where
   pub verdict : p .verdict ≡ v .verdict
   pub figures : p .figures ≡ v .figures
-  pub line : record { start = p .start; size = p .end - p .start } ≡ part file (v .verdict)
+  pub line : record { start = p .start; size = p .end - p .start } ≡ part text (v .verdict)
   pub ordered : p .start ≤ p .end
-  pub inside : p .end ≤ length file
+  pub inside : p .end ≤ length text
   pub horizon : p .horizon ≡ horizonWith (v .verdict) X
   pub quantile : p .quantile ≡ quantileOf level (p .horizon) sums (v .verdict)
 
--- The bytes from start to end, and none where these lie outside the file.
+-- The bytes from start to end, and none where these lie outside the text.
 unfoldable pub lineOf : List ℕ → Priced → List ℕ
-lineOf file p = if leb (p .start) (p .end) && leb (p .end) (length file) then take (p .end - p .start) (drop (p .start) file) else []
+lineOf text p = if leb (p .start) (p .end) && leb (p .end) (length text) then take (p .end - p .start) (drop (p .start) text) else []

@@ -1,15 +1,18 @@
-// One call prices a fund: from the bytes of its file to its figures and cells, or to the refusal and its line.
+// One call prices a fund: from the bytes of its file, or of its header text and two sheets, to its figures and cells, or to the refusal and its place.
 use fund::Figures;
 use fund::Fund;
 use fund::Quantile;
 use fund::Verdict;
 use matching::Matched;
+use reader::FileRead;
 use valuation::Valued;
 use valuation::refuse;
 ghost use mathlib.Core.Path.{_≡_};
+ghost use Rattle.fund.specs.Reading.{reading};
 ghost use Rattle.fund.specs.Quantile.{quantileOf};
+ghost use Rattle.fund.specs.Sheets.{sheetReading};
 ghost use Rattle.valuation.specs.Valued.{left as leftOf, lengths};
-ghost use Rattle.pricing.specs.Priced.{left, horizonWith, Tells, ValuedFor, Prices, lineOf};
+ghost use Rattle.pricing.specs.Priced.{left, horizonWith, Tells, ValuedFor, Prices, PricesFound, lineOf};
 
 // What a call answers beside the result slices: the verdict, where the part of the host's bytes that goes with it starts and
 // ends, the horizon of a fund that is accepted, the figures, and the answer at the level.
@@ -89,6 +92,40 @@ fn valued(
     }
 }
 
+// What is told of what was read: where reading stops, its refusal; else the fund is matched and valued.
+fn price_found(
+    text: &[u8],
+    found: FileRead,
+    level: u64,
+    transform: &mut [i64],
+    h: &mut [u64],
+    f: &mut [i64],
+    r: &mut [u64],
+    sums: &mut [i64],
+) -> Priced
+    ensures { λ p. ⌜ PricesFound (now (text .entry)) found level
+        (lengths (now (transform .entry)) (now (h .entry)) (now (f .entry)) (now (r .entry)) (now (sums .entry))) p
+        (left p (now (transform .exit)) (now (h .exit)) (now (f .exit)) (now (r .exit)) (now (sums .exit))) ⌝ }
+{
+    let verdict = found.verdict;
+    match verdict {
+        Verdict::Refused(why, place) => {
+            let stop = Verdict::Refused(why, place);
+            let value = refuse(stop, transform, h, f, r, sums);
+            told(text, level, 0, value, &sums[..])
+        }
+        Verdict::Accepted => {
+            let fund = found.fund;
+            let rates = found.rates;
+            let members = found.members;
+            let enrolled = found.enrolled;
+            let matched = matching::matched(fund, rates, found.rated, members, enrolled);
+            let value = valued(fund, matched, enrolled, transform, h, f, r, sums);
+            told(text, level, fund.horizon, value, &sums[..])
+        }
+    }
+}
+
 // Prices the fund of a file into five result slices, for D, H, f, R and F, and answers at a level.
 pub fn price(
     file: &[u8],
@@ -99,28 +136,32 @@ pub fn price(
     r: &mut [u64],
     sums: &mut [i64],
 ) -> Priced
-    ensures { λ p. ⌜ Prices (now (file .entry)) level
+    ensures { λ p. ⌜ Prices (now (file .entry)) (reading (now (file .entry))) level
         (lengths (now (transform .entry)) (now (h .entry)) (now (f .entry)) (now (r .entry)) (now (sums .entry))) p
         (left p (now (transform .exit)) (now (h .exit)) (now (f .exit)) (now (r .exit)) (now (sums .exit))) ⌝ }
 {
     let found = reader::read(file);
-    let verdict = found.verdict;
-    match verdict {
-        Verdict::Refused(why, place) => {
-            let stop = Verdict::Refused(why, place);
-            let value = refuse(stop, transform, h, f, r, sums);
-            told(file, level, 0, value, &sums[..])
-        }
-        Verdict::Accepted => {
-            let fund = found.fund;
-            let rates = found.rates;
-            let members = found.members;
-            let enrolled = found.enrolled;
-            let matched = matching::matched(fund, rates, found.rated, members, enrolled);
-            let value = valued(fund, matched, enrolled, transform, h, f, r, sums);
-            told(file, level, fund.horizon, value, &sums[..])
-        }
-    }
+    price_found(file, found, level, transform, h, f, r, sums)
+}
+
+// The same of a header text and two sheets of binary64 cells, of rates and of members. The part that goes with a verdict is one of the header text.
+pub fn price_sheets(
+    header: &[u8],
+    rates: &[u8],
+    members: &[u8],
+    level: u64,
+    transform: &mut [i64],
+    h: &mut [u64],
+    f: &mut [i64],
+    r: &mut [u64],
+    sums: &mut [i64],
+) -> Priced
+    ensures { λ p. ⌜ Prices (now (header .entry)) (sheetReading (now (header .entry)) (now (rates .entry)) (now (members .entry))) level
+        (lengths (now (transform .entry)) (now (h .entry)) (now (f .entry)) (now (r .entry)) (now (sums .entry))) p
+        (left p (now (transform .exit)) (now (h .exit)) (now (f .exit)) (now (r .exit)) (now (sums .exit))) ⌝ }
+{
+    let found = sheet_reader::read(header, rates, members);
+    price_found(header, found, level, transform, h, f, r, sums)
 }
 
 // The line that the host is handed, a part of its own bytes.

@@ -9,11 +9,11 @@ use lib.ListN.{length, take, replicate}
 use Rattle.fund.specs.declared.Verdict.{Verdict}
 use Rattle.fund.specs.declared.Verdict.the-variants.{Accepted, Refused}
 use Rattle.fund.specs.Limits.{most-bound, most-truncation}
-use Rattle.fund.specs.Reading.{FundFile, Reading, read, stopped, reading}
+use Rattle.fund.specs.Reading.{FundFile, Reading, read, stopped}
 use Rattle.fund.specs.Folding.{lives}
 use Rattle.fund.specs.Recursion.{Cell}
 use Rattle.fund.specs.Refusals.{Lengths, verdict}
-use Rattle.fund.specs.Answer.{Answer, fundCells, fundTruncation, fundFigures, refused, lent, accepted, answerOf, answerTo, answer}
+use Rattle.fund.specs.Answer.{Answer, fundCells, fundTruncation, fundFigures, refused, lent, accepted, answerOf, answerTo}
 use Rattle.laws.specs.Accepted.{All, accepts}
 use Rattle.text.specs.Shown.{bounded}
 
@@ -60,10 +60,7 @@ answer-of-in file n fund Accepted e =
     }
 answer-of-in file n fund (Refused why place) e = refused-in file n (Refused why place)
 
-pub answer-in : (file : List ℕ) (n : Lengths) → AnswerIn (answer file n)
-unfolding answer answerTo
-answer-in file n = go (reading file)
-  where
-    go : (r : Reading) → AnswerIn (answerTo file n r)
-    go (read fund) = answer-of-in file n fund _ refl
-    go (stopped why place) = refused-in file n (Refused why place)
+pub answer-in : (text : List ℕ) (n : Lengths) (r : Reading) → AnswerIn (answerTo text n r)
+unfolding answerTo
+answer-in text n (read fund) = answer-of-in text n fund _ refl
+answer-in text n (stopped why place) = refused-in text n (Refused why place)

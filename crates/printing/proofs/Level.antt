@@ -1,4 +1,4 @@
--- What `text::level_line` shows of the call's answer is the line of the file's (level-is), and that of its first bytes (level-first).
+-- What `text::level_line` shows of the call's answer is the line of what was read (level-is), and of a file that of its first bytes (level-first).
 use mathlib.Core.Path.{_≡_, refl, _∙_, ap}
 use mathlib.Core.List.{List, []}
 use Prim.Native.Nat.{ℕ, _≤_}
@@ -12,14 +12,14 @@ use Rattle.fund.specs.Reading.{FundFile, Reading, read, stopped, reading}
 use Rattle.fund.specs.Folding.{lives}
 use Rattle.fund.specs.Refusals.{Lengths, verdict}
 use Rattle.fund.specs.Quantile.{quantileOf}
-use Rattle.fund.specs.Answer.{fundCells, refused, answerOf, answerTo, answer}
+use Rattle.fund.specs.Answer.{fundCells, refused, answerOf, answerTo}
 use Rattle.fund.specs.Listing.{horizonIn, enough}
 use Rattle.text.specs.Writing.{Written}
 use Rattle.text.specs.Level.{answerLine, level-room, levelLineOf}
 use Rattle.pricing.specs.declared.Priced.{Priced}
 use Rattle.pricing.specs.Priced.{left, horizonWith, Answers}
 use Rattle.prefix.specs.Prefix.{most-bytes, reading-first}
-use Rattle.printing.specs.Printed.{lineAtLevel, levelLine, shownLevel}
+use Rattle.printing.specs.Printed.{lineAtLevel, levelLineTo, levelLine, shownLevelTo, shownLevel}
 use Rattle.printing.specs.Input.{HoldsFirst, PrintsLevelFirst}
 use Rattle.printing.proofs.Printing.{lentLengths, answers-enough, shows-first}
 
@@ -28,14 +28,14 @@ quantile-left : (level X : ℕ) (s : List ℤ) (v : Verdict) → quantileOf leve
 quantile-left level X s Accepted = refl
 quantile-left level X s (Refused why place) = refl
 
-pub level-is : (file : List ℕ) (level : ℕ) (p : Priced) (d : List ℤ) (h : List ℕ) (f : List ℤ) (r : List ℕ) (s : List ℤ) → Answers file level p (left p d h f r s) (answer file lentLengths) →
-    (size : ℕ) → levelLineOf (p .verdict) (p .quantile) size ≡ shownLevel file level size
-unfolding levelLineOf levelLine
-level-is file level p d h f r s given size =
-    let k = answers-enough file level p (left p d h f r s) given in
+pub level-is : (text : List ℕ) (r : Reading) (level : ℕ) (p : Priced) (d : List ℤ) (h : List ℕ) (f : List ℤ) (b : List ℕ) (s : List ℤ) → Answers text r level p (left p d h f b s) (answerTo text lentLengths r) →
+    (size : ℕ) → levelLineOf (p .verdict) (p .quantile) size ≡ shownLevelTo text r level size
+unfolding levelLineOf levelLineTo
+level-is text r level p d h f b s given size =
+    let k = answers-enough text r level p (left p d h f b s) given in
     ap (λ (l : List ℕ). if leb level-room size then l else [])
-    (ap (answerLine (p .verdict)) (k .quantile ∙ ap (λ (X : ℕ). quantileOf level X s (p .verdict)) (k .horizon) ∙ quantile-left level (horizonIn (reading file)) s (p .verdict))
-    ∙ ap (lineAtLevel level (horizonIn (reading file))) (k .answer))
+    (ap (answerLine (p .verdict)) (k .quantile ∙ ap (λ (X : ℕ). quantileOf level X s (p .verdict)) (k .horizon) ∙ quantile-left level (horizonIn r) s (p .verdict))
+    ∙ ap (lineAtLevel level (horizonIn r)) (k .answer))
 
 -- the line does not show the part of the bytes that is handed back with a refusal
 line-of : (f g : List ℕ) (n : Lengths) (fund : FundFile) (level X : ℕ) (v : Verdict) → lineAtLevel level X (answerOf f n fund v) ≡ lineAtLevel level X (answerOf g n fund v)
@@ -49,7 +49,7 @@ line-to f g n level X (read fund) = line-of f g n fund level X (verdict fund n (
 line-to f g n level X (stopped why place) = refl
 
 pub level-first : (n : ℕ) (file : List ℕ) (level : ℕ) → most-bytes ≤ n → levelLine (take n file) level ≡ levelLine file level
-unfolding levelLine answer
+unfolding levelLineTo
 level-first n file level h =
     ap (λ (r : Reading). lineAtLevel level (horizonIn r) (answerTo (take n file) enough r)) (reading-first n file h) ∙ line-to (take n file) file enough level (horizonIn (reading file)) (reading file)
 

@@ -1,4 +1,4 @@
--- What `text::listing` shows of the call's answer is the file's listing (shown-is).
+-- What `text::listing` shows of the call's answer is the listing of what was read (shown-is).
 use mathlib.Core.Path.{_≡_, refl, sym, _∙_, ap, subst}
 use mathlib.Core.Bool.{Bool, true, false, _&&_}
 use mathlib.Core.List.{List, []}
@@ -12,18 +12,18 @@ use Rattle.fund.specs.declared.Verdict.{Verdict}
 use Rattle.fund.specs.declared.Verdict.the-variants.{Accepted, Refused}
 use Rattle.fund.specs.Base.{if_then_else_}
 use Rattle.fund.specs.Limits.{most-horizon, most-truncation}
-use Rattle.fund.specs.Reading.{Reading, read, stopped, reading}
+use Rattle.fund.specs.Reading.{FundFile, Reading, read, stopped}
 use Rattle.fund.specs.Refusals.{Lengths}
-use Rattle.fund.specs.Answer.{Answer, answer}
-use Rattle.fund.specs.Listing.{listed, printed, horizonIn, enough, listing}
-use Rattle.laws.specs.Ranges.{read-ranges}
+use Rattle.fund.specs.Answer.{Answer, answerTo}
+use Rattle.fund.specs.Listing.{listed, printed, horizonIn, enough, listingTo}
+use Rattle.laws.specs.Ranges.{FundOk}
 use Rattle.text.specs.Writing.{Written}
 use Rattle.text.specs.Shown.{room, shownAnswer, printable, listingOf}
 use Rattle.valuation.specs.Valued.{lengths}
 use Rattle.pricing.specs.declared.Priced.{Priced}
 use Rattle.pricing.specs.Priced.{left, horizonWith, Answers}
 use Rattle.prefix.specs.Prefix.{most-bytes, listing-first}
-use Rattle.printing.specs.Printed.{shown}
+use Rattle.printing.specs.Printed.{shownTo, shown}
 use Rattle.printing.specs.Input.{HoldsFirst, ShowsFirst, PrintsFirst}
 use Rattle.printing.proofs.Bounded.{AnswerIn, bounded-first, answer-in}
 
@@ -52,17 +52,14 @@ lentLengths = lengths signedCells cells signedCells cells signedCells
 enough-lent : lentLengths ≡ enough
 enough-lent = rw (signed-length, cells-length)
 
-pub answers-enough : (file : List ℕ) (level : ℕ) (p : Priced) (a : Answer) → Answers file level p a (answer file lentLengths) → Answers file level p a (answer file enough)
-answers-enough file level p a k = subst (λ (n : Lengths). Answers file level p a (answer file n)) enough-lent k
+pub answers-enough : (text : List ℕ) (r : Reading) (level : ℕ) (p : Priced) (a : Answer) → Answers text r level p a (answerTo text lentLengths r) → Answers text r level p a (answerTo text enough r)
+answers-enough text r level p a k = subst (λ (n : Lengths). Answers text r level p a (answerTo text n r)) enough-lent k
 
-horizon-most : (file : List ℕ) (v : Verdict) → horizonWith v (horizonIn (reading file)) ≤ most-horizon
+horizon-most : (r : Reading) → ((fund : FundFile) → r ≡ read fund → FundOk fund) → (v : Verdict) → horizonWith v (horizonIn r) ≤ most-horizon
 unfolding horizonIn
-horizon-most file (Refused why place) = omega arith
-horizon-most file Accepted = go (reading file) refl
-  where
-    go : (r : Reading) → reading file ≡ r → horizonIn r ≤ most-horizon
-    go (read fund) e = read-ranges file fund e .header .horizon
-    go (stopped why place) e = omega arith
+horizon-most r ok (Refused why place) = omega arith
+horizon-most (read fund) ok Accepted = ok fund refl .header .horizon
+horizon-most (stopped why place) ok Accepted = omega arith
 
 -- a listing shows the same of a refusal for every horizon
 printed-left : (p : Priced) (d : List ℤ) (h : List ℕ) (f : List ℤ) (r : List ℕ) (s : List ℤ) (X : ℕ) (v : Verdict) →
@@ -71,29 +68,30 @@ unfolding printed listed
 printed-left p d h f r s X Accepted = refl
 printed-left p d h f r s X (Refused why place) = refl
 
-module _ (file : List ℕ) (level : ℕ) (p : Priced) (d : List ℤ) (h : List ℕ) (f : List ℤ) (r : List ℕ) (s : List ℤ) (given : Answers file level p (left p d h f r s) (answer file lentLengths)) where
-  k : Answers file level p (left p d h f r s) (answer file enough)
-  k = answers-enough file level p (left p d h f r s) given
+module _ (text : List ℕ) (r : Reading) (ok : (fund : FundFile) → r ≡ read fund → FundOk fund) (level : ℕ) (p : Priced) (d : List ℤ) (h : List ℕ) (f : List ℤ) (b : List ℕ) (s : List ℤ)
+    (given : Answers text r level p (left p d h f b s) (answerTo text lentLengths r)) where
+  k : Answers text r level p (left p d h f b s) (answerTo text enough r)
+  k = answers-enough text r level p (left p d h f b s) given
 
   abbrev shownOne : Answer
-  shownOne = shownAnswer (p .verdict) (p .figures) f r
+  shownOne = shownAnswer (p .verdict) (p .figures) f b
 
-  within : AnswerIn (left p d h f r s)
-  within = rw (k .answer) (answer-in file enough)
+  within : AnswerIn (left p d h f b s)
+  within = rw (k .answer) (answer-in text enough r)
 
   X-most : p .horizon ≤ most-horizon
-  X-most = rw (k .horizon) (horizon-most file (p .verdict))
+  X-most = rw (k .horizon) (horizon-most r ok (p .verdict))
 
-  module _ (lf : length f ≡ suc most-horizon) (lr : length r ≡ suc most-horizon) (size : ℕ) where
-    range-is : printable (p .figures .truncation) (p .horizon) (length f) r size ≡ leb room size
+  module _ (lf : length f ≡ suc most-horizon) (lr : length b ≡ suc most-horizon) (size : ℕ) where
+    range-is : printable (p .figures .truncation) (p .horizon) (length f) b size ≡ leb room size
     unfolding printable
     range-is =
         rw (
           le-leb (p .horizon) most-horizon X-most,
           lt-ltb (p .horizon) (length f) (omega (arith, X-most, lf)),
-          lt-ltb (p .horizon) (length r) (omega (arith, X-most, lr)),
+          lt-ltb (p .horizon) (length b) (omega (arith, X-most, lr)),
           le-leb (p .figures .truncation) most-truncation (within .truncation),
-          bounded-first (suc (p .horizon)) r (within .bounds),
+          bounded-first (suc (p .horizon)) b (within .bounds),
         )
         (both (leb room size))
       where
@@ -101,14 +99,14 @@ module _ (file : List ℕ) (level : ℕ) (p : Priced) (d : List ℤ) (h : List �
         both true = refl
         both false = refl
 
-    pub shown-is : listingOf shownOne (p .horizon) size ≡ shown file size
-    unfolding listingOf listing
+    pub shown-is : listingOf shownOne (p .horizon) size ≡ shownTo text r size
+    unfolding listingOf listingTo
     shown-is =
         rw range-is
         (ap (λ (l : List ℕ). if leb room size then l else [])
         (ap (λ (X : ℕ). printed shownOne X (p .verdict)) (k .horizon)
-        ∙ printed-left p d h f r s (horizonIn (reading file)) (p .verdict)
-        ∙ ap (λ (a : Answer). printed a (horizonIn (reading file)) (a .verdict)) (k .answer)))
+        ∙ printed-left p d h f b s (horizonIn r) (p .verdict)
+        ∙ ap (λ (a : Answer). printed a (horizonIn r) (a .verdict)) (k .answer)))
 
 -- What is shown of a file that is the same for its first bytes.
 pub shows-first : {of : List ℕ → ℕ → List ℕ} → ((n : ℕ) (file : List ℕ) (m : ℕ) → most-bytes ≤ n → of (take n file) m ≡ of file m) →

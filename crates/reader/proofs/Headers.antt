@@ -11,7 +11,7 @@ use lib.Seq.{drop-cons, getD-set-same, getD-set-other}
 use Rattle.fund.specs.declared.Refusal.the-variants.{Form, Range}
 use Rattle.fund.specs.Lines.{linesFrom, lines}
 use Rattle.fund.specs.Spelling.{spelled}
-use Rattle.fund.specs.Reading.{stopped, inRanges, HeaderLine, headerLines, headerOf, readHeader, readRows, reading}
+use Rattle.fund.specs.Reading.{stopped, inRanges, HeaderLine, headerLines, headerOf, readHeader}
 use Rattle.laws.specs.Accepted.{All}
 use Rattle.laws.specs.Ranges.{spelled-length}
 use Rattle.spelling.specs.declared.Numbers.{Numbers}
@@ -20,7 +20,7 @@ use Rattle.spelling.proofs.Texts.{numbers-none, numbers-some}
 use Rattle.reader.specs.declared.line.Line.{Line}
 use Rattle.reader.specs.declared.header.HeaderStep.the-variants.{Values, Stopped}
 use Rattle.reader.specs.Lines.{linesAt, lineIn, NextLine}
-use Rattle.reader.specs.Header.{noLine, headerLine, numbersOf, lineNumbers, headerFrom, HeaderStepped}
+use Rattle.reader.specs.Header.{After, noLine, headerLine, numbersOf, lineNumbers, headerFrom, HeaderStepped}
 
 first-two : (count : ℕ) (ns : List ℕ) → count ≤ 2 → length (take count ns) ≡ count → take count ns ≡ take count (getD ns 0 0 ∷ getD ns 1 0 ∷ [])
 first-two zero ns h e = refl
@@ -46,13 +46,13 @@ split : (k : ℕ) → k < length headerLines → drop k headerLines ≡ headerLi
 unfolding headerLines headerLine
 split k h = drop-cons headerLines k noLine h
 
-module _ (file : List ℕ) (k at : ℕ) (h : k < length headerLines) (ns : List ℕ) where
-  pub header-missing : length file ≤ at → headerFrom file k ns at ≡ stopped Form (k + 1)
+module _ (after : After) (file : List ℕ) (k at : ℕ) (h : k < length headerLines) (ns : List ℕ) where
+  pub header-missing : length file ≤ at → headerFrom after file k ns at ≡ stopped Form (k + 1)
   unfolding readHeader linesFrom
   header-missing g = rw (split k h, drop-of-length-le file g)
 
   module _ (l : Line) (n : NextLine file at l) where
-    pub header-form : spelled (headerLine k .key) (numbersOf k) (lineIn file l) ≡ none → headerFrom file k ns at ≡ stopped Form (k + 1)
+    pub header-form : spelled (headerLine k .key) (numbersOf k) (lineIn file l) ≡ none → headerFrom after file k ns at ≡ stopped Form (k + 1)
     unfolding readHeader
     header-form e = rw (split k h, n .first) (rw (e, readHeader))
 
@@ -61,38 +61,38 @@ module _ (file : List ℕ) (k at : ℕ) (h : k < length headerLines) (ns : List 
       values-are =
           e ∙ ap some (first-two (numbersOf k) v (few-ranges k h) (spelled-length (headerLine k .key) (numbersOf k) (lineIn file l) (take (numbersOf k) v) e))
 
-      pub header-range : inRanges (headerLine k .ranges) (lineNumbers k (getD v 0 0) (getD v 1 0)) ≡ false → headerFrom file k ns at ≡ stopped Range (k + 1)
+      pub header-range : inRanges (headerLine k .ranges) (lineNumbers k (getD v 0 0) (getD v 1 0)) ≡ false → headerFrom after file k ns at ≡ stopped Range (k + 1)
       unfolding readHeader
       header-range f = rw (split k h, n .first) (rw (values-are, readHeader) (rw (f, readHeader)))
 
       pub header-next : inRanges (headerLine k .ranges) (lineNumbers k (getD v 0 0) (getD v 1 0)) ≡ true →
-          headerFrom file k ns at ≡ headerFrom file (k + 1) (ns ++ lineNumbers k (getD v 0 0) (getD v 1 0)) (l .next)
+          headerFrom after file k ns at ≡ headerFrom after file (k + 1) (ns ++ lineNumbers k (getD v 0 0) (getD v 1 0)) (l .next)
       unfolding readHeader
       header-next f = rw (split k h, n .first, add-one k) (rw (values-are, readHeader) (rw (f, readHeader) (rw (add-one (suc k)))))
 
 -- What a step answers.
 module _ (file : List ℕ) (k at : ℕ) (h : k < length headerLines) where
   pub step-missing : length file ≤ at → HeaderStepped file k at (Stopped Form)
-  step-missing g ns = header-missing file k at h ns g
+  step-missing g after ns = header-missing after file k at h ns g
 
   module _ (l : Line) (n : NextLine file at l) (r : Numbers) (e : numbersIn (numbersOf k) r ≡ spelled (headerLine k .key) (numbersOf k) (lineIn file l)) where
     pub step-form : r .spelled ≡ false → HeaderStepped file k at (Stopped Form)
-    step-form g ns = header-form file k at h ns l n (sym e ∙ numbers-none (numbersOf k) r g)
+    step-form g after ns = header-form after file k at h ns l n (sym e ∙ numbers-none (numbersOf k) r g)
 
     module _ (g : r .spelled ≡ true) where
       is : spelled (headerLine k .key) (numbersOf k) (lineIn file l) ≡ some (take (numbersOf k) (r .values))
       is = sym e ∙ numbers-some (numbersOf k) r g
 
       pub step-range : inRanges (headerLine k .ranges) (lineNumbers k (getD (r .values) 0 0) (getD (r .values) 1 0)) ≡ false → HeaderStepped file k at (Stopped Range)
-      step-range b ns = header-range file k at h ns l n (r .values) is b
+      step-range b after ns = header-range after file k at h ns l n (r .values) is b
 
       pub step-next : inRanges (headerLine k .ranges) (lineNumbers k (getD (r .values) 0 0) (getD (r .values) 1 0)) ≡ true →
           HeaderStepped file k at (Values (getD (r .values) 0 0) (getD (r .values) 1 0) (l .next))
-      step-next b ns = header-next file k at h ns l n (r .values) is b
+      step-next b after ns = header-next after file k at h ns l n (r .values) is b
 
-pub header-start : (file : List ℕ) → reading file ≡ headerFrom file 0 [] 0
-unfolding reading lines
-header-start file = refl
+pub header-start : (after : After) (file : List ℕ) → readHeader after headerLines 1 [] (lines file) ≡ headerFrom after file 0 [] 0
+unfolding lines
+header-start after file = refl
 
 -- The numbers of the first k header lines, from the first numbers and the second numbers of all lines.
 unfoldable pub numbersBefore : ℕ → List ℕ → List ℕ → List ℕ
@@ -112,7 +112,7 @@ module _ (firsts seconds : List ℕ) (k first second : ℕ) where
   numbers-next h g =
       ap₂ _++_ (numbers-kept k (omega arith)) (ap₂ (lineNumbers k) (getD-set-same firsts k first 0 h) (getD-set-same seconds k second 0 g))
 
-pub header-end : (file firsts seconds : List ℕ) (k at : ℕ) → k ≡ length headerLines →
-    headerFrom file k (numbersBefore k firsts seconds) at ≡ readRows (suc (length headerLines)) (headerOf (numbersBefore (length headerLines) firsts seconds)) [] [] (linesAt file at)
+pub header-end : (after : After) (file firsts seconds : List ℕ) (k at : ℕ) → k ≡ length headerLines →
+    headerFrom after file k (numbersBefore k firsts seconds) at ≡ after (suc (length headerLines)) (headerOf (numbersBefore (length headerLines) firsts seconds)) (linesAt file at)
 unfolding readHeader
-header-end file firsts seconds k at z = rw (z, drop-of-length-le headerLines {i = length headerLines} (omega arith), add-one (length headerLines))
+header-end after file firsts seconds k at z = rw (z, drop-of-length-le headerLines {i = length headerLines} (omega arith), add-one (length headerLines))

@@ -1,7 +1,7 @@
 -- Where reading the rows stands: the tables hold the rows that are read, and the reading of the file is that from here on.
 use mathlib.Core.Path.{_≡_, refl, sym, ap, _∙_}
 use mathlib.Core.List.{List, [], _∷_, _++_}
-use Prim.Native.Nat.{ℕ, suc, _+_, _≤_}
+use Prim.Native.Nat.{ℕ, suc, _+_, _≤_, _<_}
 use native.Mathlib.Numerals.{add-one}
 use native.Mathlib.Omega.{arith}
 use lib.ListN.{length, set, length-append}
@@ -11,18 +11,20 @@ use Rattle.fund.specs.declared.Member.{Member}
 use Rattle.fund.specs.declared.Refusal.{Refusal}
 use Rattle.fund.specs.declared.Verdict.the-variants.{Accepted}
 use Rattle.fund.specs.Limits.{most-rates, most-members}
-use Rattle.fund.specs.Reading.{stopped, headerLines, readRows, reading}
+use Rattle.fund.specs.Reading.{read, stopped, headerLines, fileRows, readRows, reading}
 use Rattle.laws.specs.Rows.{blankRate, blankMember, rows-length, rows-put}
 use Rattle.reader.specs.declared.FileRead.{FileRead}
+use Rattle.reader.specs.declared.header.Header.the-variants.{Whole}
+use Rattle.reader.specs.declared.row.RowStep.{RowStep}
 use Rattle.reader.specs.declared.row.RowStep.the-variants.{Rate as RateNext, Member as MemberNext, End, Stopped}
 use Rattle.reader.specs.Lines.{linesAt}
-use Rattle.reader.specs.Rows.{leastAge, rowsFrom, RowStepped}
+use Rattle.reader.specs.Header.{HeaderRead}
+use Rattle.reader.specs.Rows.{leastAge, rowsFrom, afterRowLine, RowStepped}
 use Rattle.reader.specs.Read.{rateTable, memberTable, fileRead}
 use Rattle.reader.proofs.Rows.{least-last}
 
-pub record RowsSoFar (file : List ℕ) (fund : Fund) (rates : List Rate) (members : List Member) (rated enrolled least at : ℕ) : Type 0 where
-  pub rs : List Rate
-  pub ms : List Member
+-- The tables hold the rows that are read.
+pub record Tables (rs : List Rate) (ms : List Member) (rates : List Rate) (members : List Member) (rated enrolled least : ℕ) : Type 0 where
   pub rates-are : rates ≡ rateTable rs
   pub members-are : members ≡ memberTable ms
   pub rated-is : length rs ≡ rated
@@ -30,73 +32,77 @@ pub record RowsSoFar (file : List ℕ) (fund : Fund) (rates : List Rate) (member
   pub few-rates : rated ≤ most-rates
   pub few-members : enrolled ≤ most-members
   pub least-is : leastAge rs ≡ least
-  pub same : reading file ≡ rowsFrom file fund rs ms at
 
-pub start : (file : List ℕ) (fund : Fund) (at : ℕ) → reading file ≡ readRows (suc (length headerLines)) fund [] [] (linesAt file at) → RowsSoFar file fund (rateTable []) (memberTable []) 0 0 0 at
+pub blank : Tables [] [] (rateTable []) (memberTable []) 0 0 0
 unfolding leastAge
-start file fund at e =
-    let z : suc (length headerLines) ≡ suc (length headerLines + 0 + 0) = omega arith in
-    record {
-      rs = [];
-      ms = [];
-      rates-are = refl;
-      members-are = refl;
-      rated-is = refl;
-      enrolled-is = refl;
-      few-rates = omega arith;
-      few-members = omega arith;
-      least-is = refl;
-      same = e ∙ ap (λ k. readRows k fund [] [] (linesAt file at)) z;
-    }
+blank = record { rates-are = refl; members-are = refl; rated-is = refl; enrolled-is = refl; few-rates = omega arith; few-members = omega arith; least-is = refl }
 
-module _ (file : List ℕ) (fund : Fund) (rates : List Rate) (members : List Member) (rated enrolled least at : ℕ) (s : RowsSoFar file fund rates members rated enrolled least at) where
+module _ (rs : List Rate) (ms : List Member) (rates : List Rate) (members : List Member) (rated enrolled least : ℕ) (t : Tables rs ms rates members rated enrolled least) where
   pub rates-long : length rates ≡ most-rates
   unfolding rateTable
-  rates-long = ap length (s .rates-are) ∙ rows-length blankRate most-rates (s .rs) (omega (arith, s .rated-is, s .few-rates))
+  rates-long = ap length (t .rates-are) ∙ rows-length blankRate most-rates rs (omega (arith, t .rated-is, t .few-rates))
 
   pub members-long : length members ≡ most-members
   unfolding memberTable
-  members-long = ap length (s .members-are) ∙ rows-length blankMember most-members (s .ms) (omega (arith, s .enrolled-is, s .few-members))
+  members-long = ap length (t .members-are) ∙ rows-length blankMember most-members ms (omega (arith, t .enrolled-is, t .few-members))
+
+  pub rate-put : (r : Rate) → rated < most-rates → Tables (rs ++ (r ∷ [])) ms (set rates rated r) members (rated + 1) enrolled (r .age + 1)
+  unfolding rateTable
+  rate-put r few =
+      record {
+        rates-are = rw (t .rates-are, ← t .rated-is) (rows-put blankRate r most-rates rs (omega (arith, t .rated-is, few)));
+        members-are = t .members-are;
+        rated-is = omega (arith, length-append rs (r ∷ []), t .rated-is);
+        enrolled-is = t .enrolled-is;
+        few-rates = omega (arith, few);
+        few-members = t .few-members;
+        least-is = least-last rs r ∙ sym (add-one (r .age));
+      }
+
+  pub member-put : (m : Member) → enrolled < most-members → Tables rs (ms ++ (m ∷ [])) rates (set members enrolled m) rated (enrolled + 1) least
+  unfolding memberTable
+  member-put m few =
+      record {
+        rates-are = t .rates-are;
+        members-are = rw (t .members-are, ← t .enrolled-is) (rows-put blankMember m most-members ms (omega (arith, t .enrolled-is, few)));
+        rated-is = t .rated-is;
+        enrolled-is = omega (arith, length-append ms (m ∷ []), t .enrolled-is);
+        few-rates = t .few-rates;
+        few-members = omega (arith, few);
+        least-is = t .least-is;
+      }
+
+  pub all-read : (fund : Fund) → record { verdict = Accepted; fund = fund; rates = rates; rated = rated; members = members; enrolled = enrolled } ≡ fileRead (read (record { header = fund; rates = rs; members = ms }))
+  unfolding fileRead
+  all-read fund = rw (t .rates-are, t .members-are, t .rated-is, t .enrolled-is)
+
+-- What is left to be read stands from a place of the file on.
+pub record RowsSoFar (file : List ℕ) (fund : Fund) (rates : List Rate) (members : List Member) (rated enrolled least at : ℕ) : Type 0 where
+  pub rs : List Rate
+  pub ms : List Member
+  pub tables : Tables rs ms rates members rated enrolled least
+  pub same : reading file ≡ rowsFrom file fund rs ms at
+
+pub start : (file : List ℕ) (fund : Fund) (at : ℕ) → HeaderRead file (Whole fund at) → RowsSoFar file fund (rateTable []) (memberTable []) 0 0 0 at
+unfolding reading
+start file fund at e =
+    let z : suc (length headerLines) ≡ suc (length headerLines + 0 + 0) = omega arith in
+    record { rs = []; ms = []; tables = blank; same = e fileRows ∙ ap (λ k. readRows k fund [] [] (linesAt file at)) z }
+
+module _ (file : List ℕ) (fund : Fund) (rates : List Rate) (members : List Member) (rated enrolled least at : ℕ) (s : RowsSoFar file fund rates members rated enrolled least at) where
+  after : (step : RowStep) → RowStepped file at rated enrolled least step → reading file ≡ afterRowLine file fund (s .rs) (s .ms) step
+  after step w = s .same ∙ w .same fund (s .rs) (s .ms) (s .tables .rated-is) (s .tables .enrolled-is) (s .tables .least-is)
 
   pub rate-taken : (r : Rate) (next : ℕ) → RowStepped file at rated enrolled least (RateNext r next) → RowsSoFar file fund (set rates rated r) members (rated + 1) enrolled (r .age + 1) next
-  unfolding rateTable
   rate-taken r next w =
-      let few = w .takes .0 .few in
-      record {
-        rs = s .rs ++ (r ∷ []);
-        ms = s .ms;
-        rates-are = rw (s .rates-are, ← s .rated-is) (rows-put blankRate r most-rates (s .rs) (omega (arith, s .rated-is, few)));
-        members-are = s .members-are;
-        rated-is = omega (arith, length-append (s .rs) (r ∷ []), s .rated-is);
-        enrolled-is = s .enrolled-is;
-        few-rates = omega (arith, few);
-        few-members = s .few-members;
-        least-is = least-last (s .rs) r ∙ sym (add-one (r .age));
-        same = s .same ∙ w .same fund (s .rs) (s .ms) (s .rated-is) (s .enrolled-is) (s .least-is);
-      }
+      record { rs = s .rs ++ (r ∷ []); ms = s .ms; tables = rate-put (s .rs) (s .ms) rates members rated enrolled least (s .tables) r (w .takes .0 .few); same = after _ w }
 
   pub member-taken : (m : Member) (next : ℕ) → RowStepped file at rated enrolled least (MemberNext m next) → RowsSoFar file fund rates (set members enrolled m) rated (enrolled + 1) least next
-  unfolding memberTable
   member-taken m next w =
-      let few = w .takes .few in
-      record {
-        rs = s .rs;
-        ms = s .ms ++ (m ∷ []);
-        rates-are = s .rates-are;
-        members-are = rw (s .members-are, ← s .enrolled-is) (rows-put blankMember m most-members (s .ms) (omega (arith, s .enrolled-is, few)));
-        rated-is = s .rated-is;
-        enrolled-is = omega (arith, length-append (s .ms) (m ∷ []), s .enrolled-is);
-        few-rates = s .few-rates;
-        few-members = omega (arith, few);
-        least-is = s .least-is;
-        same = s .same ∙ w .same fund (s .rs) (s .ms) (s .rated-is) (s .enrolled-is) (s .least-is);
-      }
+      record { rs = s .rs; ms = s .ms ++ (m ∷ []); tables = member-put (s .rs) (s .ms) rates members rated enrolled least (s .tables) m (w .takes .few); same = after _ w }
 
   pub at-end : RowStepped file at rated enrolled least End → record { verdict = Accepted; fund = fund; rates = rates; rated = rated; members = members; enrolled = enrolled } ≡ fileRead (reading file)
-  unfolding fileRead
-  at-end w =
-      rw (s .same ∙ w .same fund (s .rs) (s .ms) (s .rated-is) (s .enrolled-is) (s .least-is), s .rates-are, s .members-are, s .rated-is, s .enrolled-is)
+  at-end w = all-read (s .rs) (s .ms) rates members rated enrolled least (s .tables) fund ∙ ap fileRead (sym (after _ w))
 
   pub at-stop : (why : Refusal) (place : ℕ) (r : FileRead) → RowStepped file at rated enrolled least (Stopped why place) → r ≡ fileRead (stopped why place) → r ≡ fileRead (reading file)
-  at-stop why place r w e =
-      e ∙ ap fileRead (sym (s .same ∙ w .same fund (s .rs) (s .ms) (s .rated-is) (s .enrolled-is) (s .least-is)))
+  at-stop why place r w e = e ∙ ap fileRead (sym (after _ w))

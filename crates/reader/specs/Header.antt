@@ -3,7 +3,9 @@ use mathlib.Core.Path.{_≡_}
 use mathlib.Core.List.{List, [], _∷_, _++_}
 use Prim.Native.Nat.{ℕ, suc, _+_}
 use lib.ListN.{length, take, drop, getD}
-use Rattle.fund.specs.Reading.{Reading, stopped, HeaderLine, headerLines, readHeader, readRows, reading}
+use Rattle.fund.specs.declared.Fund.{Fund}
+use Rattle.fund.specs.Lines.{Line as FundLine, lines}
+use Rattle.fund.specs.Reading.{Reading, stopped, HeaderLine, headerLines, readHeader}
 use Rattle.reader.specs.declared.header.HeaderStep.{HeaderStep}
 use Rattle.reader.specs.declared.header.HeaderStep.the-variants.{Values, Stopped}
 use Rattle.reader.specs.declared.header.Header.{Header}
@@ -24,19 +26,27 @@ numbersOf k = length (headerLine k .ranges)
 abbrev pub lineNumbers : ℕ → ℕ → ℕ → List ℕ
 lineNumbers k first second = take (numbersOf k) (first ∷ second ∷ [])
 
+-- What follows a header: the rows of a file, or of sheets.
+abbrev pub After : Type 0
+After = ℕ → Fund → List FundLine → Reading
+
 -- The reading from the header line k on, after the numbers ns.
-abbrev pub headerFrom : List ℕ → ℕ → List ℕ → ℕ → Reading
-headerFrom file k ns at = readHeader (drop k headerLines) (k + 1) ns (linesAt file at)
+abbrev pub headerFrom : After → List ℕ → ℕ → List ℕ → ℕ → Reading
+headerFrom after text k ns at = readHeader after (drop k headerLines) (k + 1) ns (linesAt text at)
 
 -- The reading after the header line k, after the numbers ns.
-abbrev pub afterHeaderLine : List ℕ → ℕ → List ℕ → HeaderStep → Reading
-afterHeaderLine file k ns (Values first second next) = headerFrom file (k + 1) (ns ++ lineNumbers k first second) next
-afterHeaderLine file k ns (Stopped why) = stopped why (k + 1)
+abbrev pub afterHeaderLine : After → List ℕ → ℕ → List ℕ → HeaderStep → Reading
+afterHeaderLine after text k ns (Values first second next) = headerFrom after text (k + 1) (ns ++ lineNumbers k first second) next
+afterHeaderLine after text k ns (Stopped why) = stopped why (k + 1)
 
--- The header line k at a place decides how the file is read, whatever numbers stand before it.
+-- The header line k at a place decides how the text is read, whatever numbers stand before it and whatever follows the header.
 abbrev pub HeaderStepped : List ℕ → ℕ → ℕ → HeaderStep → Type 0
-HeaderStepped file k at step = (ns : List ℕ) → headerFrom file k ns at ≡ afterHeaderLine file k ns step
+HeaderStepped text k at step = (after : After) (ns : List ℕ) → headerFrom after text k ns at ≡ afterHeaderLine after text k ns step
 
+abbrev pub afterHeader : After → List ℕ → Header → Reading
+afterHeader after text (Whole fund at) = after (suc (length headerLines)) fund (linesAt text at)
+afterHeader after text (HeaderStopped why place) = stopped why place
+
+-- The header's figures and the lines behind it, or where reading stops, whatever follows the header.
 abbrev pub HeaderRead : List ℕ → Header → Type 0
-HeaderRead file (Whole fund at) = reading file ≡ readRows (suc (length headerLines)) fund [] [] (linesAt file at)
-HeaderRead file (HeaderStopped why place) = reading file ≡ stopped why place
+HeaderRead text h = (after : After) → readHeader after headerLines 1 [] (lines text) ≡ afterHeader after text h

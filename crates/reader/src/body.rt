@@ -51,7 +51,7 @@ fn no_member() -> Member
 }
 
 // A refusal at a line; all else is blank.
-pub(crate) fn without_rows(why: Refusal, place: u64) -> FileRead
+pub fn without_rows(why: Refusal, place: u64) -> FileRead
     ensures { λ r. ⌜ r ≡ fileRead (stopped why place) ⌝ }
 {
     let fund = no_fund();

@@ -21,8 +21,8 @@ pub(crate) enum HeaderStep {
     Stopped(Refusal),
 }
 
-// What the header gives: its figures and the first row's start, or why reading stops and at which line.
-pub(crate) enum Header {
+// What the header gives: its figures and where its last line ends, or why reading stops and at which line.
+pub enum Header {
     Whole(Fund, usize),
     Stopped(Refusal, u64),
 }
@@ -101,7 +101,8 @@ fn header_step(file: &[u8], at: usize, k: usize) -> HeaderStep
     HeaderStep::Stopped(Refusal::Form)
 }
 
-pub(crate) fn read_header(file: &[u8]) -> Header
+// Every header line of a text, which a file begins with.
+pub fn read_header(file: &[u8]) -> Header
     ensures { λ r. ⌜ HeaderRead (now (file .entry)) r ⌝ }
 {
     let mut firsts = [0u64; Fund::HEADER_LINES];

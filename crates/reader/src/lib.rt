@@ -5,13 +5,17 @@ mod line;
 mod part;
 mod row;
 
+pub use body::without_rows;
 use fund::Fund;
 use fund::Member;
 use fund::Rate;
 use fund::Verdict;
-use header::Header;
+pub use header::Header;
+pub use header::read_header;
 pub use part::Part;
 pub use part::part_of;
+pub use row::member_in_range;
+pub use row::rate_in_range;
 ghost use mathlib.Core.Path.{_≡_};
 ghost use Rattle.fund.specs.Reading.{reading};
 ghost use Rattle.reader.specs.Read.{fileRead};

@@ -32,6 +32,7 @@ fn names_line(why: Refusal) -> bool
         Refusal::Order => false,
         Refusal::Short => false,
         Refusal::Wide => false,
+        Refusal::Cell => false,
     }
 }
 

@@ -68,7 +68,7 @@ fn line_place(rated: usize, enrolled: usize) -> u64
 }
 
 // The rate row behind `rated` others; `least` is the least age that is above theirs.
-fn rate_in_range(rated: usize, least: u64, r: Rate) -> bool
+pub fn rate_in_range(rated: usize, least: u64, r: Rate) -> bool
     ensures { λ t. ⌜ t ≡ rateFits rated least r ⌝ }
 {
     if Fund::RATE_ROWS <= rated {
@@ -89,7 +89,8 @@ fn rate_in_range(rated: usize, least: u64, r: Rate) -> bool
     r.q + r.i <= Fund::MOST_RATE
 }
 
-fn member_in_range(enrolled: usize, m: Member) -> bool
+// The member row behind `enrolled` others.
+pub fn member_in_range(enrolled: usize, m: Member) -> bool
     ensures { λ t. ⌜ t ≡ memberFits enrolled m ⌝ }
 {
     if Fund::MEMBER_ROWS <= enrolled {

@@ -5,7 +5,7 @@ use Rattle.claims.proofs.claimed_level.Statement.{statement}
 use Rattle.claims.proofs.claimed_level.Tie as tie
 
 returns : tie.Need-returns
-returns c = prints-level _ _ _ _ _ (c .before .before .print-level .ensures .0)
+returns c = prints-level _ _ _ _ _ _ (c .before .before .print-level .ensures .0)
 
 pub claimed-level-spec : {M : Type 1} → statement M
 claimed-level-spec = tie.close (tie.spec (λ c κs. search needs) (λ c. search needs) returns)

@@ -8,7 +8,7 @@ returns : tie.Need-returns
 returns c =
     let p = c .before .before .before .before .before .before .before .price in
     let o = p .last .1 .1 in
-    price-demands _ _ _ (p .result) (o .0) (o .1 .0) (o .1 .1 .0) (o .1 .1 .1 .0) (o .1 .1 .1 .1 .0) (p .ensures)
+    price-demands _ _ _ _ (p .result) (o .0) (o .1 .0) (o .1 .1 .0) (o .1 .1 .1 .0) (o .1 .1 .1 .1 .0) (p .ensures)
 
 pub claimed-price-spec : {M : Type 1} → statement M
 claimed-price-spec =

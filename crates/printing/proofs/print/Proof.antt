@@ -4,6 +4,7 @@ use mathlib.Core.List.{List}
 use Prim.Native.Nat.{ℕ}
 use borrow.Author.Needs.{needs}
 use lib.ListN.{length}
+use Rattle.laws.specs.Ranges.{read-ranges}
 use Rattle.text.specs.Writing.{Written}
 use Rattle.printing.proofs.Printing.{written-within, cells-length, signed-length, shown-is}
 use Rattle.printing.proofs.print.Statement.{statement}
@@ -18,7 +19,7 @@ returns c =
     let l = listed .listing in
     let o = p .last .1 .1 in
     let w = subst (λ (t : List ℕ). Written t (a .text .now) (l .last .1 .1 .1 .1 .1 .0) (l .result))
-    (shown-is (a .file .now) 0 (p .result) (o .0) (o .1 .0) (o .1 .1 .0) (o .1 .1 .1 .0) (o .1 .1 .1 .1 .0) (p .ensures .answers) (p .kept .1 .1 .1 .1 .0 ∙ signed-length) (p .kept .1 .1 .1 .1 .1 .0 ∙ cells-length) (length (a .text .now)))
+    (shown-is (a .file .now) _ (read-ranges (a .file .now)) 0 (p .result) (o .0) (o .1 .0) (o .1 .1 .0) (o .1 .1 .1 .0) (o .1 .1 .1 .1 .0) (p .ensures .answers) (p .kept .1 .1 .1 .1 .0 ∙ signed-length) (p .kept .1 .1 .1 .1 .1 .0 ∙ cells-length) (length (a .text .now)))
     (l .ensures) in
     (w, written-within w)
 

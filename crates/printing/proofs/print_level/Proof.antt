@@ -19,7 +19,7 @@ returns c =
     let l = shown .level-line in
     let o = p .last .1 .1 in
     let w = subst (λ (t : List ℕ). Written t (a .text .now) (l .last .1 .1 .0) (l .result))
-    (level-is (a .file .now) _ (p .result) (o .0) (o .1 .0) (o .1 .1 .0) (o .1 .1 .1 .0) (o .1 .1 .1 .1 .0) (p .ensures .answers) (length (a .text .now)))
+    (level-is (a .file .now) _ _ (p .result) (o .0) (o .1 .0) (o .1 .1 .0) (o .1 .1 .1 .0) (o .1 .1 .1 .1 .0) (p .ensures .answers) (length (a .text .now)))
     (l .ensures) in
     (w, written-within w)
 

@@ -1,6 +1,7 @@
 -- `reader::read`: the header decides, or the rows behind it.
 use mathlib.Core.Path.{sym, ap, _∙_}
 use borrow.Author.Needs.{needs}
+use Rattle.fund.specs.Reading.{fileRows, reading}
 use Rattle.reader.specs.Read.{fileRead}
 use Rattle.reader.proofs.read.Statement.{statement}
 use Rattle.reader.proofs.read.Tie as tie
@@ -24,9 +25,10 @@ returns : tie.Need-returns
 returns c = c .read-rows .ensures
 
 returns-2 : tie.Need-returns-2
+unfolding reading
 returns-2 c =
     let e = rw (c .before .before .why .given .1) at (c .before .before .before .before .read-header .ensures) in
-    c .without-rows .ensures ∙ ap fileRead (sym e)
+    c .without-rows .ensures ∙ ap fileRead (sym (e fileRows))
 
 pub read-spec : {M : Type 1} → statement M
 read-spec =

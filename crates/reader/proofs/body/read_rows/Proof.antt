@@ -28,22 +28,22 @@ loop-holds c =
     rw (c .before .no-rate .ensures, c .no-member .ensures) (start (o .args .file .now) (o .args .fund) (o .args .start) (o .pre))
 
 row-step-requires : tie.Need-row-step-requires Inv-loop μ-loop
-row-step-requires c κs = (c .loop .inv .few-rates, c .loop .inv .few-members)
+row-step-requires c κs = (c .loop .inv .tables .few-rates, c .loop .inv .tables .few-members)
 
 enum-known-r : tie.Need-enum-known-r Inv-loop μ-loop
 enum-known-r c = search needs
 
 mul-rates : tie.Need-mul-rates Inv-loop μ-loop
-mul-rates c = omega (arith, c .before .before .before .before .loop .inv .few-rates)
+mul-rates c = omega (arith, c .before .before .before .before .loop .inv .tables .few-rates)
 
 array-set-from-rates : tie.Need-array-set-from-rates Inv-loop μ-loop
 array-set-from-rates c =
     let l = c .before .before .before .before .loop in
     let w = rw (c .before .r .given .1) at (c .before .before .before .row-step .ensures) in
-    omega (arith, w .takes .0 .few, rates-long _ _ _ _ _ _ _ _ (l .inv))
+    omega (arith, w .takes .0 .few, rates-long _ _ _ _ _ _ _ (l .inv .tables))
 
 add-rated : tie.Need-add-rated Inv-loop μ-loop
-add-rated c = omega (arith, c .before .before .before .before .loop .inv .few-rates)
+add-rated c = omega (arith, c .before .before .before .before .loop .inv .tables .few-rates)
 
 add-least : tie.Need-add-least Inv-loop μ-loop
 add-least c =
@@ -64,16 +64,16 @@ enum-known-m : tie.Need-enum-known-m Inv-loop μ-loop
 enum-known-m c = search needs
 
 mul-members : tie.Need-mul-members Inv-loop μ-loop
-mul-members c = omega (arith, c .before .before .before .before .loop .inv .few-members)
+mul-members c = omega (arith, c .before .before .before .before .loop .inv .tables .few-members)
 
 array-set-from-members : tie.Need-array-set-from-members Inv-loop μ-loop
 array-set-from-members c =
     let l = c .before .before .before .before .loop in
     let w = rw (c .before .m .given .1) at (c .before .before .before .row-step .ensures) in
-    omega (arith, w .takes .few, members-long _ _ _ _ _ _ _ _ (l .inv))
+    omega (arith, w .takes .few, members-long _ _ _ _ _ _ _ (l .inv .tables))
 
 add-enrolled : tie.Need-add-enrolled Inv-loop μ-loop
-add-enrolled c = omega (arith, c .before .before .before .before .loop .inv .few-members)
+add-enrolled c = omega (arith, c .before .before .before .before .loop .inv .tables .few-members)
 
 loop-less-2 : tie.Need-loop-less-2 Inv-loop μ-loop
 loop-less-2 c =

@@ -1,26 +1,28 @@
--- `reader::header::read_header`: the reading of the file is that from the header line k on, after the numbers of the k lines before it.
+-- `reader::header::read_header`: the reading of the text is that from the header line k on, after the numbers of the k lines before it.
 use mathlib.Core.Path.{_≡_, refl, _∙_}
+use mathlib.Core.List.{[]}
 use Prim.Native.Nat.{_-_, _≤_, _<_}
 use native.Mathlib.Numerals.{add-one}
 use native.Mathlib.Omega.{arith}
 use borrow.Author.Needs.{needs}
 use lib.ListN.{length, length-set}
-use Rattle.fund.specs.Reading.{headerLines, headerOf, reading}
-use Rattle.reader.specs.Header.{headerLine, headerFrom}
+use Rattle.fund.specs.Lines.{lines}
+use Rattle.fund.specs.Reading.{headerLines, headerOf, readHeader}
+use Rattle.reader.specs.Header.{After, headerLine, headerFrom}
 use Rattle.reader.proofs.Headers.{header-start, header-end, numbersBefore, numbers-next}
 use Rattle.reader.proofs.header.read_header.Statement.{statement}
 use Rattle.reader.proofs.header.read_header.Tie as tie
 
 abbrev Inv-loop : tie.InvT-loop
 Inv-loop file firsts₀ seconds₀ at₀ k₀ firsts seconds at k =
-    (k ≤ length headerLines) × (length firsts ≡ length headerLines) × (length seconds ≡ length headerLines) × (reading file ≡ headerFrom file k (numbersBefore k firsts seconds) at)
+    (k ≤ length headerLines) × (length firsts ≡ length headerLines) × (length seconds ≡ length headerLines) × ((after : After) → readHeader after headerLines 1 [] (lines file) ≡ headerFrom after file k (numbersBefore k firsts seconds) at)
 
 abbrev μ-loop : tie.MeasureT-loop
 μ-loop file firsts₀ seconds₀ at₀ k₀ firsts seconds at k = length headerLines - k
 
 loop-holds : tie.Need-loop-holds Inv-loop μ-loop
 unfolding headerLines numbersBefore
-loop-holds c = (omega arith, refl, refl, header-start _)
+loop-holds c = (omega arith, refl, refl, λ after. header-start after _)
 
 header-step-requires : tie.Need-header-step-requires Inv-loop μ-loop
 unfolding headerLines
@@ -34,10 +36,10 @@ unfolding headerLines
 add-t15 c = omega arith
 
 returns : tie.Need-returns Inv-loop μ-loop
-returns c =
+returns c after =
     let l = c .before .before .before .before .before .loop in
     let e = rw (c .before .why .given .1) at (c .before .before .before .header-step .ensures) in
-    l .inv .3 ∙ e (numbersBefore (l .k) (l .firsts) (l .seconds))
+    l .inv .3 after ∙ e after (numbersBefore (l .k) (l .firsts) (l .seconds))
 
 enum-known-first : tie.Need-enum-known-first Inv-loop μ-loop
 enum-known-first c = search needs
@@ -76,15 +78,15 @@ loop-again c =
       omega arith,
       simp length-set (l .inv .1),
       simp length-set (l .inv .2),
-      l .inv .3 ∙ e (numbersBefore (l .k) (l .firsts) (l .seconds)) ∙ rw (add-one (l .k), numbers-next (l .firsts) (l .seconds) (l .k) _ _ f s),
+      λ after. l .inv .3 after ∙ e after (numbersBefore (l .k) (l .firsts) (l .seconds)) ∙ rw (add-one (l .k), numbers-next (l .firsts) (l .seconds) (l .k) _ _ f s),
     )
 
 returns-2 : tie.Need-returns-2 Inv-loop μ-loop
 unfolding headerOf headerLines headerLine numbersBefore
-returns-2 c =
+returns-2 c after =
     let l = c .before .loop in
     let z : l .k ≡ length headerLines = omega arith in
-    l .inv .3 ∙ header-end _ (l .firsts) (l .seconds) (l .k) (l .at) z
+    l .inv .3 after ∙ header-end after _ (l .firsts) (l .seconds) (l .k) (l .at) z
 
 pub read-header-spec : {M : Type 1} → statement M
 unfolding headerLines

@@ -1,0 +1,74 @@
+-- `cells::member_taken`: by what its callees ensure.
+use mathlib.Core.Path.{_≡_}
+use borrow.Author.Needs.{needs}
+use Rattle.fund.specs.declared.SheetCell.{SheetCell}
+use Rattle.fund.specs.declared.Taken.{Taken}
+use Rattle.fund.specs.declared.SheetRow.{SheetRow}
+use Rattle.fund.specs.declared.MemberFloats.{MemberFloats}
+use Rattle.fund.specs.Limits.{most-age, least-group, most-group}
+use Rattle.fund.specs.Cells.{cellOf, numberOf, amountOf, memberJoined, memberTaken}
+use Rattle.cells.proofs.member_taken.Statement.{statement}
+use Rattle.cells.proofs.member_taken.Tie as tie
+
+all : {A G D E : SheetCell} {a g d e : Taken} {t : SheetRow} (r : MemberFloats) → A ≡ cellOf (r .age) → a ≡ numberOf 0 most-age A → G ≡ cellOf (r .group) → g ≡ numberOf least-group most-group G
+    → D ≡ cellOf (r .d) → d ≡ amountOf D → E ≡ cellOf (r .e) → e ≡ amountOf E → t ≡ memberJoined a g d e → t ≡ memberTaken r
+all r age-cell age group-cell group d-cell d e-cell e joined = cc
+
+classed-requires : tie.Need-classed-requires
+classed-requires c κs = search needs
+
+number-requires : tie.Need-number-requires
+number-requires c κs = search needs
+
+classed-requires-2 : tie.Need-classed-requires-2
+classed-requires-2 c κs = search needs
+
+number-requires-2 : tie.Need-number-requires-2
+number-requires-2 c κs = search needs
+
+classed-requires-3 : tie.Need-classed-requires-3
+classed-requires-3 c κs = search needs
+
+amount-requires : tie.Need-amount-requires
+amount-requires c κs = search needs
+
+classed-requires-4 : tie.Need-classed-requires-4
+classed-requires-4 c κs = search needs
+
+amount-requires-2 : tie.Need-amount-requires-2
+amount-requires-2 c κs = search needs
+
+member-joined-requires : tie.Need-member-joined-requires
+member-joined-requires c κs = search needs
+
+returns : tie.Need-returns
+returns c =
+    let e = c .before in
+    let d = e .before .before in
+    let group = d .before .before in
+    let age = group .before .before in
+    all (age .before .before .args .r)
+    (age .before .classed .ensures)
+    (age .number .ensures)
+    (group .before .classed2 .ensures)
+    (group .number2 .ensures)
+    (d .before .classed3 .ensures)
+    (d .amount .ensures)
+    (e .before .classed4 .ensures)
+    (e .amount2 .ensures)
+    (c .member-joined .ensures)
+
+pub member-taken-spec : {M : Type 1} → statement M
+member-taken-spec =
+    tie.close
+    (tie.spec
+    classed-requires
+    number-requires
+    classed-requires-2
+    number-requires-2
+    classed-requires-3
+    amount-requires
+    classed-requires-4
+    amount-requires-2
+    member-joined-requires
+    returns)

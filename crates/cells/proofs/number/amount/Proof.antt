@@ -1,0 +1,26 @@
+-- `cells::number::amount`: by the two cases of a cell.
+use Rattle.fund.specs.Cells.{amountOf}
+use mathlib.Core.Path.{sym, ap}
+use borrow.Author.Needs.{needs}
+use Rattle.cells.proofs.number.amount.Statement.{statement}
+use Rattle.cells.proofs.number.amount.Tie as tie
+
+enum-told : tie.Need-enum-told
+enum-told c = search needs
+
+enum-known-cell : tie.Need-enum-known-cell
+enum-known-cell c = search needs
+
+whole-requires : tie.Need-whole-requires
+whole-requires c κs = search needs
+
+returns : tie.Need-returns
+unfolding amountOf
+returns c = sym (ap amountOf (c .enum-told .given .1))
+
+returns-2 : tie.Need-returns-2
+unfolding amountOf
+returns-2 c = cc
+
+pub amount-spec : {M : Type 1} → statement M
+amount-spec = tie.close (tie.spec enum-told enum-known-cell whole-requires returns returns-2)

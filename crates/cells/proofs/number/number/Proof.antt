@@ -1,0 +1,34 @@
+-- `cells::number::number`: by the two cases of a cell.
+use mathlib.Core.Path.{_∙_, sym, ap}
+use borrow.Author.Needs.{needs}
+use Rattle.fund.specs.Cells.{atLeast, numberOf}
+use Rattle.cells.proofs.number.number.Statement.{statement}
+use Rattle.cells.proofs.number.number.Tie as tie
+
+enum-told : tie.Need-enum-told
+enum-told c = search needs
+
+enum-known-cell : tie.Need-enum-known-cell
+enum-known-cell c = search needs
+
+whole-requires : tie.Need-whole-requires
+whole-requires c κs = search needs
+
+at-least-requires : tie.Need-at-least-requires
+at-least-requires c κs = search needs
+
+returns : tie.Need-returns
+unfolding numberOf
+returns c = let a = c .before .before .args in sym (ap (numberOf (a .least) (a .most)) (c .enum-told .given .1))
+
+returns-2 : tie.Need-returns-2
+unfolding numberOf
+returns-2 c =
+    let known = c .before .before .before in
+    let a = known .before .before .args in
+    c .at-least .ensures ∙ ap (atLeast (a .least)) (c .before .whole .ensures) ∙ sym (ap (numberOf (a .least) (a .most)) (known .cell .given .1))
+
+pub number-spec : {M : Type 1} → statement M
+number-spec =
+    tie.close
+    (tie.spec enum-told enum-known-cell whole-requires at-least-requires returns returns-2)

@@ -1,0 +1,115 @@
+// From a float to a cell, and from a cell to the number that it is taken as. No float is converted: it is compared with the
+// conversion of a whole number, which is sought by halves.
+use fund::Fund;
+use fund::SheetCell;
+use fund::Taken;
+ghost use mathlib.Core.Path.{_≡_};
+ghost use Prim.Native.Nat.{_^_, _≤_};
+ghost use Rattle.fund.specs.Limits.{most-rate};
+ghost use Rattle.fund.specs.Cells.{cellOf, quotient, wholeOf, rateOf, atLeast, numberOf, amountOf, rateIn};
+
+// A NaN, and nothing else, differs from itself.
+pub(crate) fn classed(x: f64) -> SheetCell
+    ensures { λ r. ⌜ r ≡ cellOf x ⌝ }
+{
+    if x != x {
+        SheetCell::Blank
+    } else {
+        SheetCell::Number(x)
+    }
+}
+
+// x as a whole number up to `most`; up to 2^53 these are floats.
+fn whole(x: f64, most: u64) -> Taken
+    requires { ⌜ most ≤ 2 ^ 53 ⌝ }
+    ensures { λ r. ⌜ r ≡ wholeOf x most ⌝ }
+{
+    let mut lo = 0u64;
+    let mut hi = most + 1;
+    while lo < hi {
+        let mid = lo + (hi - lo) / 2;
+        let exact = mid as f64;
+        if x == exact {
+            return Taken::As(mid);
+        }
+        if x < exact {
+            hi = mid;
+        } else {
+            lo = mid + 1;
+        }
+    }
+    Taken::Not
+}
+
+// The quotient of k by 1,000,000: one division, rounded once.
+fn millionths(k: u64) -> f64
+    requires { ⌜ k ≤ most-rate ⌝ }
+    ensures { λ r. ⌜ r ≡ quotient k 1000000 ⌝ }
+{
+    (k as f64) / 1000000.0
+}
+
+// x as a rate in millionths.
+pub fn rate(x: f64) -> Taken
+    ensures { λ r. ⌜ r ≡ rateOf x ⌝ }
+{
+    let mut lo = 0u64;
+    let mut hi = Fund::MOST_RATE + 1;
+    while lo < hi {
+        let mid = lo + (hi - lo) / 2;
+        let quotient = millionths(mid);
+        if x == quotient {
+            return Taken::As(mid);
+        }
+        if x < quotient {
+            hi = mid;
+        } else {
+            lo = mid + 1;
+        }
+    }
+    Taken::Not
+}
+
+fn at_least(least: u64, taken: Taken) -> Taken
+    ensures { λ r. ⌜ r ≡ atLeast least taken ⌝ }
+{
+    match taken {
+        Taken::As(n) => {
+            if n < least {
+                return Taken::Not;
+            }
+            Taken::As(n)
+        }
+        Taken::Not => Taken::Not,
+    }
+}
+
+// A whole number from `least` to `most`.
+pub(crate) fn number(least: u64, most: u64, cell: SheetCell) -> Taken
+    requires { ⌜ most ≤ 2 ^ 53 ⌝ }
+    ensures { λ r. ⌜ r ≡ numberOf least most cell ⌝ }
+{
+    match cell {
+        SheetCell::Blank => Taken::Not,
+        SheetCell::Number(x) => at_least(least, whole(x, most)),
+    }
+}
+
+// "A blank is allowed only in an amount and is 0 there."
+pub(crate) fn amount(cell: SheetCell) -> Taken
+    ensures { λ r. ⌜ r ≡ amountOf cell ⌝ }
+{
+    match cell {
+        SheetCell::Blank => Taken::As(0),
+        SheetCell::Number(x) => whole(x, Fund::MOST_AMOUNT),
+    }
+}
+
+pub(crate) fn rate_in(cell: SheetCell) -> Taken
+    ensures { λ r. ⌜ r ≡ rateIn cell ⌝ }
+{
+    let SheetCell::Number(x) = cell else {
+        return Taken::Not;
+    };
+    rate(x)
+}

@@ -1,0 +1,22 @@
+-- What `pricing::price_sheets` answers is handed over.
+use borrow.Author.Needs.{needs, sfits-of}
+use mir.Syntax.{w64}
+use mir.Val.{SFits}
+use Rattle.miguepo.proofs.Hosting.{hosts}
+use Rattle.miguepo.proofs.miguepo_price_sheets.Statement.{statement}
+use Rattle.miguepo.proofs.miguepo_price_sheets.Tie as tie
+
+ordered : tie.Need-hand-over-requires
+ordered c κs = c .before .before .before .before .before .before .before .before .price-sheets .ensures .answers .ordered
+
+returns : tie.Need-returns
+returns c =
+    let p = c .before .before .before .before .before .before .before .before .before .price-sheets in
+    let o = p .last .1 .1 .1 .1 in
+    let fits : SFits w64 (p .result .figures .premium) = sfits-of {w = w64} (p .ok .1 .1 .1 .1 .1 .1 .0 .1 .1 .1 .1 .0 .1) in
+    hosts _ _ _ _ (p .result) (o .0) (o .1 .0) (o .1 .1 .0) (o .1 .1 .1 .0) (o .1 .1 .1 .1 .0) (p .ensures) _ (c .hand-over .ensures) fits
+
+pub miguepo-price-sheets-spec : {M : Type 1} → statement M
+miguepo-price-sheets-spec =
+    tie.close
+    (tie.spec (λ c κs. search needs) ordered (λ c. search needs) (λ c. search needs) (λ c. search needs) (λ c. search needs) (λ c. search needs) returns)

@@ -1,0 +1,3 @@
+pub mod Next
+pub mod SoFar
+pub mod Header

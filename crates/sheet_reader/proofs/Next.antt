@@ -1,0 +1,197 @@
+-- Laws of the rows of sheets: the row at a place is the next of those left (next-rate, next-member, no-more), and what it settles (row-after, rows-end).
+use mathlib.Core.Path.{_≡_, refl, sym, ap, _∙_}
+use mathlib.Core.Bool.{Bool, true, false}
+use mathlib.Core.List.{List, [], _∷_, _++_, map}
+use Prim.Native.Nat.{ℕ, suc, _+_, _-_, _*_, _/_, _≤_, _<_}
+use native.Mathlib.Nat.{mul-comm, mul-suc, le-div-iff-mul-le, div-lt-iff-lt-mul, le-of-suc-le-suc}
+use native.Mathlib.Numerals.{add-one}
+use native.Mathlib.Omega.{arith}
+use borrow.Author.Tests.{ltb-true, ltb-false}
+use lib.Dec.{eqb, ltb}
+use lib.ListN.{length, take, drop, getD, length-append, length-drop, drop-of-length-le}
+use lib.Seq.{drop-cons, take-all}
+use Rattle.fund.specs.declared.Fund.{Fund}
+use Rattle.fund.specs.declared.Rate.{Rate}
+use Rattle.fund.specs.declared.Member.{Member}
+use Rattle.fund.specs.declared.Refusal.the-variants.{Range, Cell as CellRefusal}
+use Rattle.fund.specs.declared.SheetRow.{SheetRow}
+use Rattle.fund.specs.declared.SheetRow.the-variants.{Rate as RateRow, Member as MemberRow, NotTaken}
+use Rattle.fund.specs.declared.Taken.{Taken}
+use Rattle.fund.specs.declared.Taken.the-variants.{As, Not}
+use Rattle.fund.specs.Base.{if_then_else_, table}
+use Rattle.fund.specs.Reading.{Reading, read, stopped, headerLines, rateInRange, memberInRange}
+use Rattle.fund.specs.Cells.{rate-width, member-width, rateJoined, memberJoined, rateTaken, memberTaken, rateFloats, memberFloats, rateRowOf, memberRowOf}
+use Rattle.fund.specs.Sheets.{rowCount, rowAt, rowsOf, readSheetRows}
+use Rattle.laws.specs.Tables.{length-table, getD-table}
+use Rattle.reader.specs.Rows.{linePlace, leastAge, rateFits, memberFits}
+use Rattle.reader.proofs.Rows.{rate-fits, member-fits, fits-rated, fits-enrolled}
+use Rattle.sheet_reader.specs.declared.rows.RowStep.the-variants.{Rate as RateNext, Member as MemberNext, End, Stopped}
+use Rattle.sheet_reader.specs.Rows.{RowEnd, rowsLeft, Behind, NextOf, rowsFrom, After, RowStepped, rowStep}
+
+-- ---- the rows of a sheet
+module _ (width : ℕ) (sheet : List ℕ) (some : 0 < width) where
+  count-above : (k : ℕ) → width * k < length sheet → k < rowCount width sheet
+  unfolding rowCount
+  count-above k h = le-div-iff-mul-le some .1 (let e : suc k * width ≡ width * k + width = mul-comm (suc k) width ∙ mul-suc width k in omega arith)
+
+  count-within : (k : ℕ) → length sheet ≤ width * k → rowCount width sheet ≤ k
+  unfolding rowCount
+  count-within k h =
+      le-of-suc-le-suc (div-lt-iff-lt-mul some .1 (let e : suc k * width ≡ width * k + width = mul-comm (suc k) width ∙ mul-suc width k in omega arith))
+
+  pub rows-next : (k : ℕ) → width * k < length sheet → drop k (rowsOf width sheet) ≡ rowAt width sheet k ∷ drop (suc k) (rowsOf width sheet)
+  unfolding rowsOf
+  rows-next k h =
+      let n = rowCount width sheet in
+      let g = rowAt width sheet in
+      drop-cons (table n g) k [] (let w = length-table n g in let c = count-above k h in omega arith)
+      ∙ ap (λ (r : List ℕ). r ∷ drop (suc k) (table n g)) (getD-table n g k [] (count-above k h))
+
+  pub rows-none : (k : ℕ) → length sheet ≤ width * k → drop k (rowsOf width sheet) ≡ []
+  unfolding rowsOf
+  rows-none k h = drop-of-length-le (table (rowCount width sheet) (rowAt width sheet)) {i = k} (let w = length-table (rowCount width sheet) (rowAt width sheet) in let c = count-within k h in omega arith)
+
+-- the bytes from a place on to the row's end are the row
+pub row-bytes : (width k end : ℕ) (sheet : List ℕ) → RowEnd (width * k) width (length sheet) end → take (end - width * k) (drop (width * k) sheet) ≡ rowAt width sheet k
+unfolding rowAt
+row-bytes width k end sheet e = go (ltb (length sheet - width * k) width) refl
+  where
+    go : (b : Bool) → ltb (length sheet - width * k) width ≡ b → take (end - width * k) (drop (width * k) sheet) ≡ take width (drop (width * k) sheet)
+    go false t =
+        let h : width ≤ length sheet - width * k = ltb-false _ _ t in
+        let z : end - width * k ≡ width = omega (arith, e .full h) in
+        ap (λ n. take n (drop (width * k) sheet)) z
+    go true t =
+        let h : length sheet - width * k < width = ltb-true _ _ t in
+        let z : end ≡ length sheet = e .cut h in
+        let l = length-drop (width * k) sheet in
+        take-all (end - width * k) (drop (width * k) sheet) (omega arith) ∙ sym (take-all width (drop (width * k) sheet) (omega arith))
+
+-- ---- what a row is
+rate-never : (age q i : Taken) (m : Member) → rateJoined age q i ≡ MemberRow m → ⊥
+unfolding rateJoined
+rate-never (As age) (As q) (As i) m e = let z : _≡_ {A = ℕ} 0 1 = cc in omega arith
+rate-never (As age) (As q) Not m e = let z : _≡_ {A = ℕ} 0 1 = cc in omega arith
+rate-never (As age) Not i m e = let z : _≡_ {A = ℕ} 0 1 = cc in omega arith
+rate-never Not q i m e = let z : _≡_ {A = ℕ} 0 1 = cc in omega arith
+
+member-never : (age group d e : Taken) (r : Rate) → memberJoined age group d e ≡ RateRow r → ⊥
+unfolding memberJoined
+member-never (As age) (As group) (As d) (As e) r h = let z : _≡_ {A = ℕ} 0 1 = cc in omega arith
+member-never (As age) (As group) (As d) Not r h = let z : _≡_ {A = ℕ} 0 1 = cc in omega arith
+member-never (As age) (As group) Not e r h = let z : _≡_ {A = ℕ} 0 1 = cc in omega arith
+member-never (As age) Not d e r h = let z : _≡_ {A = ℕ} 0 1 = cc in omega arith
+member-never Not group d e r h = let z : _≡_ {A = ℕ} 0 1 = cc in omega arith
+
+no-member : (row : List ℕ) (m : Member) → rateRowOf row ≡ MemberRow m → ⊥
+unfolding rateRowOf
+no-member row m e = go (eqb (length row) rate-width) e
+  where
+    go : (b : Bool) → (if b then rateTaken (rateFloats row) else NotTaken) ≡ MemberRow m → ⊥
+    go true h = rate-never _ _ _ m h
+    go false h = let z : _≡_ {A = ℕ} 0 1 = cc in omega arith
+
+no-rate : (row : List ℕ) (r : Rate) → memberRowOf row ≡ RateRow r → ⊥
+unfolding memberRowOf
+no-rate row r e = go (eqb (length row) member-width) e
+  where
+    go : (b : Bool) → (if b then memberTaken (memberFloats row) else NotTaken) ≡ RateRow r → ⊥
+    go true h = member-never _ _ _ _ r h
+    go false h = let z : _≡_ {A = ℕ} 0 1 = cc in omega arith
+
+-- ---- the next row
+module _ (rates members : List ℕ) (rated enrolled : ℕ) where
+  rate-behind : (row : List ℕ) (is : SheetRow) → rateRowOf row ≡ is → Behind rates members rated enrolled is (rowsLeft rates members (suc rated) enrolled)
+  rate-behind row (RateRow r) e = refl
+  rate-behind row (MemberRow m) e = absurd (no-member row m e)
+  rate-behind row NotTaken e = tt
+
+  pub next-rate : (end : ℕ) → rate-width * rated < length rates → RowEnd (rate-width * rated) rate-width (length rates) end →
+      (is : SheetRow) → is ≡ rateRowOf (take (end - rate-width * rated) (drop (rate-width * rated) rates)) → NextOf rates members rated enrolled is
+  unfolding rowsLeft
+  next-rate end h e is w =
+      let row = rowAt rate-width rates rated in
+      let z : rateRowOf row ≡ is = sym (w ∙ ap rateRowOf (row-bytes rate-width rated end rates e)) in
+      record {
+        rest = rowsLeft rates members (suc rated) enrolled;
+        first = rw (rows-next rate-width rates (omega arith) rated h) (ap (λ (x : SheetRow). x ∷ rowsLeft rates members (suc rated) enrolled) z);
+        behind = rate-behind row is z;
+      }
+
+  module _ (done : length rates ≤ rate-width * rated) where
+    member-behind : (row : List ℕ) (is : SheetRow) → memberRowOf row ≡ is → Behind rates members rated enrolled is (rowsLeft rates members rated (suc enrolled))
+    member-behind row (RateRow r) e = absurd (no-rate row r e)
+    member-behind row (MemberRow m) e = refl
+    member-behind row NotTaken e = tt
+
+    pub next-member : (end : ℕ) → member-width * enrolled < length members → RowEnd (member-width * enrolled) member-width (length members) end →
+        (is : SheetRow) → is ≡ memberRowOf (take (end - member-width * enrolled) (drop (member-width * enrolled) members)) → NextOf rates members rated enrolled is
+    unfolding rowsLeft
+    next-member end h e is w =
+        let row = rowAt member-width members enrolled in
+        let z : memberRowOf row ≡ is = sym (w ∙ ap memberRowOf (row-bytes member-width enrolled end members e)) in
+        record {
+          rest = rowsLeft rates members rated (suc enrolled);
+          first = rw (rows-none rate-width rates (omega arith) rated done, rows-next member-width members (omega arith) enrolled h) (ap (λ (x : SheetRow). x ∷ map memberRowOf (drop (suc enrolled) (rowsOf member-width members))) z);
+          behind = member-behind row is z;
+        }
+
+    pub no-more : length members ≤ member-width * enrolled → rowsLeft rates members rated enrolled ≡ []
+    unfolding rowsLeft
+    no-more h = rw (rows-none rate-width rates (omega arith) rated done, rows-none member-width members (omega arith) enrolled h)
+
+-- ---- what a row settles
+module _ (rates members : List ℕ) (rated enrolled least : ℕ) where
+  pub rows-end : rowsLeft rates members rated enrolled ≡ [] → RowStepped rates members rated enrolled least End
+  unfolding rowsFrom readSheetRows
+  rows-end e = record { takes = tt; same = λ fund rs ms a b c. rw (a, b, e) refl }
+
+  pub row-after : (row : SheetRow) → NextOf rates members rated enrolled row → RowStepped rates members rated enrolled least (rowStep rated enrolled least row)
+  unfolding rowsFrom readSheetRows rowStep
+  row-after NotTaken k =
+      record {
+        takes = tt;
+        same = λ fund rs ms a b c. let z : suc (length rs + length ms) ≡ rated + enrolled + 1 = omega arith in rw (a, b, k .first) (ap (stopped CellRefusal) z);
+      }
+  row-after (RateRow r) k = go (rateFits rated least r) refl
+    where
+      fit : (rs : List Rate) → length rs ≡ rated → leastAge rs ≡ least → rateInRange rs r ≡ rateFits rated least r
+      fit rs a c = rw (← a, ← c) (rate-fits rs r)
+
+      go : (b : Bool) → rateFits rated least r ≡ b → RowStepped rates members rated enrolled least (elim b [ true ↦ RateNext r | false ↦ Stopped Range (length headerLines + (rated + enrolled + 1)) ])
+      go true f =
+          record {
+            takes = fits-rated rated least r f;
+            same = λ fund rs ms a b c.
+                let l : length (rs ++ (r ∷ [])) ≡ suc rated = omega (arith, length-append rs (r ∷ []), a) in
+                let z : suc (linePlace rated enrolled) ≡ linePlace (suc rated) enrolled = omega arith in
+                rw (a, b, k .first, k .behind, l) (rw (fit rs a c ∙ f, readSheetRows) (ap (λ n. readSheetRows n fund (rs ++ (r ∷ [])) ms (rowsLeft rates members (suc rated) enrolled)) z));
+          }
+      go false f =
+          record {
+            takes = tt;
+            same = λ fund rs ms a b c.
+                let z : linePlace rated enrolled ≡ length headerLines + (rated + enrolled + 1) = omega arith in
+                rw (a, b, k .first) (rw (fit rs a c ∙ f, readSheetRows) (ap (stopped Range) z));
+          }
+  row-after (MemberRow m) k = go (memberFits enrolled m) refl
+    where
+      fit : (ms : List Member) → length ms ≡ enrolled → memberInRange ms m ≡ memberFits enrolled m
+      fit ms b = rw (← b) (member-fits ms m)
+
+      go : (b : Bool) → memberFits enrolled m ≡ b → RowStepped rates members rated enrolled least (elim b [ true ↦ MemberNext m | false ↦ Stopped Range (length headerLines + (rated + enrolled + 1)) ])
+      go true f =
+          record {
+            takes = fits-enrolled enrolled m f;
+            same = λ fund rs ms a b c.
+                let l : length (ms ++ (m ∷ [])) ≡ suc enrolled = omega (arith, length-append ms (m ∷ []), b) in
+                let z : suc (linePlace rated enrolled) ≡ linePlace rated (suc enrolled) = omega arith in
+                rw (a, b, k .first, k .behind, l) (rw (fit ms b ∙ f, readSheetRows) (ap (λ n. readSheetRows n fund rs (ms ++ (m ∷ [])) (rowsLeft rates members rated (suc enrolled))) z));
+          }
+      go false f =
+          record {
+            takes = tt;
+            same = λ fund rs ms a b c.
+                let z : linePlace rated enrolled ≡ length headerLines + (rated + enrolled + 1) = omega arith in
+                rw (a, b, k .first) (rw (fit ms b ∙ f, readSheetRows) (ap (stopped Range) z));
+          }

@@ -1,0 +1,128 @@
+-- `sheet_reader::rows::read_rows`: the tables hold the rows that are read; one law for each way through the loop.
+use Prim.Native.Nat.{_+_, _-_}
+use native.Mathlib.Omega.{arith}
+use borrow.Author.Needs.{needs}
+use Rattle.fund.specs.Limits.{most-rates, most-members}
+use Rattle.reader.specs.Read.{fileRead}
+use Rattle.reader.proofs.SoFar.{rates-long, members-long}
+use Rattle.sheet_reader.proofs.SoFar.{RowsSoFar, start, rate-taken, member-taken, at-end, at-stop}
+use Rattle.sheet_reader.proofs.rows.read_rows.Statement.{statement}
+use Rattle.sheet_reader.proofs.rows.read_rows.Tie as tie
+
+abbrev Inv-loop : tie.InvT-loop
+Inv-loop fund rates members rate-rows₀ member-rows₀ rated₀ enrolled₀ least₀ rate-rows member-rows rated enrolled least = RowsSoFar rates members fund rate-rows member-rows rated enrolled least
+
+abbrev μ-loop : tie.MeasureT-loop
+μ-loop fund rates members rate-rows₀ member-rows₀ rated₀ enrolled₀ least₀ rate-rows member-rows rated enrolled least = most-rates + most-members - (rated + enrolled)
+
+without-rows-requires : tie.Need-without-rows-requires Inv-loop μ-loop
+without-rows-requires c κs = search needs
+
+loop-holds : tie.Need-loop-holds Inv-loop μ-loop
+unfolding fileRead
+loop-holds c = rw (c .before .before .without-rows .ensures) (start _ _ _)
+
+row-step-requires : tie.Need-row-step-requires Inv-loop μ-loop
+row-step-requires c κs = (c .loop .inv .tables .few-rates, c .loop .inv .tables .few-members)
+
+enum-known-r : tie.Need-enum-known-r Inv-loop μ-loop
+enum-known-r c = search needs
+
+mul-rate-rows : tie.Need-mul-rate-rows Inv-loop μ-loop
+mul-rate-rows c = omega (arith, c .before .before .before .before .loop .inv .tables .few-rates)
+
+array-set-from-rate-rows : tie.Need-array-set-from-rate-rows Inv-loop μ-loop
+array-set-from-rate-rows c =
+    let l = c .before .before .before .before .loop in
+    let w = rw (c .before .r .given .1) at (c .before .before .before .row-step .ensures) in
+    omega (arith, w .takes .0, rates-long _ _ _ _ _ _ _ (l .inv .tables))
+
+add-rated : tie.Need-add-rated Inv-loop μ-loop
+add-rated c = omega (arith, c .before .before .before .before .loop .inv .tables .few-rates)
+
+add-least : tie.Need-add-least Inv-loop μ-loop
+add-least c =
+    let w = rw (c .before .before .r .given .1) at (c .before .before .before .before .row-step .ensures) in
+    omega (arith, w .takes .1)
+
+loop-less : tie.Need-loop-less Inv-loop μ-loop
+loop-less c =
+    let w = rw (c .before .before .r .given .1) at (c .before .before .before .before .row-step .ensures) in
+    omega (arith, w .takes .0)
+
+loop-again : tie.Need-loop-again Inv-loop μ-loop
+loop-again c =
+    let w = rw (c .before .before .r .given .1) at (c .before .before .before .before .row-step .ensures) in
+    rate-taken _ _ _ _ _ _ _ _ (c .before .before .before .before .before .loop .inv) _ w
+
+enum-known-m : tie.Need-enum-known-m Inv-loop μ-loop
+enum-known-m c = search needs
+
+mul-member-rows : tie.Need-mul-member-rows Inv-loop μ-loop
+mul-member-rows c = omega (arith, c .before .before .before .before .loop .inv .tables .few-members)
+
+array-set-from-member-rows : tie.Need-array-set-from-member-rows Inv-loop μ-loop
+array-set-from-member-rows c =
+    let l = c .before .before .before .before .loop in
+    let w = rw (c .before .m .given .1) at (c .before .before .before .row-step .ensures) in
+    omega (arith, w .takes, members-long _ _ _ _ _ _ _ (l .inv .tables))
+
+add-enrolled : tie.Need-add-enrolled Inv-loop μ-loop
+add-enrolled c = omega (arith, c .before .before .before .before .loop .inv .tables .few-members)
+
+loop-less-2 : tie.Need-loop-less-2 Inv-loop μ-loop
+loop-less-2 c =
+    let w = rw (c .before .m .given .1) at (c .before .before .before .row-step .ensures) in
+    omega (arith, w .takes)
+
+loop-again-2 : tie.Need-loop-again-2 Inv-loop μ-loop
+loop-again-2 c =
+    let w = rw (c .before .m .given .1) at (c .before .before .before .row-step .ensures) in
+    member-taken _ _ _ _ _ _ _ _ (c .before .before .before .before .loop .inv) _ w
+
+enum-told : tie.Need-enum-told Inv-loop μ-loop
+enum-told c = search needs
+
+returns : tie.Need-returns Inv-loop μ-loop
+returns c =
+    let w = rw (c .enum-told .given .1) at (c .before .before .row-step .ensures) in
+    at-end _ _ _ _ _ _ _ _ (c .before .before .before .loop .inv) w
+
+enum-known-why : tie.Need-enum-known-why Inv-loop μ-loop
+enum-known-why c = search needs
+
+without-rows-requires-2 : tie.Need-without-rows-requires-2 Inv-loop μ-loop
+without-rows-requires-2 c κs = search needs
+
+returns-2 : tie.Need-returns-2 Inv-loop μ-loop
+returns-2 c =
+    let w = rw (c .before .before .why .given .1) at (c .before .before .before .before .row-step .ensures) in
+    at-stop _ _ _ _ _ _ _ _ (c .before .before .before .before .before .loop .inv) _ _ _ w (c .without-rows2 .ensures)
+
+pub read-rows-spec : {M : Type 1} → statement M
+read-rows-spec =
+    tie.close
+    (tie.spec
+    Inv-loop
+    μ-loop
+    without-rows-requires
+    loop-holds
+    row-step-requires
+    enum-known-r
+    mul-rate-rows
+    array-set-from-rate-rows
+    add-rated
+    add-least
+    loop-less
+    loop-again
+    enum-known-m
+    mul-member-rows
+    array-set-from-member-rows
+    add-enrolled
+    loop-less-2
+    loop-again-2
+    enum-told
+    returns
+    enum-known-why
+    without-rows-requires-2
+    returns-2)

@@ -1,0 +1,81 @@
+-- What the functions on the rows of sheets answer: how much of the reading a row settles.
+use mathlib.Core.Path.{_≡_}
+use mathlib.Core.Bool.{true, false}
+use mathlib.Core.List.{List, [], _∷_, _++_, map}
+use Prim.Native.Nat.{ℕ, suc, _+_, _-_, _≤_, _<_}
+use lib.ListN.{length, drop}
+use Rattle.fund.specs.declared.Fund.{Fund}
+use Rattle.fund.specs.declared.Rate.{Rate}
+use Rattle.fund.specs.declared.Member.{Member}
+use Rattle.fund.specs.declared.Refusal.the-variants.{Range, Cell as CellRefusal}
+use Rattle.fund.specs.declared.SheetRow.{SheetRow}
+use Rattle.fund.specs.declared.SheetRow.the-variants.{Rate as RateRow, Member as MemberRow, NotTaken}
+use Rattle.fund.specs.Limits.{most-rates, most-age, most-members}
+use Rattle.fund.specs.Reading.{Reading, read, stopped, headerLines}
+use Rattle.fund.specs.Cells.{rate-width, member-width, rateRowOf, memberRowOf}
+use Rattle.fund.specs.Sheets.{rowsOf, readSheetRows}
+use Rattle.reader.specs.Rows.{linePlace, leastAge, rateFits, memberFits}
+use Rattle.sheet_reader.specs.declared.rows.NextRow.{NextRow}
+use Rattle.sheet_reader.specs.declared.rows.NextRow.the-variants.{Row, End as NoRow}
+use Rattle.sheet_reader.specs.declared.rows.RowStep.{RowStep}
+use Rattle.sheet_reader.specs.declared.rows.RowStep.the-variants.{Rate as RateNext, Member as MemberNext, End, Stopped}
+
+-- The end of the row from a place on.
+pub record RowEnd (at width size end : ℕ) : Type 0 where
+  pub ordered : at ≤ end
+  pub inside : end ≤ size
+  pub cut : size - at < width → end ≡ size
+  pub full : width ≤ size - at → end ≡ at + width
+
+module _ (rates members : List ℕ) where
+  -- The rows behind so many rate rows and member rows.
+  unfoldable pub rowsLeft : ℕ → ℕ → List SheetRow
+  rowsLeft rated enrolled = map rateRowOf (drop rated (rowsOf rate-width rates)) ++ map memberRowOf (drop enrolled (rowsOf member-width members))
+
+  -- What is left behind a row.
+  abbrev pub Behind : ℕ → ℕ → SheetRow → List SheetRow → Type 0
+  Behind rated enrolled (RateRow r) rest = rest ≡ rowsLeft (suc rated) enrolled
+  Behind rated enrolled (MemberRow m) rest = rest ≡ rowsLeft rated (suc enrolled)
+  Behind rated enrolled NotTaken rest = Unit {0}
+
+  pub record NextOf (rated enrolled : ℕ) (row : SheetRow) : Type 0 where
+    pub rest : List SheetRow
+    pub first : rowsLeft rated enrolled ≡ row ∷ rest
+    pub behind : Behind rated enrolled row rest
+
+  abbrev pub NextIs : ℕ → ℕ → NextRow → Type 0
+  NextIs rated enrolled (Row row) = NextOf rated enrolled row
+  NextIs rated enrolled NoRow = rowsLeft rated enrolled ≡ []
+
+  -- The reading behind the rows that are read.
+  unfoldable pub rowsFrom : Fund → List Rate → List Member → Reading
+  rowsFrom fund rs ms = readSheetRows (linePlace (length rs) (length ms)) fund rs ms (rowsLeft (length rs) (length ms))
+
+  -- The reading after a row, behind the rows before it.
+  abbrev pub afterRow : Fund → List Rate → List Member → RowStep → Reading
+  afterRow fund rs ms (RateNext r) = rowsFrom fund (rs ++ (r ∷ [])) ms
+  afterRow fund rs ms (MemberNext m) = rowsFrom fund rs (ms ++ (m ∷ []))
+  afterRow fund rs ms End = read (record { header = fund; rates = rs; members = ms })
+  afterRow fund rs ms (Stopped why place) = stopped why place
+
+  -- The next row decides how the sheets are read, whatever rows of these counts stand before it.
+  abbrev pub After : ℕ → ℕ → ℕ → RowStep → Type 0
+  After rated enrolled least step = (fund : Fund) (rs : List Rate) (ms : List Member) → length rs ≡ rated → length ms ≡ enrolled → leastAge rs ≡ least →
+      rowsFrom fund rs ms ≡ afterRow fund rs ms step
+
+-- A row that is taken has its place in the table.
+abbrev pub Takes : ℕ → ℕ → RowStep → Type 0
+Takes rated enrolled (RateNext r) = (rated < most-rates) × (r .age ≤ most-age)
+Takes rated enrolled (MemberNext m) = enrolled < most-members
+Takes rated enrolled End = Unit {0}
+Takes rated enrolled (Stopped why place) = Unit {0}
+
+pub record RowStepped (rates members : List ℕ) (rated enrolled least : ℕ) (step : RowStep) : Type 0 where
+  pub takes : Takes rated enrolled step
+  pub same : After rates members rated enrolled least step
+
+-- What a row gives behind so many others.
+unfoldable pub rowStep : ℕ → ℕ → ℕ → SheetRow → RowStep
+rowStep rated enrolled least NotTaken = Stopped CellRefusal (rated + enrolled + 1)
+rowStep rated enrolled least (RateRow r) = elim (rateFits rated least r) [ true ↦ RateNext r | false ↦ Stopped Range (length headerLines + (rated + enrolled + 1)) ]
+rowStep rated enrolled least (MemberRow m) = elim (memberFits enrolled m) [ true ↦ MemberNext m | false ↦ Stopped Range (length headerLines + (rated + enrolled + 1)) ]
