@@ -1,7 +1,7 @@
 """Compares the peer with the independent calculation: python3 bench/check_peer.py LIBRARY N SEED
 
 LIBRARY is peer.c built with `cc -shared -fPIC`. Every answer is compared whole: number, place, line, figures, gross premium,
-quantile and all cells.
+quantile and all cells; N generated files and every known one, then N generated funds as sheets and every known one.
 """
 
 import ctypes
@@ -13,9 +13,12 @@ sys.path.insert(0, str(Path(__file__).resolve().parent.parent / "tests"))
 import cases
 import frequency_funds
 import generate
+import generate_sheets
 import pricing
 import quantile_funds
 import rate_funds
+import sheet_funds
+import sheets
 import tariff_funds
 import triangle_funds
 
@@ -26,18 +29,18 @@ class Priced(ctypes.Structure):
     _fields_ = [(name, ctypes.c_int64 if name == "premium" else ctypes.c_uint64) for name in FIGURES]
 
 
-def peer_answer(peer, data, lengths, level):
-    """The cells start as garbage, so that each must be written."""
+def peer_answer(call, texts, lengths, level):
+    """For a file, or for a header text and two sheets. The cells start as garbage, so that each must be written."""
     kinds = (ctypes.c_int64, ctypes.c_uint64) * 2 + (ctypes.c_int64,)
     slices = [(kind * length)(*[7] * length) for kind, length in zip(kinds, lengths)]
     out = Priced()
+    given = [word for text in texts for word in (text, ctypes.c_size_t(len(text)))]
     lent = [word for s, n in zip(slices, lengths) for word in (s, ctypes.c_size_t(n))]
-    peer.peer_price(data, ctypes.c_size_t(len(data)), ctypes.c_uint64(level), *lent, ctypes.byref(out))
+    call(*given, ctypes.c_uint64(level), *lent, ctypes.byref(out))
     return [getattr(out, name) for name in FIGURES] + [tuple(s) for s in slices]
 
 
-def expected_answer(data, lengths, level):
-    a = pricing.price(data, lengths, level)
+def expected_answer(a):
     quantile = (0, 0) if a.quantile is None else (1, a.quantile)
     return [a.number, a.place, a.start, a.length, a.truncation, a.mean, a.premium, a.bound, a.gross,
             a.horizon, *quantile, a.D, a.H, a.f, a.R, a.F]
@@ -57,34 +60,55 @@ def heavy_funds(rng, count):
         yield generate.Case(f"heavy-{index}", text.data())
 
 
-def calls(count, seed):
-    """Generated files, each with slices that are long enough or, for some, of any length; then every known case."""
+def any_lengths(rng):
+    """Slices that are long enough or, for some, of any length."""
+    longest = rng.choice((4096, 12, 12))
+    return tuple(rng.choice((longest, rng.randint(0, longest))) for _ in range(5))
+
+
+def file_calls(count, seed):
+    """Generated files, then every known case."""
     rng = random.Random(seed)
     for case in cases.chosen(count, seed):
-        longest = rng.choice((4096, 12, 12))
-        yield case, tuple(rng.choice((longest, rng.randint(0, longest))) for _ in range(5))
+        yield case, (case.data,), any_lengths(rng)
     known = generate.limit_funds() + generate.damaged_files() + generate.large_funds(seed, 20)
     known += quantile_funds.cases(quantile_funds.ROWS + quantile_funds.MORE_ROWS)
     known += rate_funds.cases() + generate.gap_funds(seed, 300)
     known += tariff_funds.cases() + triangle_funds.cases() + generate.step_funds(seed, 100)
     known += frequency_funds.cases()
     for case in known + list(heavy_funds(rng, 60)):
-        yield case, case.lengths
+        yield case, (case.data,), case.lengths
+
+
+def sheet_calls(count, seed):
+    """Generated sheets, then every known case."""
+    rng = random.Random(seed)
+    for case in generate_sheets.random_sheets(seed, count):
+        yield case, case.sheets(), any_lengths(rng)
+    for case in sheet_funds.cases() + [generate_sheets.full_sheets()]:
+        yield case, case.sheets(), case.lengths
+
+
+def compared(name, call, calculation, made, rng, most):
+    """Whether no answer differs, and each number up to the most is among them."""
+    numbers, reached, differing = [0] * (most + 1), 0, 0
+    for case, texts, lengths in made:
+        level = generate.level_of(case, rng, calculation(*texts))
+        expected = expected_answer(calculation(*texts, lengths, level))
+        numbers[expected[0]] += 1
+        reached += expected[FIGURES.index("reached")]
+        if peer_answer(call, texts, lengths, level) != expected:
+            differing += 1
+            print(f"differs: {case.name}")
+    print(f"{sum(numbers)} {name}, {differing} differ; by number from 0 to {most}: {numbers}; levels reached: {reached}")
+    return not differing and reached and 0 not in numbers
 
 
 def main(library, count, seed):
     peer, rng = ctypes.CDLL(library), random.Random(seed)
-    numbers, reached, differing = [0] * 11, 0, 0
-    for case, lengths in calls(count, seed):
-        level = generate.level_of(case, rng, pricing.price(case.data))
-        expected = expected_answer(case.data, lengths, level)
-        numbers[expected[0]] += 1
-        reached += expected[FIGURES.index("reached")]
-        if peer_answer(peer, case.data, lengths, level) != expected:
-            differing += 1
-            print(f"differs: {case.name}")
-    print(f"{sum(numbers)} calls, {differing} differ; by number from 0 to 10: {numbers}; levels reached: {reached}")
-    return 1 if differing or not reached or 0 in numbers else 0
+    files = compared("files", peer.peer_price, pricing.price, file_calls(count, seed), rng, 10)
+    good = compared("sheets", peer.peer_price_sheets, sheets.price_sheets, sheet_calls(count, seed), rng, 11)
+    return 0 if files and good else 1
 
 
 if __name__ == "__main__":

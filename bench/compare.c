@@ -1,5 +1,5 @@
-// Prices each fund file by the two peers and by the verified library in turn, compares every figure and cell, and prints the
-// time of one call of each and the ratios.
+// Prices each fund by the two peers and by the verified library in turn, compares every figure and cell, and prints the time
+// of one call of each and the ratios. A fund is a file, or a folder NAME.sheets with the files header, rates and members.
 #define _POSIX_C_SOURCE 199309L
 #include "verified.h"
 #include <stdio.h>
@@ -14,6 +14,9 @@ static const uint64_t LEVEL = 990000000000; // 0.99
 
 typedef int price(const unsigned char *, size_t, uint64_t, int64_t *, size_t, uint64_t *, size_t, int64_t *, size_t, uint64_t *,
                   size_t, int64_t *, size_t, struct priced *);
+typedef int price_sheets(const unsigned char *, size_t, const unsigned char *, size_t, const unsigned char *, size_t, uint64_t,
+                         int64_t *, size_t, uint64_t *, size_t, int64_t *, size_t, uint64_t *, size_t, int64_t *, size_t,
+                         struct priced *);
 
 struct answer {
     struct priced figures;
@@ -21,11 +24,34 @@ struct answer {
     uint64_t H[CELLS], R[CELLS];
 };
 
-static unsigned char file[ROOM];
-static size_t length;
+struct side {
+    const char *name;
+    price *price;
+    price_sheets *price_sheets;
+    struct answer answer;
+    long calls;
+    double time;
+};
 
-static void call(price *side, struct answer *a) {
-    side(file, length, LEVEL, a->D, CELLS, a->H, CELLS, a->f, CELLS, a->R, CELLS, a->F, CELLS, &a->figures);
+static struct side sides[] = {{.name = "plain", .price = plain_price, .price_sheets = plain_price_sheets},
+                              {.name = "tuned", .price = peer_price, .price_sheets = peer_price_sheets},
+                              {.name = "verified", .price = verified_price, .price_sheets = verified_price_sheets}};
+
+enum { SIDES = sizeof sides / sizeof sides[0], VERIFIED = SIDES - 1 };
+
+// The fund: a file, or a header text, a rate sheet and a member sheet.
+enum { TEXTS = 3 };
+static unsigned char text[TEXTS][ROOM];
+static size_t length[TEXTS];
+static int is_sheets;
+
+static void call(struct side *side) {
+    struct answer *a = &side->answer;
+    if (is_sheets)
+        side->price_sheets(text[0], length[0], text[1], length[1], text[2], length[2], LEVEL, a->D, CELLS, a->H, CELLS, a->f, CELLS,
+                           a->R, CELLS, a->F, CELLS, &a->figures);
+    else
+        side->price(text[0], length[0], LEVEL, a->D, CELLS, a->H, CELLS, a->f, CELLS, a->R, CELLS, a->F, CELLS, &a->figures);
 }
 
 static double now(void) {
@@ -35,41 +61,44 @@ static double now(void) {
 }
 
 // The time of one call, from so many in a row.
-static double timed(price *side, struct answer *a, long calls) {
+static double timed(struct side *side, long calls) {
     double begin = now();
     for (long k = 0; k < calls; k++)
-        call(side, a);
+        call(side);
     return (now() - begin) / (double)calls;
 }
 
-static int read_file(const char *name) {
+static int read_text(const char *name, int number) {
     FILE *in = fopen(name, "rb");
     if (!in)
         return 0;
-    length = fread(file, 1, ROOM, in);
+    length[number] = fread(text[number], 1, ROOM, in);
     return fclose(in) == 0;
 }
 
-struct side {
-    const char *name;
-    price *call;
-    struct answer answer;
-    long calls;
-    double time;
-};
-
-static struct side sides[] = {{.name = "plain", .call = plain_price}, {.name = "tuned", .call = peer_price}, {.name = "verified", .call = verified_price}};
-
-enum { SIDES = sizeof sides / sizeof sides[0], VERIFIED = SIDES - 1 };
+static int read_fund(const char *name) {
+    static const char *const parts[TEXTS] = {"header", "rates", "members"};
+    const char *suffix = strrchr(name, '.');
+    is_sheets = suffix && strcmp(suffix, ".sheets") == 0;
+    if (!is_sheets)
+        return read_text(name, 0);
+    for (int k = 0; k < TEXTS; k++) {
+        char path[FILENAME_MAX];
+        snprintf(path, sizeof path, "%s/%s", name, parts[k]);
+        if (!read_text(path, k))
+            return 0;
+    }
+    return 1;
+}
 
 static int compare(const char *name) {
-    if (!read_file(name)) {
+    if (!read_fund(name)) {
         fprintf(stderr, "%s: cannot be read\n", name);
         return 0;
     }
     for (int k = 0; k < SIDES; k++) {
         memset(&sides[k].answer, 0x11 * (k + 1), sizeof sides[k].answer);
-        call(sides[k].call, &sides[k].answer);
+        call(&sides[k]);
         if (memcmp(&sides[0].answer, &sides[k].answer, sizeof sides[0].answer) != 0) {
             printf("%s: the answers of %s and %s differ\n", name, sides[0].name, sides[k].name);
             return 0;
@@ -80,12 +109,12 @@ static int compare(const char *name) {
         return 0;
     }
     for (int k = 0; k < SIDES; k++) {
-        sides[k].calls = 1 + (long)(ROUND_SECONDS / timed(sides[k].call, &sides[k].answer, 3));
+        sides[k].calls = 1 + (long)(ROUND_SECONDS / timed(&sides[k], 3));
         sides[k].time = 1e9;
     }
     for (int round = 0; round < ROUNDS; round++)
         for (int k = 0; k < SIDES; k++) {
-            double time = timed(sides[k].call, &sides[k].answer, sides[k].calls);
+            double time = timed(&sides[k], sides[k].calls);
             sides[k].time = time < sides[k].time ? time : sides[k].time;
         }
     printf("%s:", name);

@@ -1,4 +1,4 @@
-"""Writes the three fund files of the comparison: python3 bench/funds.py DIR
+"""Writes the funds of the comparison, as files and some as sheets too: python3 bench/funds.py DIR
 
 Rates are small, so that document 01 accepts each fund. The files are the same on every run.
 """
@@ -6,6 +6,10 @@ Rates are small, so that document 01 accepts each fund. The files are the same o
 import random
 import sys
 from pathlib import Path
+
+sys.path.insert(0, str(Path(__file__).resolve().parent.parent / "tests"))
+import pricing
+import sheets
 
 
 def fund(horizon, order, frequency, deductible, rates, members):
@@ -59,10 +63,30 @@ def small():
     return fund(200, 8, 1000, 60, rates_by_age(rng, 15000, 10000), members)
 
 
+def reading():
+    """1,000 members of group 2 and a horizon of 20: most of the time is reading and matching."""
+    rng = random.Random(4)
+    members = [member(rng, 2, range(1, 1001)) for _ in range(1000)]
+    return fund(20, 4, 800, 10, rates_by_age(rng, 1500, 1000), members)
+
+
+def as_sheets(text):
+    """The header text, the rate sheet and the member sheet of a file."""
+    fund = pricing.read_fund(text.encode())
+    header = text[:text.index("rate=")]
+    members = [(member.age, member.group, member.d, member.e) for member in fund.member_rows]
+    return header.encode(), sheets.rate_sheet(fund.rate_rows), sheets.member_sheet(members)
+
+
 def main(directory):
     directory.mkdir(parents=True, exist_ok=True)
-    for make in (dense, sparse, small):
+    for make in (dense, sparse, small, reading):
         (directory / f"{make.__name__}.fund").write_text(make())
+    for make in (sparse, reading):
+        folder = directory / f"{make.__name__}.sheets"
+        folder.mkdir(exist_ok=True)
+        for name, data in zip(("header", "rates", "members"), as_sheets(make())):
+            (folder / name).write_bytes(data)
 
 
 if __name__ == "__main__":

@@ -1,10 +1,12 @@
 // Document 01 in C, without proofs: the peers that the verified library is measured against. With PLAIN every product is
-// divided as a 128-bit integer, and the call is plain_price; without, the divisions are made by hand where words are enough.
+// divided as a 128-bit integer, and the calls are plain_price and plain_price_sheets; without, the divisions are made by hand
+// where words are enough.
 #include "peer.h"
 #include <string.h>
 
 #ifdef PLAIN
 #define peer_price plain_price
+#define peer_price_sheets plain_price_sheets
 #endif
 
 typedef unsigned __int128 wide;
@@ -14,8 +16,9 @@ typedef unsigned __int128 wide;
 #define FIVES 244140625ull // 5^12
 
 enum { MOST_HORIZON = 4095, MOST_ORDER = 12, MOST_FREQUENCY = 5000, MOST_RATES = 121, MOST_MEMBERS = 1000, MOST_AGE = 120 };
-enum { HEADER_LINES = 7 };
-enum { FORM = 1, RANGE, EDITION, DEDUCTIBLE, UNMATCHED, HALF, LOAD, ORDER, SHORT, WIDE };
+enum { HEADER_LINES = 7, MOST_AMOUNT = 65535 };
+enum { CELL_BYTES = 8, RATE_BYTES = 3 * CELL_BYTES, MEMBER_BYTES = 4 * CELL_BYTES };
+enum { FORM = 1, RANGE, EDITION, DEDUCTIBLE, UNMATCHED, HALF, LOAD, ORDER, SHORT, WIDE, CELL };
 
 struct rate {
     uint64_t age, q, i;
@@ -148,7 +151,7 @@ static int read_rate(struct fund *fund, const uint64_t *n) {
 }
 
 static int read_member(struct fund *fund, size_t start, const uint64_t *n) {
-    if (fund->member_rows == MOST_MEMBERS || n[0] > MOST_AGE || n[1] < 1 || n[1] > 2 || n[2] > 65535 || n[3] > 65535)
+    if (fund->member_rows == MOST_MEMBERS || n[0] > MOST_AGE || n[1] < 1 || n[1] > 2 || n[2] > MOST_AMOUNT || n[3] > MOST_AMOUNT)
         return RANGE;
     struct member *m = &fund->member[fund->member_rows++];
     m->start = start;
@@ -159,7 +162,6 @@ static int read_member(struct fund *fund, size_t start, const uint64_t *n) {
 static int read_rows(struct reader *r, struct fund *fund) {
     uint64_t n[4];
     int why;
-    fund->rate_rows = fund->member_rows = 0;
     for (;;) {
         if (!take(r))
             return FORM;
@@ -179,8 +181,9 @@ static int read_rows(struct reader *r, struct fund *fund) {
     }
 }
 
-static int read_fund(struct reader *r, struct fund *fund) {
+static int read_header(struct reader *r, struct fund *fund) {
     int why;
+    fund->rate_rows = fund->member_rows = 0;
     if ((why = read_number(r, "rates=", 1900, 2999, &fund->rates)) ||
         (why = read_number(r, "members=", 1900, 2999, &fund->members)) ||
         (why = read_number(r, "horizon=", 0, MOST_HORIZON, &fund->horizon)) ||
@@ -189,7 +192,76 @@ static int read_fund(struct reader *r, struct fund *fund) {
         (why = read_number(r, "deductible=", 0, 4096, &fund->deductible)) ||
         (why = read_number(r, "worth=", 1, 9999999, &fund->worth)))
         return why;
-    return read_rows(r, fund);
+    return 0;
+}
+
+static int read_fund(struct reader *r, struct fund *fund) {
+    int why = read_header(r, fund);
+    return why ? why : read_rows(r, fund);
+}
+
+// Sheets
+
+struct sheet {
+    const unsigned char *bytes;
+    size_t length;
+};
+
+// The cell with this number of a row; a blank is any NaN.
+static double cell_of(const unsigned char *row, int number) {
+    uint64_t bits = 0;
+    double x;
+    for (int k = CELL_BYTES; k-- > 0;)
+        bits = bits << 8 | row[CELL_BYTES * number + k];
+    memcpy(&x, &bits, sizeof x);
+    return x;
+}
+
+// Whether x is a whole number within the limits. No comparison holds of a NaN, and minus zero is 0.
+static int whole(double x, uint64_t least, uint64_t most, uint64_t *n) {
+    if (!(x >= (double)least && x <= (double)most))
+        return 0;
+    *n = (uint64_t)x;
+    return (double)*n == x;
+}
+
+static int amount(double x, uint64_t *n) {
+    *n = 0;
+    return x != x || whole(x, 0, MOST_AMOUNT, n);
+}
+
+// Whether x is the quotient of some k by 1,000,000: of the nearest k, since no other is within a half.
+static int rate(double x, uint64_t *k) {
+    if (!(x >= 0 && x <= 1))
+        return 0;
+    *k = (uint64_t)(x * 1e6 + 0.5);
+    return (double)*k / 1e6 == x;
+}
+
+// The rate rows and then the member rows; `row` is the one at fault.
+static int read_sheets(struct sheet rates, struct sheet members, struct fund *fund, uint64_t *row) {
+    uint64_t n[4];
+    int why;
+    *row = 0;
+    for (size_t at = 0; at < rates.length; at += RATE_BYTES) {
+        const unsigned char *cells = rates.bytes + at;
+        ++*row;
+        if (rates.length - at < RATE_BYTES || !whole(cell_of(cells, 0), 0, MOST_AGE, &n[0]) || !rate(cell_of(cells, 1), &n[1]) ||
+            !rate(cell_of(cells, 2), &n[2]))
+            return CELL;
+        if ((why = read_rate(fund, n)))
+            return why;
+    }
+    for (size_t at = 0; at < members.length; at += MEMBER_BYTES) {
+        const unsigned char *cells = members.bytes + at;
+        ++*row;
+        if (members.length - at < MEMBER_BYTES || !whole(cell_of(cells, 0), 0, MOST_AGE, &n[0]) ||
+            !whole(cell_of(cells, 1), 1, 2, &n[1]) || !amount(cell_of(cells, 2), &n[2]) || !amount(cell_of(cells, 3), &n[3]))
+            return CELL;
+        if ((why = read_member(fund, 0, n)))
+            return why;
+    }
+    return 0;
 }
 
 // From members to the transform
@@ -453,6 +525,30 @@ static void clear(int64_t *D, size_t nD, uint64_t *H, size_t nH, int64_t *f, siz
     memset(F, 0, nF * sizeof *F);
 }
 
+// Refusals 3 to 10 of a fund that is read, or the figures and cells; sets the place, and for 5 and 6 the member.
+static int priced_fund(struct fund *fund, uint64_t level, int64_t *D, size_t nD, uint64_t *H, size_t nH, int64_t *f, size_t nf,
+                       uint64_t *R, size_t nR, int64_t *F, size_t nF, size_t *at, struct priced *out) {
+    int why;
+    if (fund->rates != fund->members)
+        return EDITION;
+    if (fund->deductible > fund->horizon + 1)
+        return DEDUCTIBLE;
+    if ((why = fold(fund, at))) {
+        out->place = HEADER_LINES + 1 + fund->rate_rows + *at;
+        return why;
+    }
+    why = value(fund, level, D, nD, H, nH, f, nf, R, nR, F, nF, out);
+    if (why)
+        clear(D, nD, H, nH, f, nf, R, nR, F, nF);
+    return why;
+}
+
+// The part that is handed back: the line taken last.
+static void hand_back(const struct reader *r, struct priced *out) {
+    out->start = r->end > r->start ? r->start : 0;
+    out->length = r->end - r->start;
+}
+
 int peer_price(const unsigned char *file, size_t length, uint64_t level, int64_t *D, size_t nD, uint64_t *H, size_t nH,
                int64_t *f, size_t nf, uint64_t *R, size_t nR, int64_t *F, size_t nF, struct priced *out) {
     struct fund fund;
@@ -463,22 +559,39 @@ int peer_price(const unsigned char *file, size_t length, uint64_t level, int64_t
     clear(D, nD, H, nH, f, nf, R, nR, F, nF);
     if ((why = read_fund(&r, &fund))) {
         out->place = r.place;
-    } else if (fund.rates != fund.members) {
-        why = EDITION;
-    } else if (fund.deductible > fund.horizon + 1) {
-        why = DEDUCTIBLE;
-    } else if ((why = fold(&fund, &at))) {
-        r.next = fund.member[at].start;
-        take(&r);
-        out->place = HEADER_LINES + 1 + fund.rate_rows + at;
+        hand_back(&r, out);
     } else {
-        why = value(&fund, level, D, nD, H, nH, f, nf, R, nR, F, nF, out);
-        if (why)
-            clear(D, nD, H, nH, f, nf, R, nR, F, nF);
+        why = priced_fund(&fund, level, D, nD, H, nH, f, nf, R, nR, F, nF, &at, out);
+        if (why == UNMATCHED || why == HALF) {
+            r.next = fund.member[at].start;
+            take(&r);
+            hand_back(&r, out);
+        }
     }
-    if (why && why != WIDE && out->place) {
-        out->start = r.end > r.start ? r.start : 0;
-        out->length = r.end - r.start;
+    out->number = (uint64_t)why;
+    return why;
+}
+
+int peer_price_sheets(const unsigned char *header, size_t header_length, const unsigned char *rates, size_t rates_length,
+                      const unsigned char *members, size_t members_length, uint64_t level, int64_t *D, size_t nD, uint64_t *H,
+                      size_t nH, int64_t *f, size_t nf, uint64_t *R, size_t nR, int64_t *F, size_t nF, struct priced *out) {
+    struct fund fund;
+    struct reader r = {.file = header, .length = header_length};
+    uint64_t row;
+    size_t at = 0;
+    int why;
+    *out = (struct priced){0};
+    clear(D, nD, H, nH, f, nf, R, nR, F, nF);
+    why = read_header(&r, &fund);
+    if (!why && r.next < r.length && take(&r))
+        why = FORM;
+    if (why) {
+        out->place = r.place;
+        hand_back(&r, out);
+    } else if ((why = read_sheets((struct sheet){rates, rates_length}, (struct sheet){members, members_length}, &fund, &row))) {
+        out->place = why == CELL ? row : HEADER_LINES + row;
+    } else {
+        why = priced_fund(&fund, level, D, nD, H, nH, f, nf, R, nR, F, nF, &at, out);
     }
     out->number = (uint64_t)why;
     return why;

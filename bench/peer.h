@@ -19,6 +19,15 @@ struct priced {
 int peer_price(const unsigned char *file, size_t length, uint64_t level, int64_t *D, size_t nD, uint64_t *H, size_t nH,
                int64_t *f, size_t nf, uint64_t *R, size_t nR, int64_t *F, size_t nF, struct priced *out);
 
+// Prices a fund whose rows come as sheets; the line handed back is one of the header text.
+int peer_price_sheets(const unsigned char *header, size_t header_length, const unsigned char *rates, size_t rates_length,
+                      const unsigned char *members, size_t members_length, uint64_t level, int64_t *D, size_t nD, uint64_t *H,
+                      size_t nH, int64_t *f, size_t nf, uint64_t *R, size_t nR, int64_t *F, size_t nF, struct priced *out);
+
 // The same with plain 128-bit divisions.
 int plain_price(const unsigned char *file, size_t length, uint64_t level, int64_t *D, size_t nD, uint64_t *H, size_t nH,
                 int64_t *f, size_t nf, uint64_t *R, size_t nR, int64_t *F, size_t nF, struct priced *out);
+
+int plain_price_sheets(const unsigned char *header, size_t header_length, const unsigned char *rates, size_t rates_length,
+                       const unsigned char *members, size_t members_length, uint64_t level, int64_t *D, size_t nD, uint64_t *H,
+                       size_t nH, int64_t *f, size_t nf, uint64_t *R, size_t nR, int64_t *F, size_t nF, struct priced *out);

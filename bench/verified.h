@@ -1,4 +1,4 @@
-// The verified call with the peer's signature.
+// The verified calls with the peer's signatures.
 #include "../include/miguepo.h"
 #include "peer.h"
 
@@ -25,6 +25,17 @@ static inline int verified_price(const unsigned char *file, size_t length, uint6
                                  struct priced *out) {
     struct miguepo_result got;
     miguepo_price(file, length, level, D, nD, H, nH, f, nf, R, nR, F, nF, &got);
+    *out = priced_of(&got);
+    return (int)out->number;
+}
+
+static inline int verified_price_sheets(const unsigned char *header, size_t header_length, const unsigned char *rates,
+                                        size_t rates_length, const unsigned char *members, size_t members_length, uint64_t level,
+                                        int64_t *D, size_t nD, uint64_t *H, size_t nH, int64_t *f, size_t nf, uint64_t *R,
+                                        size_t nR, int64_t *F, size_t nF, struct priced *out) {
+    struct miguepo_result got;
+    miguepo_price_sheets(header, header_length, rates, rates_length, members, members_length, level, D, nD, H, nH, f, nf, R, nR,
+                         F, nF, &got);
     *out = priced_of(&got);
     return (int)out->number;
 }

@@ -1,19 +1,25 @@
-/* Prices a fund file: prints the premium with its bound and the gross premium in centimes, or the refusal and the line at fault.
- * With a level, in units of 10^-12, the place of the quantile too: the smallest total x with F(x) at least the level, or none up
- * to the horizon.
+/* Prices a fund file, or a fund whose rows come as sheets: prints the premium with its bound and the gross premium in centimes, or
+ * the refusal and the line at fault. With a level, in units of 10^-12, the place of the quantile too: the smallest total x with
+ * F(x) at least the level, or none up to the horizon.
  *
  *     price FILE [LEVEL]
+ *     price --sheets HEADER RATES MEMBERS [LEVEL]
  */
 #include "miguepo.h"
 
 #include <inttypes.h>
 #include <stdio.h>
 #include <stdlib.h>
+#include <string.h>
 
-/* A file that is accepted is shorter; of a longer one only the first bytes are read, which give the same answer. */
+/* A file or sheet that is accepted is shorter; of a longer one only the first bytes are read, which give the same answer. */
 enum { MOST = 65536 };
 
-static uint8_t file[MOST];
+/* The file, or the header text, the rate sheet and the member sheet. */
+enum { TEXTS = 3 };
+
+static uint8_t text[TEXTS][MOST];
+static size_t size[TEXTS];
 static int64_t d[MIGUEPO_CELLS], f[MIGUEPO_CELLS], sums[MIGUEPO_CELLS];
 static uint64_t h[MIGUEPO_CELLS], r[MIGUEPO_CELLS];
 
@@ -39,43 +45,63 @@ static int read_level(const char *word, uint64_t *level)
     return *word != 0;
 }
 
+static int read_text(const char *path, int number)
+{
+    FILE *in = fopen(path, "rb");
+    if (!in) {
+        perror(path);
+        return 0;
+    }
+    size[number] = fread(text[number], 1, MOST, in);
+    if (ferror(in)) {
+        perror(path);
+        return 0;
+    }
+    fclose(in);
+    return 1;
+}
+
+static void print_refusal(const struct miguepo_result *fund)
+{
+    printf("refused=%" PRIu64 ",%" PRIu64 "\n", fund->number, fund->place);
+    if (fund->line_size) {
+        printf("line: ");
+        fwrite(text[0] + fund->line_start, 1, fund->line_size, stdout);
+        printf("\n");
+    }
+}
+
 int main(int count, char **words)
 {
     uint64_t level = 0;
-    if (count < 2 || count > 3 || (count == 3 && !read_level(words[2], &level))) {
-        fprintf(stderr, "usage: price FILE [LEVEL], the level a whole number of units of 10^-12\n");
+    int sheets = count > 1 && strcmp(words[1], "--sheets") == 0;
+    int first = sheets ? 2 : 1, texts = sheets ? TEXTS : 1, with_level = count == first + texts + 1;
+    if ((count != first + texts && !with_level) || (with_level && !read_level(words[count - 1], &level))) {
+        fprintf(stderr, "usage: price FILE [LEVEL], or price --sheets HEADER RATES MEMBERS [LEVEL], the level a whole number of "
+                        "units of 10^-12\n");
         return 2;
     }
-    FILE *in = fopen(words[1], "rb");
-    if (!in) {
-        perror(words[1]);
-        return 2;
-    }
-    size_t size = fread(file, 1, MOST, in);
-    if (ferror(in)) {
-        perror(words[1]);
-        return 2;
-    }
-    fclose(in);
+    for (int k = 0; k < texts; k++)
+        if (!read_text(words[first + k], k))
+            return 2;
 
     struct miguepo_result fund;
-    miguepo_price(file, size, level, d, MIGUEPO_CELLS, h, MIGUEPO_CELLS, f, MIGUEPO_CELLS, r, MIGUEPO_CELLS,
-                  sums, MIGUEPO_CELLS, &fund);
+    if (sheets)
+        miguepo_price_sheets(text[0], size[0], text[1], size[1], text[2], size[2], level, d, MIGUEPO_CELLS, h, MIGUEPO_CELLS,
+                             f, MIGUEPO_CELLS, r, MIGUEPO_CELLS, sums, MIGUEPO_CELLS, &fund);
+    else
+        miguepo_price(text[0], size[0], level, d, MIGUEPO_CELLS, h, MIGUEPO_CELLS, f, MIGUEPO_CELLS, r, MIGUEPO_CELLS,
+                      sums, MIGUEPO_CELLS, &fund);
     if (fund.number != MIGUEPO_ACCEPTED) {
-        printf("refused=%" PRIu64 ",%" PRIu64 "\n", fund.number, fund.place);
-        if (fund.line_size) {
-            printf("line: ");
-            fwrite(file + fund.line_start, 1, fund.line_size, stdout);
-            printf("\n");
-        }
+        print_refusal(&fund);
         return 1;
     }
     print_units("premium ", fund.premium < 0, fund.premium < 0 ? 0 - (uint64_t)fund.premium : (uint64_t)fund.premium);
     print_units(", within ", 0, fund.within);
     printf("\ngross %" PRIu64 " centimes\n", fund.gross);
-    if (count == 3 && fund.reached)
+    if (with_level && fund.reached)
         printf("quantile %" PRIu64 "\n", fund.quantile);
-    else if (count == 3)
+    else if (with_level)
         printf("quantile none\n");
     return 0;
 }

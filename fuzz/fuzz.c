@@ -1,8 +1,10 @@
-// The library against the tuned peer of bench/, on files, slice lengths and levels that a fuzzer chooses.
+// The library against the tuned peer of bench/, on files, sheets, slice lengths and levels that a fuzzer chooses.
 //
-// The first five bytes of an input choose the slices' lengths, the next eight the level, the rest is the file. The peer is built
-// with the fuzzer's coverage and with sanitizers, so that new paths through it lead the search; the library is the archive itself.
-// Before and behind each slice and the result stand bytes that must stay as they are, since no sanitizer sees the archive's stores.
+// The first byte of an input says whether it is a file or sheets, the next five choose the slices' lengths, the next eight the
+// level. The rest is the file; or two lengths, of two bytes each, and the header text and the rate sheet of these lengths, and
+// the member sheet. The peer is built with the fuzzer's coverage and with sanitizers, so that new paths through it lead the
+// search; the library is the archive itself. Before and behind each slice and the result stand bytes that must stay as they
+// are, since no sanitizer sees the archive's stores.
 #include "../bench/verified.h"
 
 #include <stdlib.h>
@@ -18,8 +20,17 @@ static uint64_t level_of(const uint8_t *bytes) {
     return level >> 62 & 1 ? level : level % (2 * MIGUEPO_MOST_LEVEL);
 }
 
-enum { SLICES = 5, HEAD = SLICES + 8 }; // bytes before the file
+enum { SLICES = 5, HEAD = 1 + SLICES + 8 }; // bytes before the texts
 enum { EDGE = 64 }; // bytes before and behind each slice
+
+// A file, or a header text, a rate sheet and a member sheet; `given` are the input's bytes, `at` copies of them.
+enum { TEXTS = 3 };
+struct texts {
+    int count;
+    const uint8_t *given[TEXTS];
+    uint8_t *at[TEXTS];
+    size_t length[TEXTS];
+};
 
 // A slice of so many bytes, filled, between its edges.
 static uint8_t *slice_of(size_t size, int filling) {
@@ -41,38 +52,81 @@ static void same(const void *a, const void *b, size_t size) {
         abort();
 }
 
+// The next text: so many bytes, or as many as are left.
+static void add_text(struct texts *t, const uint8_t **from, size_t *left, size_t length) {
+    int k = t->count++;
+    t->given[k] = *from;
+    t->length[k] = length < *left ? length : *left;
+    t->at[k] = malloc(t->length[k] ? t->length[k] : 1);
+    if (!t->at[k])
+        abort();
+    memcpy(t->at[k], *from, t->length[k]);
+    *from += t->length[k];
+    *left -= t->length[k];
+}
+
+static struct texts texts_of(int is_sheets, const uint8_t *from, size_t left) {
+    struct texts t = {0};
+    if (is_sheets && left >= 4) {
+        size_t header = from[0] | (size_t)from[1] << 8, rates = from[2] | (size_t)from[3] << 8;
+        from += 4;
+        left -= 4;
+        add_text(&t, &from, &left, header);
+        add_text(&t, &from, &left, rates);
+    }
+    add_text(&t, &from, &left, left);
+    return t;
+}
+
+static void call_peer(const struct texts *t, uint64_t level, uint8_t **slice, const size_t *n, struct priced *out) {
+    int64_t *D = (int64_t *)slice[0], *f = (int64_t *)slice[2], *F = (int64_t *)slice[4];
+    uint64_t *H = (uint64_t *)slice[1], *R = (uint64_t *)slice[3];
+    if (t->count == 1)
+        peer_price(t->at[0], t->length[0], level, D, n[0], H, n[1], f, n[2], R, n[3], F, n[4], out);
+    else
+        peer_price_sheets(t->at[0], t->length[0], t->at[1], t->length[1], t->at[2], t->length[2], level, D, n[0], H, n[1], f, n[2],
+                          R, n[3], F, n[4], out);
+}
+
+static void call_library(const struct texts *t, uint64_t level, uint8_t **slice, const size_t *n, struct miguepo_result *out) {
+    int64_t *d = (int64_t *)slice[0], *f = (int64_t *)slice[2], *sums = (int64_t *)slice[4];
+    uint64_t *h = (uint64_t *)slice[1], *r = (uint64_t *)slice[3];
+    if (t->count == 1)
+        miguepo_price(t->at[0], t->length[0], level, d, n[0], h, n[1], f, n[2], r, n[3], sums, n[4], out);
+    else
+        miguepo_price_sheets(t->at[0], t->length[0], t->at[1], t->length[1], t->at[2], t->length[2], level, d, n[0], h, n[1], f,
+                             n[2], r, n[3], sums, n[4], out);
+}
+
 int LLVMFuzzerTestOneInput(const uint8_t *data, size_t size) {
     if (size < HEAD)
         return 0;
-    size_t n[SLICES], length = size - HEAD;
-    uint64_t level = level_of(data + SLICES);
+    size_t n[SLICES];
+    uint64_t level = level_of(data + 1 + SLICES);
     uint8_t *slice[2][SLICES];
     for (int k = 0; k < SLICES; k++) {
-        n[k] = cells(data[k]);
+        n[k] = cells(data[1 + k]);
         for (int side = 0; side < 2; side++)
             slice[side][k] = slice_of(8 * n[k], 0x5a + side);
     }
-    uint8_t *file = malloc(length ? length : 1);
-    if (!file)
-        abort();
-    memcpy(file, data + HEAD, length);
+    struct texts texts = texts_of(data[0] & 1, data + HEAD, size - HEAD);
 
     struct priced peer;
     memset(&peer, 0, sizeof peer);
-    peer_price(file, length, level, (int64_t *)slice[0][0], n[0], (uint64_t *)slice[0][1], n[1], (int64_t *)slice[0][2], n[2],
-               (uint64_t *)slice[0][3], n[3], (int64_t *)slice[0][4], n[4], &peer);
+    call_peer(&texts, level, slice[0], n, &peer);
     struct miguepo_result *result = (struct miguepo_result *)slice_of(sizeof *result, 0x5c);
-    miguepo_price(file, length, level, (int64_t *)slice[1][0], n[0], (uint64_t *)slice[1][1], n[1], (int64_t *)slice[1][2], n[2],
-                  (uint64_t *)slice[1][3], n[3], (int64_t *)slice[1][4], n[4], result);
+    call_library(&texts, level, slice[1], n, result);
     struct priced got = priced_of(result);
     if (got.length == 0)
         got.start = peer.start = 0; // the start of an empty part says nothing
     same(&peer, &got, sizeof peer);
-    same(data + HEAD, file, length);
     for (int k = 0; k < SLICES; k++)
         same(slice[0][k], slice[1][k], 8 * n[k]);
 
-    free(file);
+    for (int k = 0; k < texts.count; k++) {
+        same(texts.given[k], texts.at[k], texts.length[k]);
+        free(texts.at[k]);
+    }
     edges_kept((uint8_t *)result, sizeof *result, 0x5c);
     free((uint8_t *)result - EDGE);
     for (int k = 0; k < SLICES; k++)

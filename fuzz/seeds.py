@@ -1,6 +1,7 @@
 """Writes the first inputs of the fuzzer: python3 fuzz/seeds.py DIR
 
-The examples and the short ones of the stored cases, each behind five bytes for the slices' lengths and eight for the level.
+The examples and the short ones of the stored cases, files and sheets, each behind a byte that says which, five bytes for the
+slices' lengths and eight for the level; sheets also behind the lengths of the header text and the rate sheet, two bytes each.
 """
 
 import sys
@@ -11,17 +12,40 @@ sys.path.insert(0, str(ROOT / "tests"))
 import cases
 import generate
 import pricing
+import sheets
 
+A_FILE, SHEETS = 0, 1
 # Bytes for a slice of 240 cells and for one of 4,096.
 FEW, ALL = 240, 250
+LONGEST = 2000       # bytes of a stored case
+
+
+def head(kind, horizon, level):
+    return bytes([kind] + [FEW if horizon < FEW else ALL] * 5) + level.to_bytes(8, "little")
+
+
+def stored(name):
+    return (ROOT / "crates" / name / "stdin").read_bytes()
+
+
+def file_inputs():
+    pairs = [(path.read_bytes(), generate.USUAL_LEVEL) for path in sorted((ROOT / "examples").glob("*.fund"))]
+    pairs += [pair for pair in cases.pairs_of(stored("cases")) if len(pair[0]) <= LONGEST]
+    return [head(A_FILE, pricing.price(data).horizon, level) + data for data, level in pairs]
+
+
+def sheet_inputs():
+    folder = ROOT / "examples" / "sheets"
+    worked = tuple((folder / name).read_bytes() for name in ("header.txt", "rates.sheet", "members.sheet"))
+    pairs = [(worked, generate.USUAL_LEVEL)]
+    pairs += [pair for pair in cases.sheet_pairs_of(stored("sheet_cases")) if sum(map(len, pair[0])) <= LONGEST]
+    return [head(SHEETS, sheets.price_sheets(*three).horizon, level)
+            + b"".join(len(text).to_bytes(2, "little") for text in three[:2]) + b"".join(three) for three, level in pairs]
 
 
 def main(directory):
-    pairs = [(path.read_bytes(), generate.USUAL_LEVEL) for path in sorted((ROOT / "examples").glob("*.fund"))]
-    pairs += [pair for pair in cases.pairs_of((ROOT / "crates" / "cases" / "stdin").read_bytes()) if len(pair[0]) <= 2000]
-    for number, (data, level) in enumerate(pairs):
-        cells = FEW if pricing.price(data).horizon < FEW else ALL
-        (directory / f"seed-{number:03}").write_bytes(bytes([cells] * 5) + level.to_bytes(8, "little") + data)
+    for number, data in enumerate(file_inputs() + sheet_inputs()):
+        (directory / f"seed-{number:03}").write_bytes(data)
 
 
 if __name__ == "__main__":

@@ -1,13 +1,13 @@
 /* Stop-loss premiums of a pension fund, with a proved bound on every probability
  * and on the premium.
  *
- * One call prices one fund file and finds its quantile at a level. The level and
- * all figures but places, sizes, the horizon and the gross premium are in units of
- * 10^-12.
+ * One call prices one fund file, or one header text with two sheets, and finds
+ * the fund's quantile at a level. The level and all figures but places, sizes, the
+ * horizon and the gross premium are in units of 10^-12.
  *
- * The call takes every sequence of bytes, every level and result slices of every
- * length, and always returns. It keeps no state, allocates nothing, needs less
- * than 160 KiB of stack, and may run in several threads at once on different
+ * The calls take every sequence of bytes, every level and result slices of every
+ * length, and always return. They keep no state, allocate nothing, need less
+ * than 200 KiB of stack, and may run in several threads at once on different
  * results.
  *
  * What only the caller can get wrong:
@@ -40,7 +40,8 @@ enum miguepo_number {
     MIGUEPO_LOAD = 7,       /* the load is above 8 x 10^12 units */
     MIGUEPO_ORDER = 8,      /* the truncation figure is above 10^8 units */
     MIGUEPO_SHORT = 9,      /* one of the five result slices has fewer cells than the horizon and one */
-    MIGUEPO_WIDE = 10       /* some R(x) is above 250,000 units; at the first such x */
+    MIGUEPO_WIDE = 10,      /* some R(x) is above 250,000 units; at the first such x */
+    MIGUEPO_CELL = 11       /* a sheet's cell is not taken, or a last row is cut short; at a row */
 };
 
 /* Cells enough for every horizon. */
@@ -52,9 +53,9 @@ enum miguepo_number {
 /* What a call answers beside the cells. Each field has eight bytes. */
 struct miguepo_result {
     uint64_t number;     /* MIGUEPO_ACCEPTED, or the refusal's */
-    uint64_t place;      /* of the refusal: a line, counted from 1, or the x of MIGUEPO_WIDE, or 0 */
-    uint64_t line_start; /* the part of the file that is the line of the refusal, without its line feed; */
-    uint64_t line_size;  /* its size is 0 where no line is at fault */
+    uint64_t place;      /* of the refusal: a line or a sheet's row, counted from 1, or the x of MIGUEPO_WIDE, or 0 */
+    uint64_t line_start; /* the part of the file, or of the header text, that is the line of the refusal, without its */
+    uint64_t line_size;  /* line feed; its size is 0 where no line is at fault, and for a sheet's row */
     uint64_t horizon;    /* X of the fund that is accepted */
     uint64_t truncation; /* the truncation figure E */
     uint64_t mean;       /* the mean of the year's total claims */
@@ -90,6 +91,37 @@ void miguepo_price(const uint8_t *file, size_t file_length,
                    uint64_t *r, size_t r_length,
                    int64_t *sums, size_t sums_length,
                    struct miguepo_result *result);
+
+/* Prices a header text with two sheets.
+ *
+ *   header, header_length    the header lines of a fund file, each with its line feed
+ *   rates, rates_length      rows of three cells: age, q, i
+ *   members, members_length  rows of four cells: age, group, amount at death, amount at disability
+ *   the others               as for a fund file
+ *
+ * A cell is an IEEE 754 binary64 of eight bytes, least byte first, at any address.
+ * A NaN is a blank. An age, a group and an amount are whole numbers in their
+ * ranges; a rate is the binary64 quotient of some k by 1,000,000, k from 0 to
+ * 1,000,000, and k is the rate in millionths. A blank amount is 0. Minus zero is 0.
+ *
+ * Sheets whose cells are all taken are priced as the fund file with the header
+ * text and the same rows: number, place, figures, quantile and every cell are that
+ * file's; only the line is empty, since it stands in no text. A cell that is not
+ * taken, and a last row that is cut short, are MIGUEPO_CELL; the place is the row,
+ * counted from 1 through the rates and on through the members. Refusals in the
+ * header text come before any row, and bytes behind its last line are MIGUEPO_FORM
+ * at their line.
+ */
+void miguepo_price_sheets(const uint8_t *header, size_t header_length,
+                          const uint8_t *rates, size_t rates_length,
+                          const uint8_t *members, size_t members_length,
+                          uint64_t level,
+                          int64_t *d, size_t d_length,
+                          uint64_t *h, size_t h_length,
+                          int64_t *f, size_t f_length,
+                          uint64_t *r, size_t r_length,
+                          int64_t *sums, size_t sums_length,
+                          struct miguepo_result *result);
 
 #ifdef __cplusplus
 }

@@ -4,6 +4,8 @@
     python3 tests/cases.py check DIR
     python3 tests/cases.py stream DIR N SEED
     python3 tests/cases.py check-stream DIR
+    python3 tests/cases.py sheet-stream DIR N SEED
+    python3 tests/cases.py check-sheet-stream DIR
     python3 tests/cases.py programs CRATES
     python3 tests/cases.py check-programs CRATES
 
@@ -20,9 +22,14 @@ back, then the line that the program `level` prints, and an empty line.  The las
 of a stream are those of quantile_funds.py and rate_funds.py, funds with rates for
 some ages only, and those of tariff_funds.py, triangle_funds.py and frequency_funds.py.
 
+In a stream of sheets each case has the lengths of its header text, its rate sheet and
+its member sheet, six decimal digits and a space each, and its level as above, then the
+three one after the other; the part that is handed back is one of the header text.  The
+first cases are those of sheet_funds.py that are short.
+
 The programs `listing` and `overlong` of CRATES are one program, run on a full fund
 and on a file that is longer than what is read; `level` is asked at the level in its
-file args.
+file args; `sheets` is run on the three files that its args name, in its folder data.
 """
 
 import random
@@ -33,9 +40,12 @@ from pathlib import Path
 import document_funds
 import frequency_funds
 import generate
+import generate_sheets
 import pricing
 import quantile_funds
 import rate_funds
+import sheet_funds
+import sheets
 import tariff_funds
 import triangle_funds
 
@@ -43,11 +53,12 @@ import triangle_funds
 LONGEST = 65536      # what the program that reads a stream has room for
 MOST_LEVEL = 9999999999999      # thirteen digits
 HEAD = 21            # bytes before each file of a stream
+SHEET_HEAD = 35      # bytes before each header text of a stream of sheets
 GAPS = 40            # funds with rates for some ages only
 
 
 def listing_of(data):
-    return pricing.listing(pricing.price(data)).encode("ascii")
+    return printed(pricing.price(data))
 
 
 def known_cases(rng):
@@ -107,18 +118,29 @@ def check(directory):
     return 0 if count and not bad else 1
 
 
-def level_line(data, level):
-    """The line of the answer at a level, as the program `level` prints it."""
-    answer = pricing.price(data, level=level)
+def printed(answer):
+    return pricing.listing(answer).encode("ascii")
+
+
+def quantile_line(answer):
+    """The line of an answer at a level, as the program `level` prints it."""
     if answer.number:
-        return listing_of(data)
+        return printed(answer)
     return b"quantile=none\n" if answer.quantile is None else b"quantile=%d\n" % answer.quantile
 
 
+def level_line(data, level):
+    return quantile_line(pricing.price(data, level=level))
+
+
+def told(answer, text):
+    """What a stream's program writes of an answer; its part is one of the text."""
+    part = text[answer.start:answer.start + answer.length]
+    return printed(answer) + b"line=" + part + b"\n" + quantile_line(answer) + b"\n"
+
+
 def answer_of(data, level):
-    answer = pricing.price(data)
-    part = data[answer.start:answer.start + answer.length]
-    return listing_of(data) + b"line=" + part + b"\n" + level_line(data, level) + b"\n"
+    return told(pricing.price(data, level=level), data)
 
 
 def stream_of(pairs):
@@ -145,29 +167,101 @@ def stream_pairs(count, seed):
             for case in made if len(case.data) <= LONGEST]
 
 
-def write_stream(directory, count, seed):
+def store(directory, given, wanted):
     directory.mkdir(parents=True, exist_ok=True)
-    pairs = stream_pairs(count, seed)
-    given, wanted = stream_of(pairs)
     (directory / "stdin").write_bytes(given)
     (directory / "stdout").write_bytes(wanted)
+
+
+def write_stream(directory, count, seed):
+    pairs = stream_pairs(count, seed)
+    store(directory, *stream_of(pairs))
     return len(pairs)
 
 
-def check_stream(directory):
+def check_stored(directory, read, made):
+    """Whether the stored stdin, read and made again, gives the stored stdout."""
     stored = tuple((directory / name).read_bytes() for name in ("stdin", "stdout"))
-    pairs = pairs_of(stored[0])
-    same = stream_of(pairs) == stored
-    print(f"{len(pairs)} cases, " + ("none differs" if same else "some differ"))
-    return 0 if pairs and same else 1
+    found = read(stored[0])
+    same = made(found) == stored
+    print(f"{len(found)} cases, " + ("none differs" if same else "some differ"))
+    return 0 if found and same else 1
 
+
+def check_stream(directory):
+    return check_stored(directory, pairs_of, stream_of)
+
+
+# Streams of sheets
+
+def sheet_answer_of(three, level):
+    return told(sheets.price_sheets(*three, level=level), three[0])
+
+
+def sheet_stream_of(pairs):
+    """stdin and stdout for (header, rates, members) with their levels."""
+    return (b"".join(b"%06d %06d %06d " % tuple(map(len, three)) + b"%013d\n" % level + b"".join(three)
+                     for three, level in pairs),
+            b"".join(sheet_answer_of(three, level) for three, level in pairs))
+
+
+def sheet_pairs_of(stream):
+    """The header texts and sheets of a stream with their levels."""
+    pairs, at = [], 0
+    while at < len(stream):
+        *sizes, level = (int(word) for word in stream[at:at + SHEET_HEAD].split())
+        at += SHEET_HEAD
+        three = []
+        for size in sizes:
+            three.append(stream[at:at + size])
+            at += size
+        pairs.append((tuple(three), level))
+    return pairs
+
+
+def sheet_stream_pairs(count, seed):
+    rng = random.Random(seed)
+    made = sheet_funds.stored() + generate_sheets.random_sheets(seed, count)
+    return [(case.sheets(), generate.level_of(case, rng, sheets.price_sheets(*case.sheets()), MOST_LEVEL))
+            for case in made if sum(map(len, case.sheets())) <= LONGEST]
+
+
+def write_sheet_stream(directory, count, seed):
+    pairs = sheet_stream_pairs(count, seed)
+    store(directory, *sheet_stream_of(pairs))
+    return len(pairs)
+
+
+def check_sheet_stream(directory):
+    return check_stored(directory, sheet_pairs_of, sheet_stream_of)
+
+
+# Programs
 
 def programs():
-    """The programs with their input and, for one that is asked at a level, the level."""
+    """The programs of one file with their input and, for one that is asked at a level, the level."""
     worked = Path(__file__).resolve().parent.parent / "examples" / "sixty-members.fund"
     return {"listing": (generate.full_fund().data(), None),
             "overlong": (generate.overlong_file().data(), None),
             "level": (worked.read_bytes(), 990000000000)}
+
+
+SHEET_FILES = ("header", "rates", "members")
+
+
+def sheet_program():
+    """The full fund as sheets, with blanks and minus zeros."""
+    return generate_sheets.other_zeros(random.Random(2030), generate_sheets.full_sheets()).sheets()
+
+
+def write_sheet_program(folder):
+    """In the folder of a crate that is there."""
+    three = sheet_program()
+    (folder / "data").mkdir(exist_ok=True)
+    for name, data in zip(SHEET_FILES, three):
+        (folder / "data" / name).write_bytes(data)
+    (folder / "args").write_text("".join(f"{name}\n" for name in SHEET_FILES))
+    (folder / "stdout").write_bytes(printed(sheets.price_sheets(*three)))
 
 
 def write_programs(crates):
@@ -176,20 +270,26 @@ def write_programs(crates):
         (crates / name / "stdout").write_bytes(listing_of(data) if level is None else level_line(data, level))
         if level is not None:
             (crates / name / "args").write_text(f"{level}\n")
-    return len(programs())
+    write_sheet_program(crates / "sheets")
+    return len(programs()) + 1
+
+
+def wanted_of(folder):
+    """What a program should print for what its folder holds."""
+    if (folder / "data").exists():
+        return printed(sheets.price_sheets(*((folder / "data" / name).read_bytes()
+                                             for name in (folder / "args").read_text().split("\n")[:-1])))
+    data = (folder / "stdin").read_bytes()
+    arguments = folder / "args"
+    return level_line(data, int(arguments.read_text())) if arguments.exists() else listing_of(data)
 
 
 def check_programs(crates):
-    bad = 0
-    for name in programs():
-        folder = crates / name
-        data = (folder / "stdin").read_bytes()
-        arguments = folder / "args"
-        wanted = level_line(data, int(arguments.read_text())) if arguments.exists() else listing_of(data)
-        if wanted != (folder / "stdout").read_bytes():
-            bad += 1
-            print(f"differs: {name}")
-    print(f"{len(programs())} programs, {bad} differ")
+    names = [*programs(), "sheets"]
+    bad = [name for name in names if wanted_of(crates / name) != (crates / name / "stdout").read_bytes()]
+    for name in bad:
+        print(f"differs: {name}")
+    print(f"{len(names)} programs, {len(bad)} differ")
     return 1 if bad else 0
 
 
@@ -206,6 +306,12 @@ def main(arguments):
         return 0
     if len(arguments) == 2 and arguments[0] == "check-stream":
         return check_stream(Path(arguments[1]))
+    if len(arguments) == 4 and arguments[0] == "sheet-stream":
+        count = write_sheet_stream(Path(arguments[1]), int(arguments[2]), int(arguments[3]))
+        print(f"{count} cases written")
+        return 0
+    if len(arguments) == 2 and arguments[0] == "check-sheet-stream":
+        return check_sheet_stream(Path(arguments[1]))
     if len(arguments) == 2 and arguments[0] == "programs":
         print(f"{write_programs(Path(arguments[1]))} programs written")
         return 0

@@ -40,13 +40,18 @@ class Text:
         given = self.frequency
         return pricing.Frequencies(*(given if isinstance(given, tuple) else (given, given)))
 
-    def lines(self):
-        head = [b"rates=%d" % self.rates, b"members=%d" % self.members, b"horizon=%d" % self.horizon,
+    def header_lines(self):
+        return [b"rates=%d" % self.rates, b"members=%d" % self.members, b"horizon=%d" % self.horizon,
                 b"order=%d" % self.order, b"frequency=%d,%d" % self.frequencies(),
                 b"deductible=%d" % self.deductible, b"worth=%d" % self.worth]
+
+    def lines(self):
         rates = [b"rate=%d,%d,%d" % row for row in self.rate_rows]
         members = [b"member=%d,%d,%d,%d" % row for row in self.member_rows]
-        return head + rates + members + [b"end=%d" % len(self.member_rows)]
+        return self.header_lines() + rates + members + [b"end=%d" % len(self.member_rows)]
+
+    def header(self):
+        return joined(self.header_lines())
 
     def data(self):
         return joined(self.lines())

@@ -214,9 +214,8 @@ def read_rows(reader):
             raise line.refusal(FORM)
 
 
-def read_fund(data):
-    """Reading goes line by line, form before range within a line."""
-    reader = Reader(data)
+def read_header_lines(reader):
+    """The figures of the header, in the order of Fund."""
     rates = read_header(reader, b"rates=", EDITION_LOW, EDITION_HIGH)
     members = read_header(reader, b"members=", EDITION_LOW, EDITION_HIGH)
     horizon = read_header(reader, b"horizon=", 0, HORIZON_HIGH)
@@ -224,11 +223,21 @@ def read_fund(data):
     frequency = read_frequencies(reader)
     deductible = read_header(reader, b"deductible=", 0, DEDUCTIBLE_HIGH)
     worth = read_header(reader, b"worth=", WORTH_LOW, WORTH_HIGH)
-    rate_rows, member_rows = read_rows(reader)
+    return rates, members, horizon, order, frequency, deductible, worth
+
+
+def check_end(reader):
     if not reader.at_end():
         raise reader.take().refusal(FORM)
-    return Fund(rates, members, horizon, order, frequency, deductible, worth,
-                rate_rows, member_rows)
+
+
+def read_fund(data):
+    """Reading goes line by line, form before range within a line."""
+    reader = Reader(data)
+    header = read_header_lines(reader)
+    rows = read_rows(reader)
+    check_end(reader)
+    return Fund(*header, *rows)
 
 
 # From members to the transform
@@ -531,9 +540,8 @@ def check_short(lengths, horizon):
         raise Refusal(SHORT, 0)
 
 
-def accepted(data, lengths, level):
-    """The answer for a fund that meets no refusal's condition."""
-    fund = read_fund(data)
+def valued(fund, lengths, level):
+    """The answer for a fund that is read and meets no later refusal's condition."""
     check_fund(fund)
     members = match_and_fold(fund)
     check_half(members)
@@ -555,6 +563,11 @@ def accepted(data, lengths, level):
     return Answer(0, 0, 0, 0, E, mean_figure, premium_figure, bound,
                   gross(premium_figure, bound, fund.worth, fund.deductible),
                   *slices, fund.horizon, quantile(F, level))
+
+
+def accepted(data, lengths, level):
+    """The answer for a fund that meets no refusal's condition."""
+    return valued(read_fund(data), lengths, level)
 
 
 def refused(refusal, lengths):

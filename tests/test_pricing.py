@@ -5,13 +5,11 @@ A check is a pair (name, holds).  The last line printed counts them.
 
 import json
 import random
-import re
 import subprocess
 import sys
 import tempfile
 from dataclasses import replace
 from fractions import Fraction
-from itertools import count
 from pathlib import Path
 from unittest import mock
 
@@ -25,7 +23,12 @@ import generate
 import pricing
 import quantile_funds
 import rate_funds
+import second_reader
+import sheet_checks
+import sheet_funds
+import sheets
 import tariff_funds
+import test_sheet_bytes
 import triangle_funds
 
 SHORT_SLICES = (26, 25, 27, 25, 28)     # the small funds have X up to 24
@@ -38,67 +41,6 @@ def part_of(data, answer):
 def refusal_of(case):
     answer = pricing.price(case.data, case.lengths)
     return answer.number, answer.place, part_of(case.data, answer)
-
-
-# A second reader, by regular expressions
-
-NUMBER = rb"(0|[1-9][0-9]{0,6})"
-HEADER = [(re.compile(key + b"=" + b",".join([NUMBER] * many)), low, high) for key, many, low, high in (
-    (b"rates", 1, 1900, 2999), (b"members", 1, 1900, 2999), (b"horizon", 1, 0, 4095),
-    (b"order", 1, 1, 12), (b"frequency", 2, 0, 5000), (b"deductible", 1, 0, 4096),
-    (b"worth", 1, 1, 9999999))]
-RATE = re.compile(b"rate=" + b",".join([NUMBER] * 3))
-MEMBER = re.compile(b"member=" + b",".join([NUMBER] * 4))
-END = re.compile(b"end=" + NUMBER)
-
-
-def numbers(match):
-    return [int(text) for text in match.groups()]
-
-
-def rate_holds(row, rates):
-    age, q, i = row
-    return (len(rates) < 121 and age <= 120 and q + i <= 1000000
-            and all(age > other[0] for other in rates))
-
-
-def member_holds(row, members):
-    age, group, d, e = row
-    return (len(members) < 1000 and age <= 120 and 1 <= group <= 2
-            and max(d, e) <= 65535)
-
-
-def first_fault(data):
-    """(number, place) of the first line that is form or range, or None."""
-    lines = data.split(b"\n")
-    lines.pop()                                 # bytes without a line feed
-    rates, members = [], []
-    for place in count(1):
-        if place > len(lines):
-            return 1, place
-        line = lines[place - 1]
-        if place <= len(HEADER):
-            pattern, low, high = HEADER[place - 1]
-            match = pattern.fullmatch(line)
-            if not match:
-                return 1, place
-            if min(numbers(match)) < low or max(numbers(match)) > high:
-                return 2, place
-        elif not members and (match := RATE.fullmatch(line)):
-            if not rate_holds(numbers(match), rates):
-                return 2, place
-            rates.append(numbers(match))
-        elif match := MEMBER.fullmatch(line):
-            if not member_holds(numbers(match), members):
-                return 2, place
-            members.append(numbers(match))
-        elif match := END.fullmatch(line):
-            if int(match[1]) != len(members):
-                return 2, place
-            rest = data[len(b"\n".join(lines[:place])) + 1:]
-            return (1, place + 1) if rest else None
-        else:
-            return 1, place
 
 
 # What holds of every answer
@@ -183,7 +125,7 @@ def reading_checks(made):
     for case in made:
         answer = pricing.price(case.data, case.lengths)
         found = (answer.number, answer.place) if answer.number in (1, 2) else None
-        checks.append((f"{case.name}: second reader", found == first_fault(case.data)))
+        checks.append((f"{case.name}: second reader", found == second_reader.first_fault(case.data)))
     return checks
 
 
@@ -753,6 +695,42 @@ def stream_checks():
              == b"refused=6,9\nline=member=40,1,1,0\nrefused=6,9\n\n")]
 
 
+def sheet_stream_checks():
+    pairs = cases.sheet_stream_pairs(60, 3)
+    given, wanted = cases.sheet_stream_of(pairs)
+    first = sheets.sheets_of(document_funds.FIRST)
+    header, rates, members = sheet_funds.HEADER, sheet_funds.RATES, sheet_funds.MEMBERS
+    heads = [len(b"%06d %06d %06d %013d\n" % (*map(len, three), level)) for three, level in pairs]
+    return [("stream of sheets: the texts and levels are read back", cases.sheet_pairs_of(given) == pairs),
+            ("stream of sheets: the same seed gives the same", cases.sheet_stream_pairs(60, 3) == pairs),
+            ("stream of sheets: heads of 35 bytes", set(heads) == {35}),
+            ("stream of sheets: the first answer", cases.sheet_answer_of(first, 900000000001)
+             == document_funds.FIRST_LISTING.encode("ascii") + b"line=\nquantile=1\n\n"),
+            ("stream of sheets: a cell", cases.sheet_answer_of((header, rates, members[:-1]), 0)
+             == b"refused=11,6\nline=\nrefused=11,6\n\n"),
+            ("stream of sheets: bytes after the header", cases.sheet_answer_of((header + b"end=0\n", rates, members), 0)
+             == b"refused=1,8\nline=end=0\nrefused=1,8\n\n"),
+            ("stream of sheets: a quantile for each that is accepted",
+             wanted.count(b"\nquantile=") == sum(sheets.price_sheets(*three).number == 0 for three, _ in pairs))]
+
+
+def sheet_program_checks():
+    """The program on sheets is given the full fund, with blanks, and prints its listing."""
+    with tempfile.TemporaryDirectory() as directory:
+        folder = Path(directory)
+        cases.write_sheet_program(folder)
+        printed = (folder / "stdout").read_bytes()
+        names = [path.name for path in sorted((folder / "data").iterdir())]
+        checks = [("program sheets: the full fund's listing", printed == cases.listing_of(generate.full_fund().data())),
+                  ("program sheets: its files", names == ["header", "members", "rates"]),
+                  ("program sheets: its arguments", (folder / "args").read_text() == "header\nrates\nmembers\n"),
+                  ("program sheets: with blanks", (folder / "data" / "members").read_bytes()
+                   != sheets.sheets_of(generate.full_fund())[2]),
+                  ("program sheets: does not differ", cases.wanted_of(folder) == printed)]
+        (folder / "data" / "rates").write_bytes(b"")
+        return checks + [("program sheets: another sheet differs", cases.wanted_of(folder) != printed)]
+
+
 def row_checks():
     """The printed rows: read back, they are the fractions of accepted funds."""
     checks = []
@@ -820,11 +798,14 @@ def sections():
     yield "frequencies", (frequency_funds.checks() + answer_checks(frequency_funds.cases())
                           + reading_checks(frequency_funds.cases()) + distance_checks(frequency_funds.cases())
                           + formula_checks(frequency_funds.cases()))
+    yield "sheets", sheet_checks.checks()
+    yield "sheet_bytes", test_sheet_bytes.checks()
     yield "larger funds", large_checks(generate.large_funds(9, 6) + steps[::6])
-    yield "stored cases", case_tool_checks() + stream_checks()
+    yield "stored cases", case_tool_checks() + stream_checks() + sheet_stream_checks() + sheet_program_checks()
     yield "exact rows", row_checks()
     yield "program", program_checks()
     yield "mutations", mutation_checks()
+    yield "mutations of sheets", sheet_checks.mutation_checks()
 
 
 def main():

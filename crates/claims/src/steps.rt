@@ -11,6 +11,7 @@ use matching::Matched;
 use reader::FileRead;
 use reader::Part;
 use recursion::Recursed;
+use spelling::Argument;
 use spelling::Numbers;
 use tariff::Gross;
 use totals::Totals;
@@ -25,6 +26,7 @@ ghost use Rattle.fund.specs.Reading.{reading};
 ghost use Rattle.fund.specs.Quantile.{quantile};
 ghost use Rattle.fund.specs.Answer.{part, refused};
 ghost use Rattle.spelling.specs.Text.{before, behindIf, NumbersOf};
+ghost use Rattle.spelling.specs.Level.{levelIn};
 ghost use Rattle.reader.specs.Read.{fileRead};
 ghost use Rattle.reader.specs.Part.{Spans};
 ghost use Rattle.matching.specs.Matching.{matchedTables};
@@ -64,6 +66,13 @@ pub fn claimed_numbers(text: &[u8], count: usize) -> Numbers
     ensures { λ r. ⌜ NumbersOf count (now (text .entry)) r ⌝ }
 {
     spelling::numbers_of(text, count)
+}
+
+// The level that an argument spells, or that it does not.
+pub fn claimed_argument(text: &[u8]) -> Argument
+    ensures { λ r. ⌜ r ≡ levelIn (now (text .entry)) ⌝ }
+{
+    spelling::level_of(text)
 }
 
 // Refusals 1 and 2, or the header and the rows.

@@ -2,41 +2,7 @@
 // or none; or the refusal's line. The level is the argument, in units of 10^-12.
 use libc::STDERR_FILENO;
 use libc::STDOUT_FILENO;
-ghost use mathlib.Core.Path.{_≡_};
-ghost use Rattle.level.specs.Spelling.{levelIn};
-
-// What an argument says.
-enum Argument {
-    Level(u64),
-    Misspelled,
-}
-
-// One digit or more, whose value fits a word.
-fn level_of(text: &[u8]) -> Argument
-    ensures { λ r. ⌜ r ≡ levelIn (now (text .entry)) ⌝ }
-{
-    if text.len() == 0 {
-        return Argument::Misspelled;
-    }
-    let mut value: u64 = 0;
-    let mut i = 0;
-    while i < text.len() {
-        let b = text[i];
-        if b < b'0' {
-            return Argument::Misspelled;
-        }
-        if b'9' < b {
-            return Argument::Misspelled;
-        }
-        let digit = (b - b'0') as u64;
-        if (u64::MAX - digit) / 10 < value {
-            return Argument::Misspelled;
-        }
-        value = 10 * value + digit;
-        i += 1;
-    }
-    Argument::Level(value)
-}
+use spelling::Argument;
 
 fn print_usage() {
     io::write_all(
@@ -66,7 +32,7 @@ fn main() {
     }
     let mut word = [0u8; 20];
     let size = os::arg(1, &mut word);
-    match level_of(&word[..size]) {
+    match spelling::level_of(&word[..size]) {
         Argument::Level(level) => print_line(level),
         Argument::Misspelled => print_usage(),
     }

@@ -1,5 +1,5 @@
 -- Reading gives the same for the lines of the first n bytes as for all lines, where n is above the bytes of the lines that
--- reading can pass (header-same).
+-- reading can pass (header-same); so of a file (file-behind) and of a header text (sheets-behind).
 use mathlib.Core.Path.{_≡_, refl, sym, _∙_}
 use mathlib.Core.Bool.{Bool, true, false}
 use mathlib.Core.List.{List, [], _∷_, _++_}
@@ -13,11 +13,13 @@ use Rattle.fund.specs.declared.Fund.{Fund}
 use Rattle.fund.specs.declared.Rate.{Rate}
 use Rattle.fund.specs.declared.Member.{Member}
 use Rattle.fund.specs.declared.Refusal.the-variants.{Form, Range}
+use Rattle.fund.specs.declared.SheetRow.{SheetRow}
 use Rattle.fund.specs.Limits.{most-rates, most-members}
 use Rattle.fund.specs.Base.{bytes}
 use Rattle.fund.specs.Lines.{Line}
 use Rattle.fund.specs.Spelling.{spelled}
-use Rattle.fund.specs.Reading.{FundFile, stopped, inRanges, HeaderLine, headerOf, Row, rateRow, memberRow, endRow, otherRow, rowOf, rateInRange, memberInRange, noMember, atEnd, readRows, readHeader, fileRows}
+use Rattle.fund.specs.Reading.{FundFile, Reading, stopped, inRanges, HeaderLine, headerOf, Row, rateRow, memberRow, endRow, otherRow, rowOf, rateInRange, memberInRange, noMember, atEnd, readRows, readHeader, fileRows}
+use Rattle.fund.specs.Sheets.{readSheets}
 use Rattle.laws.specs.Accepted.{All}
 use Rattle.laws.specs.Passing.{on-pass}
 use Rattle.prefix.specs.Lines.{Cut, over, spent, same, inside}
@@ -109,22 +111,35 @@ rows-same k header rates members (same {n} {m} {xs} {ys} l h c) room =
 abbrev pub KeysShort : List HeaderLine → Type 0
 KeysShort hs = All (λ (h : HeaderLine). length (h .key) + 8 * length (h .ranges) ≤ most-line) hs
 
-header-stop : (h : HeaderLine) (hs : List HeaderLine) (k : ℕ) (ns : List ℕ) (l : Line) (ls : List Line) → length (h .key) + 8 * length (h .ranges) ≤ most-line → Unspelled l → readHeader fileRows (h ∷ hs) k ns (l ∷ ls) ≡ stopped Form k
-unfolding readHeader
-header-stop h hs k ns l ls short u = rw (u (h .key) (length (h .ranges)) short, readHeader)
+-- What follows the header is the same for lines that are cut behind enough bytes.
+module _ (after : ℕ → Fund → List Line → Reading) (enough : ℕ) (behind : (k : ℕ) (header : Fund) (n : ℕ) (xs ys : List Line) → Cut n xs ys → enough ≤ n → after k header xs ≡ after k header ys) where
+  header-stop : (h : HeaderLine) (hs : List HeaderLine) (k : ℕ) (ns : List ℕ) (l : Line) (ls : List Line) → length (h .key) + 8 * length (h .ranges) ≤ most-line → Unspelled l → readHeader after (h ∷ hs) k ns (l ∷ ls) ≡ stopped Form k
+  unfolding readHeader
+  header-stop h hs k ns l ls short u = rw (u (h .key) (length (h .ranges)) short, readHeader)
 
-pub header-same : (hs : List HeaderLine) (k : ℕ) (ns : List ℕ) {n : ℕ} {xs ys : List Line} → KeysShort hs → Cut n xs ys →
-    bytes-for (length hs + most-rates + most-members) ≤ n → readHeader fileRows hs k ns xs ≡ readHeader fileRows hs k ns ys
-unfolding readHeader
-header-same [] k ns keys c room = rows-same k (headerOf ns) [] [] c (record { few-rates = omega arith; few-members = omega arith; enough = omega arith })
-header-same (h ∷ hs) k ns keys over room = refl
-header-same (h ∷ hs) k ns keys (spent e) room = absurd (omega arith)
-header-same (h ∷ hs) k ns keys (inside {n} {x} {y} {ys} e g) room =
-    header-stop h hs k ns x [] (keys .0) (open-line x e) ∙ sym (header-stop h hs k ns y ys (keys .0) (long-line y (omega arith)))
-header-same (h ∷ hs) k ns keys (same {n} {m} {xs} {ys} l g c) room =
-    by-length l (λ short. go (spelled (h .key) (length (h .ranges)) l) refl (λ vs. header-same hs (suc k) vs (keys .1) c (omega arith)))
-    (λ u. header-stop h hs k ns l xs (keys .0) u ∙ sym (header-stop h hs k ns l ys (keys .0) u))
-  where
-    go : (o : Option (List ℕ)) → spelled (h .key) (length (h .ranges)) l ≡ o → ((vs : List ℕ) → readHeader fileRows hs (suc k) vs xs ≡ readHeader fileRows hs (suc k) vs ys) → readHeader fileRows (h ∷ hs) k ns (l ∷ xs) ≡ readHeader fileRows (h ∷ hs) k ns (l ∷ ys)
-    go none s ih = rw (s, readHeader)
-    go (some v) s ih = rw (s, readHeader) (on-pass (inRanges (h .ranges) v) (stopped Range k) _ _ (λ _. ih (ns ++ v)))
+  pub header-same : (hs : List HeaderLine) (k : ℕ) (ns : List ℕ) {n : ℕ} {xs ys : List Line} → KeysShort hs → Cut n xs ys → most-line * length hs + enough ≤ n → most-line < enough →
+      readHeader after hs k ns xs ≡ readHeader after hs k ns ys
+  unfolding readHeader
+  header-same [] k ns {n} {xs} {ys} keys c room more = behind k (headerOf ns) n xs ys c (omega arith)
+  header-same (h ∷ hs) k ns keys over room more = refl
+  header-same (h ∷ hs) k ns keys (spent e) room more = absurd (omega arith)
+  header-same (h ∷ hs) k ns keys (inside {n} {x} {y} {ys} e g) room more =
+      header-stop h hs k ns x [] (keys .0) (open-line x e) ∙ sym (header-stop h hs k ns y ys (keys .0) (long-line y (omega arith)))
+  header-same (h ∷ hs) k ns keys (same {n} {m} {xs} {ys} l g c) room more =
+      by-length l (λ short. go (spelled (h .key) (length (h .ranges)) l) refl (λ vs. header-same hs (suc k) vs (keys .1) c (omega arith) more))
+      (λ u. header-stop h hs k ns l xs (keys .0) u ∙ sym (header-stop h hs k ns l ys (keys .0) u))
+    where
+      go : (o : Option (List ℕ)) → spelled (h .key) (length (h .ranges)) l ≡ o → ((vs : List ℕ) → readHeader after hs (suc k) vs xs ≡ readHeader after hs (suc k) vs ys) → readHeader after (h ∷ hs) k ns (l ∷ xs) ≡ readHeader after (h ∷ hs) k ns (l ∷ ys)
+      go none s ih = rw (s, readHeader)
+      go (some v) s ih = rw (s, readHeader) (on-pass (inRanges (h .ranges) v) (stopped Range k) _ _ (λ _. ih (ns ++ v)))
+
+-- ---- what follows the header: the rows of a file, or nothing more of a header text
+pub file-behind : (k : ℕ) (header : Fund) (n : ℕ) (xs ys : List Line) → Cut n xs ys → bytes-for (most-rates + most-members) ≤ n → fileRows k header xs ≡ fileRows k header ys
+file-behind k header n xs ys c room = rows-same k header [] [] c (record { few-rates = omega arith; few-members = omega arith; enough = omega arith })
+
+pub sheets-behind : (rows : List SheetRow) (k : ℕ) (header : Fund) (n : ℕ) (xs ys : List Line) → Cut n xs ys → suc most-line ≤ n → readSheets rows k header xs ≡ readSheets rows k header ys
+unfolding readSheets
+sheets-behind rows k header n xs ys over room = refl
+sheets-behind rows k header n xs ys (spent e) room = absurd (omega arith)
+sheets-behind rows k header n xs ys (same l g c) room = refl
+sheets-behind rows k header n xs ys (inside e g) room = refl

@@ -10,6 +10,7 @@ use Rattle.prefix.specs.Prefix.{most-bytes}
 use Rattle.text.specs.Writing.{Written}
 use Rattle.printing.specs.declared.PrintedInput.{PrintedInput}
 use Rattle.printing.specs.declared.input.Input.{Input}
+use Rattle.printing.specs.declared.input.FileBytes.{FileBytes}
 use Rattle.printing.specs.Printed.{shown, shownLevel}
 
 -- The buffer is as long as it was, and its first `size` bytes stay.
@@ -28,6 +29,11 @@ pub record ReadBehind (before : List ℕ) (start : ℕ) (after : List ℕ) (r : 
   pub least : start ≤ r .size
   pub most : r .size ≤ length after
   pub stopped : r .size < length after → AtMostZero (r .last)
+
+-- The buffer is as long as it was, and what was read lies in it.
+pub record ReadBytes (before after : List ℕ) (r : FileBytes) : Type 0 where
+  pub long : length after ≡ length before
+  pub inside : r .size ≤ length after
 
 -- A buffer that has room for all that is read of a file, and how many of its bytes were read.
 pub record HoldsFirst (buffer : List ℕ) (size : ℕ) : Type 0 where

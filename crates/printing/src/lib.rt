@@ -3,6 +3,9 @@
 mod input;
 
 use fund::Fund;
+pub use input::FileBytes;
+pub use input::read_bytes;
+use libc::STDIN_FILENO;
 ghost use mathlib.Core.Path.{_≡_};
 ghost use Prim.Native.Nat.{_≤_};
 ghost use lib.ListN.{length, take};
@@ -152,7 +155,7 @@ pub fn print_input(buffer: &mut [u8], text: &mut [u8]) -> PrintedInput
     ensures { λ p. ⌜ PrintsInput (now (buffer .exit)) (now (text .entry)) (now (text .exit)) p ⌝ }
     ensures { λ p. ⌜ (p .size ≤ length (now (text .exit))) × (p .size ≡ length (take (p .size) (now (text .exit)))) ⌝ }
 {
-    let found = input::read_input(buffer, 0);
+    let found = input::read_input(STDIN_FILENO, buffer, 0);
     if found.last < 0 || buffer.len() < MOST_BYTES {
         return PrintedInput {
             read: found.size,
@@ -173,7 +176,7 @@ pub fn print_level_input(buffer: &mut [u8], level: u64, text: &mut [u8]) -> Prin
     ensures { λ p. ⌜ PrintsLevelInput level (now (buffer .exit)) (now (text .entry)) (now (text .exit)) p ⌝ }
     ensures { λ p. ⌜ (p .size ≤ length (now (text .exit))) × (p .size ≡ length (take (p .size) (now (text .exit)))) ⌝ }
 {
-    let found = input::read_input(buffer, 0);
+    let found = input::read_input(STDIN_FILENO, buffer, 0);
     if found.last < 0 || buffer.len() < MOST_BYTES {
         return PrintedInput {
             read: found.size,

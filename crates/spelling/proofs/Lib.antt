@@ -1,3 +1,4 @@
 pub mod Texts
 pub mod Digits
 mod Fields
+pub mod Levels

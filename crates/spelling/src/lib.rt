@@ -1,4 +1,8 @@
 // The spelling of a text: where a byte stands, whether a key begins it, and its numbers between commas.
+mod level;
+
+pub use level::Argument;
+pub use level::level_of;
 ghost use mathlib.Core.Path.{_≡_};
 ghost use mathlib.Core.Bool.{false};
 ghost use Prim.Native.Nat.{_+_, _≤_};

@@ -12,10 +12,10 @@ use Rattle.printing.proofs.input.read_input.Statement.{statement}
 use Rattle.printing.proofs.input.read_input.Tie as tie
 
 abbrev Inv-loop : tie.InvT-loop
-Inv-loop buffer₀ start size₀ buffer size = (start ≤ size) × (size ≤ length buffer) × Extends buffer₀ start buffer
+Inv-loop fd buffer₀ start size₀ buffer size = (start ≤ size) × (size ≤ length buffer) × Extends buffer₀ start buffer
 
 abbrev μ-loop : tie.MeasureT-loop
-μ-loop buffer₀ start size₀ buffer size = length buffer - size
+μ-loop fd buffer₀ start size₀ buffer size = length buffer - size
 
 loop-holds : tie.Need-loop-holds Inv-loop μ-loop
 loop-holds c = let s = c .before in (omega arith, s .pre, extends-none _ _)
@@ -43,7 +43,7 @@ returns c =
     let m = c .before .before .before .before .before .before in
     let i = m .before .before .before .loop .inv in
     let n = c .before .count .ensures in
-    let b = m .read-more .last .0 in
+    let b = m .read-more .last .1 .0 in
     let k = m .before .before .before .loop .size in
     let part = take (length b - k) (drop k b) in
     read-behind i (m .read-more .ensures)

@@ -6,8 +6,8 @@ use lib.Dec.{ltb}
 use lib.ListN.{length}
 use Rattle.fund.specs.Base.{if_then_else_}
 use Rattle.fund.specs.Spelling.{digits, value}
-use Rattle.level.specs.declared.Argument.{Argument}
-use Rattle.level.specs.declared.Argument.the-variants.{Level, Misspelled}
+use Rattle.spelling.specs.declared.level.Argument.{Argument}
+use Rattle.spelling.specs.declared.level.Argument.the-variants.{Level, Misspelled}
 
 -- One digit or more, whose value fits a word.
 unfoldable pub isLevel : List ℕ → Bool

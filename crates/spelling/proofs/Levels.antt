@@ -8,8 +8,8 @@ use borrow.Author.Tests.{lt-ltb, le-ltb}
 use lib.Dec.{ltb}
 use lib.ListN.{length}
 use Rattle.fund.specs.Spelling.{digits, valueFrom, value}
-use Rattle.level.specs.declared.Argument.the-variants.{Level, Misspelled}
-use Rattle.level.specs.Spelling.{isLevel, levelIn}
+use Rattle.spelling.specs.declared.level.Argument.the-variants.{Level, Misspelled}
+use Rattle.spelling.specs.Level.{isLevel, levelIn}
 
 pub level-none : (s : List ℕ) → length s ≡ 0 → levelIn s ≡ Misspelled
 unfolding levelIn isLevel

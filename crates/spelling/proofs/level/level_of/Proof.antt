@@ -1,15 +1,15 @@
--- `level::level_of`: the digits and the value of the text are those of the rest from i on, after the value that was read, which fits.
+-- `spelling::level::level_of`: the digits and the value of the text are those of the rest from i on, after the value that was read, which fits.
 use mathlib.Core.Path.{_≡_, refl, sym, ap, _∙_}
 use Prim.Native.Nat.{suc, _+_, _-_, _*_, _^_, _≤_, _<_}
 use native.Mathlib.Numerals.{add-one}
 use native.Mathlib.Omega.{arith}
 use lib.ListN.{length, getD, drop}
 use Rattle.fund.specs.Spelling.{digits, valueFrom, value as valueOf}
 use Rattle.spelling.proofs.Digits.{digits-next, digits-below, digits-above, digits-end, value-next, value-end}
-use Rattle.level.specs.declared.Argument.the-variants.{Level}
-use Rattle.level.proofs.Spelling.{level-none, level-misspelled, level-wide, level-value, value-least}
-use Rattle.level.proofs.level_of.Statement.{statement}
-use Rattle.level.proofs.level_of.Tie as tie
+use Rattle.spelling.specs.declared.level.Argument.the-variants.{Level}
+use Rattle.spelling.proofs.Levels.{level-none, level-misspelled, level-wide, level-value, value-least}
+use Rattle.spelling.proofs.level.level_of.Statement.{statement}
+use Rattle.spelling.proofs.level.level_of.Tie as tie
 
 abbrev Inv-loop : tie.InvT-loop
 Inv-loop text value₀ i₀ value i = (i ≤ length text) × (value < 2 ^ 64) × (digits text ≡ digits (drop i text)) × (valueFrom 0 text ≡ valueFrom value (drop i text))
