@@ -2,3 +2,4 @@ pub mod Starred
 pub mod ExactRows
 pub mod Levels
 pub mod Tariffs
+mod SheetFunds

@@ -17,6 +17,7 @@ pub mod Sheets
 pub mod Exact
 pub mod Distance
 pub mod Starred
+pub mod SheetFunds
 pub mod Levels
 pub mod Tariffs
 pub mod ExactRows

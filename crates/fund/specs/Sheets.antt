@@ -46,8 +46,11 @@ unfoldable pub readSheets : List SheetRow → ℕ → Fund → List Line → Rea
 readSheets rows n header [] = readSheetRows n header [] [] rows
 readSheets rows n header (l ∷ ls) = stopped Form n
 
+abbrev pub rowsReading : List ℕ → List SheetRow → Reading
+rowsReading header rows = readHeader (readSheets rows) headerLines 1 [] (lines header)
+
 unfoldable pub sheetReading : List ℕ → List ℕ → List ℕ → Reading
-sheetReading header rates members = readHeader (readSheets (sheetRows rates members)) headerLines 1 [] (lines header)
+sheetReading header rates members = rowsReading header (sheetRows rates members)
 
 -- "the file with the same rows": the header text, a line for each row, and `end=`.
 unfoldable pub rateText : Rate → List ℕ

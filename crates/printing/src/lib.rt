@@ -1,21 +1,23 @@
 // From a fund file's bytes, from standard input, or from a header text and two sheets, to the bytes of the listing, or of the line of the
 // answer at a level.
 mod input;
+mod sheets;
 
 use fund::Fund;
 pub use input::FileBytes;
 pub use input::read_bytes;
 use libc::STDIN_FILENO;
+pub use sheets::print_sheets;
+pub use sheets::print_sheets_level;
 ghost use mathlib.Core.Path.{_≡_};
 ghost use Prim.Native.Nat.{_≤_};
 ghost use lib.ListN.{length, take};
-ghost use Rattle.fund.specs.Sheets.{sheetReading};
 ghost use Rattle.text.specs.Writing.{Written};
-ghost use Rattle.printing.specs.Printed.{shownTo, shown, shownLevelTo, shownLevel};
+ghost use Rattle.printing.specs.Printed.{shown, shownLevel};
 ghost use Rattle.printing.specs.Input.{HoldsFirst, PrintsFirst, PrintsInput, PrintsLevelFirst, PrintsLevelInput};
 
 // Cells enough for every horizon.
-const CELLS: usize = Fund::MOST_HORIZON as usize + 1;
+pub(crate) const CELLS: usize = Fund::MOST_HORIZON as usize + 1;
 
 // No more bytes of a file are read than these.
 pub const MOST_BYTES: usize = 65536;
@@ -58,67 +60,6 @@ pub fn print_level(file: &[u8], level: u64, text: &mut [u8]) -> usize
     let mut sums = [0i64; CELLS];
     let priced = pricing::price(
         file,
-        level,
-        &mut transform,
-        &mut h,
-        &mut f,
-        &mut r,
-        &mut sums,
-    );
-    let verdict = priced.verdict;
-    let quantile = priced.quantile;
-    text::level_line(verdict, quantile, text)
-}
-
-// The same of the fund of a header text and two sheets: its listing.
-pub fn print_sheets(header: &[u8], rates: &[u8], members: &[u8], text: &mut [u8]) -> usize
-    ensures { λ size. ⌜ Written (shownTo (now (header .entry)) (sheetReading (now (header .entry)) (now (rates .entry)) (now (members .entry))) (length (now (text .entry))))
-        (now (text .entry)) (now (text .exit)) size ⌝ }
-    ensures { λ size. ⌜ (size ≤ length (now (text .exit))) × (size ≡ length (take size (now (text .exit)))) ⌝ }
-{
-    let mut transform = [0i64; CELLS];
-    let mut h = [0u64; CELLS];
-    let mut f = [0i64; CELLS];
-    let mut r = [0u64; CELLS];
-    let mut sums = [0i64; CELLS];
-    let priced = pricing::price_sheets(
-        header,
-        rates,
-        members,
-        0,
-        &mut transform,
-        &mut h,
-        &mut f,
-        &mut r,
-        &mut sums,
-    );
-    let verdict = priced.verdict;
-    let horizon = priced.horizon as usize;
-    let figures = priced.figures;
-    text::listing(verdict, figures, horizon, &f, &r, text)
-}
-
-// And the line of its answer at a level.
-pub fn print_sheets_level(
-    header: &[u8],
-    rates: &[u8],
-    members: &[u8],
-    level: u64,
-    text: &mut [u8],
-) -> usize
-    ensures { λ size. ⌜ Written (shownLevelTo (now (header .entry)) (sheetReading (now (header .entry)) (now (rates .entry)) (now (members .entry))) level (length (now (text .entry))))
-        (now (text .entry)) (now (text .exit)) size ⌝ }
-    ensures { λ size. ⌜ (size ≤ length (now (text .exit))) × (size ≡ length (take size (now (text .exit)))) ⌝ }
-{
-    let mut transform = [0i64; CELLS];
-    let mut h = [0u64; CELLS];
-    let mut f = [0i64; CELLS];
-    let mut r = [0u64; CELLS];
-    let mut sums = [0i64; CELLS];
-    let priced = pricing::price_sheets(
-        header,
-        rates,
-        members,
         level,
         &mut transform,
         &mut h,

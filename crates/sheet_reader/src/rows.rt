@@ -62,19 +62,20 @@ fn step_of(row: SheetRow, rated: usize, enrolled: usize, least: u64) -> RowStep
     ensures { λ r. ⌜ r ≡ rowStep rated enrolled least row ⌝ }
 {
     let place = rated as u64 + enrolled as u64 + 1;
+    let line = Fund::HEADER_LINES as u64 + place;
     match row {
         SheetRow::NotTaken => RowStep::Stopped(Refusal::Cell, place),
         SheetRow::Rate(r) => {
             if reader::rate_in_range(rated, least, r) {
                 return RowStep::Rate(r);
             }
-            RowStep::Stopped(Refusal::Range, Fund::HEADER_LINES as u64 + place)
+            RowStep::Stopped(Refusal::Range, line)
         }
         SheetRow::Member(m) => {
             if reader::member_in_range(enrolled, m) {
                 return RowStep::Member(m);
             }
-            RowStep::Stopped(Refusal::Range, Fund::HEADER_LINES as u64 + place)
+            RowStep::Stopped(Refusal::Range, line)
         }
     }
 }

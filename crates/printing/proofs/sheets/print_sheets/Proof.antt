@@ -7,8 +7,8 @@ use lib.ListN.{length}
 use Rattle.laws.specs.Ranges.{sheet-ranges}
 use Rattle.text.specs.Writing.{Written}
 use Rattle.printing.proofs.Printing.{written-within, cells-length, signed-length, shown-is}
-use Rattle.printing.proofs.print_sheets.Statement.{statement}
-use Rattle.printing.proofs.print_sheets.Tie as tie
+use Rattle.printing.proofs.sheets.print_sheets.Statement.{statement}
+use Rattle.printing.proofs.sheets.print_sheets.Tie as tie
 
 returns : tie.Need-returns
 returns c =

@@ -7,8 +7,8 @@ use lib.ListN.{length}
 use Rattle.text.specs.Writing.{Written}
 use Rattle.printing.proofs.Printing.{written-within}
 use Rattle.printing.proofs.Level.{level-is}
-use Rattle.printing.proofs.print_sheets_level.Statement.{statement}
-use Rattle.printing.proofs.print_sheets_level.Tie as tie
+use Rattle.printing.proofs.sheets.print_sheets_level.Statement.{statement}
+use Rattle.printing.proofs.sheets.print_sheets_level.Tie as tie
 
 returns : tie.Need-returns
 returns c =

@@ -1,0 +1,40 @@
+-- The definitions give every row of the tables of sheets: from a header text and rows to the text that is printed and the part that is handed back
+-- (every-sheet), and from the bytes of a row to the row (every-row-of-bytes). By computing both sides.
+use mathlib.Core.Path.{_≡_, refl}
+use mathlib.Core.List.{map}
+use lib.Ieee.{ofBits, ofInt, eq}
+use Rattle.rounding.specs.Rounding.{near, nearest, up}
+use Rattle.fund.specs.Base.{bytes, total, sum, sumℤ, table, alternate}
+use Rattle.fund.specs.Lines.{begun, linesFrom, lines}
+use Rattle.fund.specs.Spelling.{digits, isNumber, valueFrom, value, inFirst, fields, allNumbers, numbers, behind, spelled}
+use Rattle.fund.specs.Reading.{between, inRanges, headerLines, headerOf, rising, rateInRange, memberInRange, readHeader}
+use Rattle.fund.specs.Folding.{heldUntil, rateInForce, folded, life, lives}
+use Rattle.fund.specs.Transform.{unit, nextRow, row, placed, termOf, rowTerms, singleTerms, deathWeight, disabilityWeight, replacedTerm, replacedTerms, terms, sumD, sumH, D, H, lambda, load, w, truncation, mean}
+use Rattle.fund.specs.Recursion.{t, alternating, multiplied, start, c, startBound, entries, sumR, sumF, nextCell, cells}
+use Rattle.fund.specs.Premium.{sumBelow, boundBelow, premium, within}
+use Rattle.fund.specs.Tariff.{loading, withBound, gross}
+use Rattle.fund.specs.Refusals.{first, unmatched, half, wide, anyShort, short, refuse, at0, firstMember, valued, matched, verdict}
+use Rattle.fund.specs.Answer.{fundTerms, fundStart, fundCells, fundTruncation, fundMean, fundPremium, fundWithin, fundFigures, lineAt, part, refused, lent, accepted, answerOf, answerTo}
+use Rattle.fund.specs.Listing.{digitsWithin, decimal, signedDecimal, joined, cellLines, listed, refusedLine, printed, horizonIn, enough, listingTo}
+use Rattle.fund.specs.Cells.{leastFirst, cellOf, orElse, seek, wholeOf, atLeast, numberOf, amountOf, memberJoined, memberRowOf}
+use Rattle.fund.specs.Sheets.{readSheetRows, readSheets, rowsReading}
+use Rattle.fund.specs.Starred.{text}
+use Rattle.fund.specs.SheetFunds.{SheetFund, RowBytes, headerText, sheetFunds, memberBytes}
+
+-- What the definitions give for a table's row.
+abbrev given : SheetFund → SheetFund
+given s =
+    record {
+      header = s .header;
+      rows = s .rows;
+      listing = listingTo (s .header) (rowsReading (s .header) (s .rows));
+      part = answerTo (s .header) enough (rowsReading (s .header) (s .rows)) .part;
+    }
+
+pub every-sheet : map given sheetFunds ≡ sheetFunds
+unfolding near nearest up bytes total sum sumℤ table alternate begun linesFrom lines digits isNumber valueFrom value inFirst fields allNumbers numbers behind spelled between inRanges headerLines headerOf rising rateInRange memberInRange readHeader heldUntil rateInForce folded life lives unit nextRow row placed termOf rowTerms singleTerms deathWeight disabilityWeight replacedTerm replacedTerms terms sumD sumH D H lambda load w truncation mean t alternating multiplied start c startBound entries sumR sumF nextCell cells sumBelow boundBelow premium within loading withBound gross first unmatched half wide anyShort short refuse at0 firstMember valued matched verdict fundTerms fundStart fundCells fundTruncation fundMean fundPremium fundWithin fundFigures lineAt part refused lent accepted answerOf answerTo digitsWithin decimal signedDecimal joined cellLines listed refusedLine printed horizonIn listingTo text readSheetRows readSheets headerText sheetFunds
+every-sheet = refl
+
+pub every-row-of-bytes : map (λ (r : RowBytes). record { bytes = r .bytes; row = memberRowOf (r .bytes) }) memberBytes ≡ memberBytes
+unfolding leastFirst ofBits eq ofInt cellOf orElse seek wholeOf atLeast numberOf amountOf memberJoined memberRowOf memberBytes
+every-row-of-bytes = refl
