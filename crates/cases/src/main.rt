@@ -4,33 +4,16 @@
 use libc::STDIN_FILENO;
 use libc::STDOUT_FILENO;
 use printing::MOST_BYTES;
+use spelling::Argument;
 
 const HEAD: usize = 21;
 
-// A number of more digits is not read.
-const MOST: u64 = 1000000000000000000;
-
-fn with_digit(value: u64, byte: u8) -> u64 {
-    if MOST < value {
-        return value;
+// The number that some digits spell.
+fn number_of(digits: &[u8]) -> u64 {
+    match spelling::level_of(digits) {
+        Argument::Level(value) => value,
+        Argument::Misspelled => u64::MAX,
     }
-    if byte < b'0' {
-        return MOST + 1;
-    }
-    if b'9' < byte {
-        return MOST + 1;
-    }
-    value * 10 + (byte - b'0') as u64
-}
-
-fn digits_value(digits: &[u8]) -> u64 {
-    let mut value: u64 = 0;
-    let mut i = 0;
-    while i < digits.len() {
-        value = with_digit(value, digits[i]);
-        i += 1;
-    }
-    value
 }
 
 // Writes the listing of a file.
@@ -73,8 +56,8 @@ fn next_file(file: &mut [u8]) -> bool {
     if io::read_full(STDIN_FILENO, &mut head) < HEAD {
         return false;
     }
-    let size = digits_value(&head[0..6]) as usize;
-    let level = digits_value(&head[7..20]);
+    let size = number_of(&head[0..6]) as usize;
+    let level = number_of(&head[7..20]);
     if file.len() < size {
         return false;
     }

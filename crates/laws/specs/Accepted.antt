@@ -1,7 +1,7 @@
 -- What acceptance says: none of the refusals' conditions holds (accepts).
 use mathlib.Core.Path.{_≡_, refl, ap}
 use mathlib.Core.Bool.{Bool, true, false, _||_}
-use mathlib.Core.List.{List, [], _∷_}
+use mathlib.Core.List.{List, [], _∷_, _++_, map}
 use mathlib.Core.Option.{Option, none, some}
 use Prim.Native.Nat.{ℕ, suc, _≤_, _<_}
 use native.Mathlib.Omega.{arith}
@@ -27,6 +27,18 @@ All P (a ∷ rest) = P a × All P rest
 pub all-map : {A : Type 0} {P Q : A → Type 0} → ((a : A) → P a → Q a) → (l : List A) → All P l → All Q l
 all-map f [] h = tt
 all-map f (a ∷ rest) h = (f a (h .0), all-map f rest (h .1))
+
+pub all-append : {A : Type 0} (P : A → Type 0) (l m : List A) → All P l → All P m → All P (l ++ m)
+all-append P [] m h k = k
+all-append P (a ∷ l) m h k = (h .0, all-append P l m (h .1) k)
+
+pub all-front : {A : Type 0} (P : A → Type 0) (l m : List A) → All P (l ++ m) → All P l
+all-front P [] m h = tt
+all-front P (a ∷ l) m h = (h .0, all-front P l m (h .1))
+
+pub all-of : {A B : Type 0} (P : B → Type 0) (f : A → B) → ((a : A) → P (f a)) → (l : List A) → All P (map f l)
+all-of P f h [] = tt
+all-of P f h (a ∷ l) = (h a, all-of P f h l)
 
 pub or-false : (a b : Bool) → a || b ≡ false → (a ≡ false) × (b ≡ false)
 or-false true b e = let z : _≡_ {A = ℕ} 0 1 = ap (λ b. if b then 0 else 1) e in absurd (omega arith)

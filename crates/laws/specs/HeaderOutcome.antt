@@ -44,11 +44,6 @@ module _ (hs : List HeaderLine) (n : ℕ) (ns : List ℕ) (ls : List Line) where
   pub passed : (k : Passes) (after : After) → readHeader after hs n ns ls ≡ after (n + length hs) (k .fund) (k .rest)
   passed k after = ap (readHeader after hs n ns) (k .lines-are) ∙ k .goes-on after (k .rest)
 
--- what holds where reading stops at a test and where it goes on
-pub on-either : (P : Reading → Type 0) (t : Bool) (stop next : Reading) → P stop → P next → P (elim t [ false ↦ stop | true ↦ next ])
-on-either P true stop next h k = k
-on-either P false stop next h k = h
-
 pub form-not-cell : Form ≡ CellRefusal → ⊥
 form-not-cell e = let z : _≡_ {A = ℕ} 0 1 = cc in omega arith
 

@@ -3,6 +3,7 @@ pub mod Triangle
 pub mod Tables
 pub mod Cells
 pub mod Ranges
+pub mod SheetRanges
 pub mod Weights
 pub mod Answer
 pub mod Valued

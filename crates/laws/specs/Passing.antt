@@ -28,6 +28,11 @@ pub on-pass : (t : Bool) (stop x y : Reading) → (t ≡ true → x ≡ y) → _
 on-pass true stop x y h = h refl
 on-pass false stop x y h = refl
 
+-- what holds of both ways
+pub on-either : (P : Reading → Type 0) (t : Bool) (stop next : Reading) → P stop → P next → P (elim t [ false ↦ stop | true ↦ next ])
+on-either P true stop next h k = k
+on-either P false stop next h k = h
+
 module _ (n : ℕ) (header : Fund) (rates : List Rate) (members : List Member) where
   abbrev pub fundSoFar : FundFile
   fundSoFar = record { header = header; rates = rates; members = members }

@@ -1,5 +1,5 @@
 -- What holds of every fund that is read: the header's figures are in their ranges, and so are all rate rows and member rows and
--- their numbers; the ages of the rate rows rise (read-ranges; of sheets, sheet-ranges).
+-- their numbers; the ages of the rate rows rise (read-ranges).
 use mathlib.Core.Path.{_≡_, refl, sym, _∙_, ap, subst}
 use mathlib.Core.Bool.{Bool, true, false, _&&_}
 use mathlib.Core.List.{List, [], _∷_, _++_, map, append-nil, append-assoc}
@@ -13,18 +13,15 @@ use Rattle.fund.specs.declared.Fund.{Fund}
 use Rattle.fund.specs.declared.Frequencies.{Frequencies}
 use Rattle.fund.specs.declared.Rate.{Rate}
 use Rattle.fund.specs.declared.Member.{Member}
-use Rattle.fund.specs.declared.Refusal.the-variants.{Form, Range, Cell as CellRefusal}
-use Rattle.fund.specs.declared.SheetRow.{SheetRow}
-use Rattle.fund.specs.declared.SheetRow.the-variants.{Rate as RateRow, Member as MemberRow, NotTaken}
+use Rattle.fund.specs.declared.Refusal.the-variants.{Form, Range}
 use Rattle.fund.specs.Limits.{least-edition, most-edition, most-horizon, least-order, most-order, most-frequency, most-deductible, least-worth, most-worth, most-rates, most-age, most-rate, most-members, least-group, most-group, most-amount}
 use Rattle.fund.specs.Base.{if_then_else_}
 use Rattle.fund.specs.Lines.{Line, lines}
 use Rattle.fund.specs.Spelling.{value, fields, allNumbers, numbers, behind, spelled}
 use Rattle.fund.specs.Reading.{FundFile, Reading, read, between, NumberRange, inRanges, HeaderLine, headerLines, headerOf, rising, rateInRange, memberInRange, readRows, readHeader, reading, fileRows}
-use Rattle.fund.specs.Sheets.{sheetRows, readSheetRows, readSheets, sheetReading}
 use Rattle.laws.specs.Accepted.{All}
 use Rattle.laws.specs.InForce.{Rising}
-use Rattle.laws.specs.Passing.{never, pass, fundSoFar, PassedLine, rateLine, memberLine, endLine, passed-line}
+use Rattle.laws.specs.Passing.{never, pass, PassedLine, rateLine, memberLine, endLine, passed-line}
 
 pub record RateOk (r : Rate) : Type 0 where
   pub age : r .age ≤ most-age
@@ -72,7 +69,7 @@ rising-more : (rs : List Rate) (r : Rate) → Rising rs → All (λ (s : Rate). 
 rising-more [] r k h = (tt, tt)
 rising-more (s ∷ rs) r k h = (all-snoc (λ t. s .age < t .age) rs r (k .0) (h .0), rising-more rs r (k .1) (h .1))
 
-rate-ok : (before : List Rate) (r : Rate) → rateInRange before r ≡ true → (length before < most-rates) × ((rising before (r .age) ≡ true) × RateOk r)
+pub rate-ok : (before : List Rate) (r : Rate) → rateInRange before r ≡ true → (length before < most-rates) × ((rising before (r .age) ≡ true) × RateOk r)
 unfolding rateInRange
 rate-ok before r e =
     let h5 = and-true _ (leb (r .q + r .i) most-rate) e in
@@ -87,7 +84,7 @@ rate-ok before r e =
 pub rise-more : (rs : List Rate) (r : Rate) → Rising rs → rateInRange rs r ≡ true → Rising (rs ++ (r ∷ []))
 rise-more rs r k e = rising-more rs r k (above-all rs (r .age) k (rate-ok rs r e .1 .0))
 
-member-ok : (before : List Member) (m : Member) → memberInRange before m ≡ true → (length before < most-members) × MemberOk m
+pub member-ok : (before : List Member) (m : Member) → memberInRange before m ≡ true → (length before < most-members) × MemberOk m
 unfolding memberInRange
 member-ok before m e =
     let h4 = and-true _ (leb (m .e) most-amount) e in
@@ -104,7 +101,7 @@ pub record Reads (header : Fund) (fund : FundFile) : Type 0 where
   pub header-is : fund .header ≡ header
   pub rows : RowsOk (fund .rates) (fund .members)
 
-more-rates : (rates : List Rate) (members : List Member) (r : Rate) → RowsOk rates members → rateInRange rates r ≡ true → RowsOk (rates ++ (r ∷ [])) members
+pub more-rates : (rates : List Rate) (members : List Member) (r : Rate) → RowsOk rates members → rateInRange rates r ≡ true → RowsOk (rates ++ (r ∷ [])) members
 more-rates rates members r k e =
     let h = rate-ok rates r e in
     let l : length rates < most-rates = h .0 in
@@ -116,7 +113,7 @@ more-rates rates members r k e =
       few-members = k .few-members;
     }
 
-more-members : (rates : List Rate) (members : List Member) (m : Member) → RowsOk rates members → memberInRange members m ≡ true → RowsOk rates (members ++ (m ∷ []))
+pub more-members : (rates : List Rate) (members : List Member) (m : Member) → RowsOk rates members → memberInRange members m ≡ true → RowsOk rates (members ++ (m ∷ []))
 more-members rates members m k e =
     let h = member-ok members m e in
     let l : length members < most-members = h .0 in
@@ -265,10 +262,10 @@ header-ok (a ∷ b ∷ c ∷ d ∷ e ∷ f ∷ []) w = absurd (w .1 .1 .1 .1 .1 
 header-ok (a ∷ b ∷ c ∷ d ∷ e ∷ f ∷ g ∷ []) w = absurd (w .1 .1 .1 .1 .1 .1 .1)
 header-ok (a ∷ b ∷ c ∷ d ∷ e ∷ f ∷ g ∷ h ∷ i ∷ vs) w = absurd (w .1 .1 .1 .1 .1 .1 .1 .1)
 
-no-rows : RowsOk [] []
+pub no-rows : RowsOk [] []
 no-rows = record { rates = tt; rates-rise = tt; members = tt; few-rates = omega arith; few-members = omega arith }
 
-text-ranges : (after : ℕ → Fund → List Line → Reading) (text : List ℕ) (fund : FundFile) → ((n : ℕ) (header : Fund) (ls : List Line) → after n header ls ≡ read fund → Reads header fund) →
+pub text-ranges : (after : ℕ → Fund → List Line → Reading) (text : List ℕ) (fund : FundFile) → ((n : ℕ) (header : Fund) (ls : List Line) → after n header ls ≡ read fund → Reads header fund) →
     readHeader after headerLines 1 [] (lines text) ≡ read fund → FundOk fund
 text-ranges after text fund behind e =
     let r = header-ranges after fund behind headerLines 1 [] (lines text) e in
@@ -277,25 +274,3 @@ text-ranges after text fund behind e =
 pub read-ranges : (file : List ℕ) (fund : FundFile) → reading file ≡ read fund → FundOk fund
 unfolding reading
 read-ranges file fund e = text-ranges fileRows file fund (λ n header ls. rows-ranges ls n header [] [] fund no-rows) e
-
--- ---- sheets
-sheet-rows-ranges : (rows : List SheetRow) (n : ℕ) (header : Fund) (rates : List Rate) (members : List Member) (fund : FundFile) → RowsOk rates members →
-    readSheetRows n header rates members rows ≡ read fund → Reads header fund
-unfolding readSheetRows
-sheet-rows-ranges [] n header rates members fund k e = let z : fundSoFar n header rates members ≡ fund = cc in subst (λ f. Reads header f) z (record { header-is = refl; rows = k })
-sheet-rows-ranges (NotTaken ∷ rows) n header rates members fund k e = absurd (never CellRefusal _ fund e)
-sheet-rows-ranges (RateRow r ∷ rows) n header rates members fund k e =
-    let h = pass (rateInRange rates r) Range n _ fund e in
-    sheet-rows-ranges rows (suc n) header (rates ++ (r ∷ [])) members fund (more-rates rates members r k (h .0)) (h .1)
-sheet-rows-ranges (MemberRow m ∷ rows) n header rates members fund k e =
-    let h = pass (memberInRange members m) Range n _ fund e in
-    sheet-rows-ranges rows (suc n) header rates (members ++ (m ∷ [])) fund (more-members rates members m k (h .0)) (h .1)
-
-sheets-ranges : (rows : List SheetRow) (fund : FundFile) (n : ℕ) (header : Fund) (ls : List Line) → readSheets rows n header ls ≡ read fund → Reads header fund
-unfolding readSheets
-sheets-ranges rows fund n header [] e = sheet-rows-ranges rows n header [] [] fund no-rows e
-sheets-ranges rows fund n header (l ∷ ls) e = absurd (never Form n fund e)
-
-pub sheet-ranges : (header rates members : List ℕ) (fund : FundFile) → sheetReading header rates members ≡ read fund → FundOk fund
-unfolding sheetReading
-sheet-ranges header rates members fund e = text-ranges (readSheets (sheetRows rates members)) header fund (sheets-ranges (sheetRows rates members) fund) e

@@ -17,13 +17,9 @@ use Rattle.fund.specs.Spelling.{digits, isNumber, value, inFirst, fields, allNu
 use Rattle.fund.specs.Reading.{Row, rateRow, memberRow, endRow, rowOf}
 use Rattle.fund.specs.Listing.{decimal, joined}
 use Rattle.fund.specs.Sheets.{rateText, memberText}
-use Rattle.laws.specs.Accepted.{All}
+use Rattle.laws.specs.Accepted.{All, all-append}
 use Rattle.laws.specs.Ranges.{and-true}
 use Rattle.laws.specs.Decimals.{seven-digits, and-both, decimal-spelled}
-
-pub all-append : {A : Type 0} (P : A → Type 0) (l m : List A) → All P l → All P m → All P (l ++ m)
-all-append P [] m h k = k
-all-append P (a ∷ l) m h k = (h .0, all-append P l m (h .1) k)
 
 -- numbers of at most seven digits
 abbrev pub Short : List ℕ → Type 0

@@ -22,16 +22,12 @@ use Rattle.fund.specs.Reading.{FundFile, read, stopped, headerLines, rateRow, m
 use Rattle.fund.specs.Sheets.{rowCount, rowsOf, sheetRows, readSheetRows, readSheets, sheetReading, rateText, memberText, texts, fileWith}
 use Rattle.laws.specs.Accepted.{All}
 use Rattle.laws.specs.Passing.{never, on-pass, fundSoFar, on-end}
-use Rattle.laws.specs.Ranges.{and-true}
+use Rattle.laws.specs.Ranges.{member-ok}
 use Rattle.laws.specs.HeaderOutcome.{Ended, Stops, Passes, passed, header-outcome, lines-append}
 use Rattle.laws.specs.RowTexts.{ShortRate, ShortMember, rate-first, member-first, endText, end-first}
 use Rattle.laws.specs.TakenRows.{taken-short}
 
 -- ---- rows
-pub few-members : (members : List Member) (m : Member) → memberInRange members m ≡ true → length members < most-members
-unfolding memberInRange
-few-members members m e = ltb-true _ _ (and-true _ _ (and-true _ _ (and-true _ _ (and-true _ _ e .0) .0) .0) .0)
-
 module _ (n : ℕ) (header : Fund) (rates : List Rate) (l : Line) (ls : List Line) where
   rate-step : (r : Rate) → rowOf l ≡ rateRow r →
       readRows n header rates [] (l ∷ ls) ≡ elim (rateInRange rates r) [ false ↦ stopped Range n | true ↦ readRows (suc n) header (rates ++ (r ∷ [])) [] ls ]
@@ -61,7 +57,7 @@ members-alike (m ∷ ms) n header rates members k at h few e =
     let f = member-first m at rest (h .0) in
     on-pass (memberInRange members m) (stopped Range n) _ _
     (λ t. members-alike ms (suc n) header rates (members ++ (m ∷ [])) k (f .next) (h .1)
-    (omega (arith, few-members members m t, length-append members (m ∷ []))) (omega (arith, length-append members (m ∷ []))))
+    (omega (arith, member-ok members m t .0, length-append members (m ∷ []))) (omega (arith, length-append members (m ∷ []))))
     ∙ sym
     (ap (λ t. readRows n header rates members (linesFrom at t)) (append-assoc (memberText m) (texts memberText ms) (endText k))
     ∙ ap (readRows n header rates members) (f .lines-are)

@@ -17,20 +17,11 @@ use Rattle.fund.specs.Lines.{Line, lines}
 use Rattle.fund.specs.Reading.{stopped, headerLines, rateInRange, memberInRange, readHeader}
 use Rattle.fund.specs.Cells.{rate-width, member-width, rateRowOf, memberRowOf}
 use Rattle.fund.specs.Sheets.{rowsOf, sheetRows, readSheetRows, readSheets, sheetReading}
-use Rattle.laws.specs.Accepted.{All}
+use Rattle.laws.specs.Accepted.{All, all-front, all-of}
 use Rattle.laws.specs.Passing.{on-pass}
-use Rattle.laws.specs.Ranges.{and-true}
-use Rattle.laws.specs.SheetFile.{few-members}
+use Rattle.laws.specs.Ranges.{rate-ok, member-ok}
 use Rattle.laws.specs.SheetRows.{SameFirst, same, both, rows-first, map-first}
-use Rattle.laws.specs.TakenRows.{NoMember, NoRate, rate-row, member-row, all-of}
-
-all-front : {A : Type 0} (P : A → Type 0) (l m : List A) → All P (l ++ m) → All P l
-all-front P [] m h = tt
-all-front P (a ∷ l) m h = (h .0, all-front P l m (h .1))
-
-few-rates : (rates : List Rate) (r : Rate) → rateInRange rates r ≡ true → length rates < most-rates
-unfolding rateInRange
-few-rates rates r e = ltb-true _ _ (and-true _ _ (and-true _ _ (and-true _ _ (and-true _ _ (and-true _ _ e .0) .0) .0) .0) .0)
+use Rattle.laws.specs.TakenRows.{NoMember, NoRate, rate-row, member-row}
 
 -- ---- reading
 module _ (header : Fund) (x y : List SheetRow) where
@@ -43,7 +34,7 @@ module _ (header : Fund) (x y : List SheetRow) where
   past-rates (MemberRow m ∷ rows) n rates k few many = absurd (k .0)
   past-rates (RateRow r ∷ rows) n rates k few many =
       let more = length-append rates (r ∷ []) in
-      on-pass (rateInRange rates r) (stopped Range n) _ _ (λ t. past-rates rows (suc n) (rates ++ (r ∷ [])) (k .1) (omega (arith, few-rates rates r t)) (omega arith))
+      on-pass (rateInRange rates r) (stopped Range n) _ _ (λ t. past-rates rows (suc n) (rates ++ (r ∷ [])) (k .1) (omega (arith, rate-ok rates r t .0)) (omega arith))
 
   past-members : (rows : List SheetRow) (n : ℕ) (rates : List Rate) (members : List Member) → All NoRate rows → length members ≤ most-members → most-members < length members + length rows →
       readSheetRows n header rates members (rows ++ x) ≡ readSheetRows n header rates members (rows ++ y)
@@ -53,7 +44,7 @@ module _ (header : Fund) (x y : List SheetRow) where
   past-members (RateRow r ∷ rows) n rates members k few many = absurd (k .0)
   past-members (MemberRow m ∷ rows) n rates members k few many =
       let more = length-append members (m ∷ []) in
-      on-pass (memberInRange members m) (stopped Range n) _ _ (λ t. past-members rows (suc n) rates (members ++ (m ∷ [])) (k .1) (omega (arith, few-members members m t)) (omega arith))
+      on-pass (memberInRange members m) (stopped Range n) _ _ (λ t. past-members rows (suc n) rates (members ++ (m ∷ [])) (k .1) (omega (arith, member-ok members m t .0)) (omega arith))
 
   -- Rate rows are read alike before rows that are read alike.
   behind-rates : (rows : List SheetRow) (n : ℕ) (rates : List Rate) → All NoMember rows → ((k : ℕ) (rs : List Rate) → readSheetRows k header rs [] x ≡ readSheetRows k header rs [] y) →

@@ -18,9 +18,9 @@ use Rattle.fund.specs.Limits.{most-age, most-rate, least-group, most-group, mos
 use Rattle.fund.specs.Base.{if_then_else_}
 use Rattle.fund.specs.Cells.{orElse, seek, wholeOf, rateOf, atLeast, numberOf, amountOf, rateIn, rateJoined, memberJoined, rateTaken, memberTaken, rateFloats, memberFloats, rate-width, member-width, rateRowOf, memberRowOf}
 use Rattle.fund.specs.Sheets.{rowsOf, sheetRows}
-use Rattle.laws.specs.Accepted.{All}
+use Rattle.laws.specs.Accepted.{All, all-append, all-of}
 use Rattle.laws.specs.Decimals.{seven-digits}
-use Rattle.laws.specs.RowTexts.{all-append, ShortRate, ShortMember}
+use Rattle.laws.specs.RowTexts.{ShortRate, ShortMember}
 
 -- ---- cells
 -- a cell is taken as a number below n, or not taken
@@ -148,10 +148,6 @@ member-row row = go (eqb (length row) member-width)
     go false = tt
 
 -- ---- sheets
-pub all-of : {A B : Type 0} (P : B → Type 0) (f : A → B) → ((a : A) → P (f a)) → (l : List A) → All P (map f l)
-all-of P f h [] = tt
-all-of P f h (a ∷ l) = (h a, all-of P f h l)
-
 members-short : (ms : List Member) → All ShortRow (map MemberRow ms) → All ShortMember ms
 members-short [] h = tt
 members-short (m ∷ ms) h = (h .0, members-short ms (h .1))

@@ -4,33 +4,16 @@
 use libc::STDIN_FILENO;
 use libc::STDOUT_FILENO;
 use printing::MOST_BYTES;
+use spelling::Argument;
 
 const HEAD: usize = 35;
 
-// A number of more digits is not read.
-const MOST: u64 = 1000000000000000000;
-
-fn with_digit(value: u64, byte: u8) -> u64 {
-    if MOST < value {
-        return value;
+// The number that some digits spell.
+fn number_of(digits: &[u8]) -> u64 {
+    match spelling::level_of(digits) {
+        Argument::Level(value) => value,
+        Argument::Misspelled => u64::MAX,
     }
-    if byte < b'0' {
-        return MOST + 1;
-    }
-    if b'9' < byte {
-        return MOST + 1;
-    }
-    value * 10 + (byte - b'0') as u64
-}
-
-fn digits_value(digits: &[u8]) -> u64 {
-    let mut value: u64 = 0;
-    let mut i = 0;
-    while i < digits.len() {
-        value = with_digit(value, digits[i]);
-        i += 1;
-    }
-    value
 }
 
 // Writes the listing.
@@ -123,10 +106,10 @@ fn next_case(header: &mut [u8], rates: &mut [u8], members: &mut [u8]) -> bool {
     if io::read_full(STDIN_FILENO, &mut head) < HEAD {
         return false;
     }
-    let first = digits_value(&head[0..6]) as usize;
-    let second = digits_value(&head[7..13]) as usize;
-    let third = digits_value(&head[14..20]) as usize;
-    let level = digits_value(&head[21..34]);
+    let first = number_of(&head[0..6]) as usize;
+    let second = number_of(&head[7..13]) as usize;
+    let third = number_of(&head[14..20]) as usize;
+    let level = number_of(&head[21..34]);
     if !read_part(header, first) {
         return false;
     }

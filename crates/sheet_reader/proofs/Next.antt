@@ -1,5 +1,5 @@
 -- Laws of the rows of sheets: the row at a place is the next of those left (next-rate, next-member, no-more), and what it settles (row-after, rows-end).
-use mathlib.Core.Path.{_≡_, refl, sym, ap, _∙_}
+use mathlib.Core.Path.{_≡_, refl, sym, ap, subst, _∙_}
 use mathlib.Core.Bool.{Bool, true, false}
 use mathlib.Core.List.{List, [], _∷_, _++_, map}
 use Prim.Native.Nat.{ℕ, suc, _+_, _-_, _*_, _/_, _≤_, _<_}
@@ -7,7 +7,7 @@ use native.Mathlib.Nat.{mul-comm, mul-suc, le-div-iff-mul-le, div-lt-iff-lt-mul,
 use native.Mathlib.Numerals.{add-one}
 use native.Mathlib.Omega.{arith}
 use borrow.Author.Tests.{ltb-true, ltb-false}
-use lib.Dec.{eqb, ltb}
+use lib.Dec.{ltb}
 use lib.ListN.{length, take, drop, getD, length-append, length-drop, drop-of-length-le}
 use lib.Seq.{drop-cons, take-all}
 use Rattle.fund.specs.declared.Fund.{Fund}
@@ -16,13 +16,12 @@ use Rattle.fund.specs.declared.Member.{Member}
 use Rattle.fund.specs.declared.Refusal.the-variants.{Range, Cell as CellRefusal}
 use Rattle.fund.specs.declared.SheetRow.{SheetRow}
 use Rattle.fund.specs.declared.SheetRow.the-variants.{Rate as RateRow, Member as MemberRow, NotTaken}
-use Rattle.fund.specs.declared.Taken.{Taken}
-use Rattle.fund.specs.declared.Taken.the-variants.{As, Not}
-use Rattle.fund.specs.Base.{if_then_else_, table}
+use Rattle.fund.specs.Base.{table}
 use Rattle.fund.specs.Reading.{Reading, read, stopped, headerLines, rateInRange, memberInRange}
-use Rattle.fund.specs.Cells.{rate-width, member-width, rateJoined, memberJoined, rateTaken, memberTaken, rateFloats, memberFloats, rateRowOf, memberRowOf}
+use Rattle.fund.specs.Cells.{rate-width, member-width, rateRowOf, memberRowOf}
 use Rattle.fund.specs.Sheets.{rowCount, rowAt, rowsOf, readSheetRows}
 use Rattle.laws.specs.Tables.{length-table, getD-table}
+use Rattle.laws.specs.TakenRows.{NoMember, NoRate, rate-row, member-row}
 use Rattle.reader.specs.Rows.{linePlace, leastAge, rateFits, memberFits}
 use Rattle.reader.proofs.Rows.{rate-fits, member-fits, fits-rated, fits-enrolled}
 use Rattle.sheet_reader.specs.declared.rows.RowStep.the-variants.{Rate as RateNext, Member as MemberNext, End, Stopped}
@@ -67,44 +66,12 @@ row-bytes width k end sheet e = go (ltb (length sheet - width * k) width) refl
         let l = length-drop (width * k) sheet in
         take-all (end - width * k) (drop (width * k) sheet) (omega arith) ∙ sym (take-all width (drop (width * k) sheet) (omega arith))
 
--- ---- what a row is
-rate-never : (age q i : Taken) (m : Member) → rateJoined age q i ≡ MemberRow m → ⊥
-unfolding rateJoined
-rate-never (As age) (As q) (As i) m e = let z : _≡_ {A = ℕ} 0 1 = cc in omega arith
-rate-never (As age) (As q) Not m e = let z : _≡_ {A = ℕ} 0 1 = cc in omega arith
-rate-never (As age) Not i m e = let z : _≡_ {A = ℕ} 0 1 = cc in omega arith
-rate-never Not q i m e = let z : _≡_ {A = ℕ} 0 1 = cc in omega arith
-
-member-never : (age group d e : Taken) (r : Rate) → memberJoined age group d e ≡ RateRow r → ⊥
-unfolding memberJoined
-member-never (As age) (As group) (As d) (As e) r h = let z : _≡_ {A = ℕ} 0 1 = cc in omega arith
-member-never (As age) (As group) (As d) Not r h = let z : _≡_ {A = ℕ} 0 1 = cc in omega arith
-member-never (As age) (As group) Not e r h = let z : _≡_ {A = ℕ} 0 1 = cc in omega arith
-member-never (As age) Not d e r h = let z : _≡_ {A = ℕ} 0 1 = cc in omega arith
-member-never Not group d e r h = let z : _≡_ {A = ℕ} 0 1 = cc in omega arith
-
-no-member : (row : List ℕ) (m : Member) → rateRowOf row ≡ MemberRow m → ⊥
-unfolding rateRowOf
-no-member row m e = go (eqb (length row) rate-width) e
-  where
-    go : (b : Bool) → (if b then rateTaken (rateFloats row) else NotTaken) ≡ MemberRow m → ⊥
-    go true h = rate-never _ _ _ m h
-    go false h = let z : _≡_ {A = ℕ} 0 1 = cc in omega arith
-
-no-rate : (row : List ℕ) (r : Rate) → memberRowOf row ≡ RateRow r → ⊥
-unfolding memberRowOf
-no-rate row r e = go (eqb (length row) member-width) e
-  where
-    go : (b : Bool) → (if b then memberTaken (memberFloats row) else NotTaken) ≡ RateRow r → ⊥
-    go true h = member-never _ _ _ _ r h
-    go false h = let z : _≡_ {A = ℕ} 0 1 = cc in omega arith
-
 -- ---- the next row
 module _ (rates members : List ℕ) (rated enrolled : ℕ) where
-  rate-behind : (row : List ℕ) (is : SheetRow) → rateRowOf row ≡ is → Behind rates members rated enrolled is (rowsLeft rates members (suc rated) enrolled)
-  rate-behind row (RateRow r) e = refl
-  rate-behind row (MemberRow m) e = absurd (no-member row m e)
-  rate-behind row NotTaken e = tt
+  rate-behind : (is : SheetRow) → NoMember is → Behind rates members rated enrolled is (rowsLeft rates members (suc rated) enrolled)
+  rate-behind (RateRow r) h = refl
+  rate-behind (MemberRow m) h = absurd h
+  rate-behind NotTaken h = tt
 
   pub next-rate : (end : ℕ) → rate-width * rated < length rates → RowEnd (rate-width * rated) rate-width (length rates) end →
       (is : SheetRow) → is ≡ rateRowOf (take (end - rate-width * rated) (drop (rate-width * rated) rates)) → NextOf rates members rated enrolled is
@@ -115,14 +82,14 @@ module _ (rates members : List ℕ) (rated enrolled : ℕ) where
       record {
         rest = rowsLeft rates members (suc rated) enrolled;
         first = rw (rows-next rate-width rates (omega arith) rated h) (ap (λ (x : SheetRow). x ∷ rowsLeft rates members (suc rated) enrolled) z);
-        behind = rate-behind row is z;
+        behind = rate-behind is (subst NoMember z (rate-row row));
       }
 
   module _ (done : length rates ≤ rate-width * rated) where
-    member-behind : (row : List ℕ) (is : SheetRow) → memberRowOf row ≡ is → Behind rates members rated enrolled is (rowsLeft rates members rated (suc enrolled))
-    member-behind row (RateRow r) e = absurd (no-rate row r e)
-    member-behind row (MemberRow m) e = refl
-    member-behind row NotTaken e = tt
+    member-behind : (is : SheetRow) → NoRate is → Behind rates members rated enrolled is (rowsLeft rates members rated (suc enrolled))
+    member-behind (RateRow r) h = absurd h
+    member-behind (MemberRow m) h = refl
+    member-behind NotTaken h = tt
 
     pub next-member : (end : ℕ) → member-width * enrolled < length members → RowEnd (member-width * enrolled) member-width (length members) end →
         (is : SheetRow) → is ≡ memberRowOf (take (end - member-width * enrolled) (drop (member-width * enrolled) members)) → NextOf rates members rated enrolled is
@@ -133,7 +100,7 @@ module _ (rates members : List ℕ) (rated enrolled : ℕ) where
         record {
           rest = rowsLeft rates members rated (suc enrolled);
           first = rw (rows-none rate-width rates (omega arith) rated done, rows-next member-width members (omega arith) enrolled h) (ap (λ (x : SheetRow). x ∷ map memberRowOf (drop (suc enrolled) (rowsOf member-width members))) z);
-          behind = member-behind row is z;
+          behind = member-behind is (subst NoRate z (member-row row));
         }
 
     pub no-more : length members ≤ member-width * enrolled → rowsLeft rates members rated enrolled ≡ []

@@ -1,6 +1,6 @@
 -- `pricing::price_sheets`: what is read of the header text and the sheets is priced.
 use borrow.Author.Needs.{needs}
-use Rattle.laws.specs.Ranges.{sheet-ranges}
+use Rattle.laws.specs.SheetRanges.{sheet-ranges}
 use Rattle.pricing.proofs.price_sheets.Statement.{statement}
 use Rattle.pricing.proofs.price_sheets.Tie as tie
 

@@ -4,7 +4,7 @@ use mathlib.Core.List.{List}
 use Prim.Native.Nat.{ℕ}
 use borrow.Author.Needs.{needs}
 use lib.ListN.{length}
-use Rattle.laws.specs.Ranges.{sheet-ranges}
+use Rattle.laws.specs.SheetRanges.{sheet-ranges}
 use Rattle.text.specs.Writing.{Written}
 use Rattle.printing.proofs.Printing.{written-within, cells-length, signed-length, shown-is}
 use Rattle.printing.proofs.sheets.print_sheets.Statement.{statement}
