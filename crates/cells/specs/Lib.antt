@@ -1,5 +1,6 @@
 pub mod Taken
 pub mod Patterns
+pub mod Part
 pub mod Values
 pub mod Quotient
 pub mod Ladder

@@ -45,7 +45,7 @@ number-bits b h =
     clash r h k = omega arith
 
 -- ---- the value of a pattern
-abbrev scaled : ℕ → ℕ → ℕ → ℕ
+abbrev pub scaled : ℕ → ℕ → ℕ → ℕ
 scaled h zero t = t
 scaled h (suc x) t = (h + t) * 2 ^ x
 

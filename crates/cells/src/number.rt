@@ -1,12 +1,14 @@
 // From a float to a cell, and from a cell to the number that it is taken as. No float is converted: it is compared with the
-// conversion of a whole number, which is sought by halves.
+// conversion of a whole number, which comes from the float's bits, or for a rate is sought by halves.
 use fund::Fund;
 use fund::SheetCell;
 use fund::Taken;
 ghost use mathlib.Core.Path.{_≡_};
 ghost use Prim.Native.Nat.{_^_, _≤_};
+ghost use lib.Ieee.{binary64, ofBits};
 ghost use Rattle.fund.specs.Limits.{most-rate};
 ghost use Rattle.fund.specs.Cells.{cellOf, quotient, wholeOf, rateOf, atLeast, numberOf, amountOf, rateIn};
+ghost use Rattle.cells.specs.Part.{OnlyWhole};
 
 // A NaN, and nothing else, differs from itself.
 pub(crate) fn classed(x: f64) -> SheetCell
@@ -19,24 +21,35 @@ pub(crate) fn classed(x: f64) -> SheetCell
     }
 }
 
-// x as a whole number up to `most`; up to 2^53 these are floats.
+// The only whole number up to 2^53 that the float of these bits can equal: its size, without a fraction and cut to 2^53.
+fn whole_part(bits: u64) -> u64
+    ensures { λ r. ⌜ OnlyWhole (ofBits binary64 bits) r ⌝ }
+{
+    let exponent = bits % 0x8000_0000_0000_0000 / 0x10_0000_0000_0000;
+    if exponent < 1023 {
+        return 0;
+    }
+    if 1075 < exponent {
+        return 0x20_0000_0000_0000;
+    }
+    (0x10_0000_0000_0000 + bits % 0x10_0000_0000_0000) >> (1075 - exponent)
+}
+
+// x as a whole number up to `most`; up to 2^53 these are floats. `to_bits` asks that x is no NaN.
 fn whole(x: f64, most: u64) -> Taken
     requires { ⌜ most ≤ 2 ^ 53 ⌝ }
     ensures { λ r. ⌜ r ≡ wholeOf x most ⌝ }
 {
-    let mut lo = 0u64;
-    let mut hi = most + 1;
-    while lo < hi {
-        let mid = lo + (hi - lo) / 2;
-        let exact = mid as f64;
-        if x == exact {
-            return Taken::As(mid);
-        }
-        if x < exact {
-            hi = mid;
-        } else {
-            lo = mid + 1;
-        }
+    let blank = x != x;
+    if blank {
+        return Taken::Not;
+    }
+    let k = whole_part(f64::to_bits(x));
+    if most < k {
+        return Taken::Not;
+    }
+    if x == k as f64 {
+        return Taken::As(k);
     }
     Taken::Not
 }

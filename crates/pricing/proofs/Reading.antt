@@ -1,4 +1,4 @@
--- The fund that is read and matched: where reading stops, so does the call (stop-answers); the horizon (horizon-read); the tables are matched as the file that
+-- The fund that is read and matched, from either source (from-ranges): where reading stops, so does the call (stop-answers); the horizon (horizon-read); the tables are matched as the file that
 -- was read (read-matched); and what 3 to 6 answer of it, with its lives (matched-verdict, matched-lives).
 use mathlib.Core.Path.{_≡_, refl, sym, _∙_, ap, ap₂}
 use mathlib.Core.List.{List, []}
@@ -17,17 +17,25 @@ use Rattle.fund.specs.Folding.{life, lives}
 use Rattle.fund.specs.Refusals.{Lengths, matched}
 use Rattle.fund.specs.Answer.{Answer, refused, answerTo}
 use Rattle.fund.specs.Listing.{horizonIn}
-use Rattle.laws.specs.Ranges.{FundOk}
+use Rattle.laws.specs.Ranges.{FundOk, read-ranges}
+use Rattle.laws.specs.SheetRanges.{sheet-ranges}
 use Rattle.laws.specs.Rows.{blankRate, blankMember, blankLife, rows-back}
 use Rattle.reader.specs.declared.FileRead.{FileRead}
 use Rattle.reader.specs.Read.{rateTable, memberTable, fileRead}
 use Rattle.matching.specs.declared.table.Matched.{Matched}
 use Rattle.matching.specs.Matching.{lifeTable, withLives, matching, matchedTables}
 use Rattle.pricing.specs.Joining.{answer-stopped}
-use Rattle.pricing.specs.Priced.{lined, MatchedFund}
+use Rattle.pricing.specs.declared.Source.{Source}
+use Rattle.pricing.specs.declared.Source.the-variants.{File, Sheets}
+use Rattle.pricing.specs.Priced.{readingFrom, lined, MatchedFund}
 use Rattle.pricing.proofs.Valuing.{lined-refused}
 
 -- ---- what was read
+-- A fund that is read, from either source, is in its ranges.
+pub from-ranges : (source : Source) (text rates members : List ℕ) (fund : FundFile) → readingFrom source text rates members ≡ read fund → FundOk fund
+from-ranges File text rates members fund e = read-ranges text fund e
+from-ranges Sheets text rates members fund e = sheet-ranges text rates members fund e
+
 module _ (r : Reading) (found : FileRead) (e : found ≡ fileRead r) where
   stops : (why : Refusal) (place : ℕ) → found .verdict ≡ Refused why place → (x : Reading) → r ≡ x → r ≡ stopped why place
   unfolding fileRead

@@ -10,19 +10,20 @@ use Rattle.fund.specs.declared.Fund.{Fund}
 use Rattle.fund.specs.declared.Verdict.{Verdict}
 use Rattle.fund.specs.declared.Verdict.the-variants.{Accepted, Refused}
 use Rattle.fund.specs.Base.{if_then_else_}
-use Rattle.fund.specs.Reading.{FundFile, Reading, read}
+use Rattle.fund.specs.Reading.{FundFile, Reading, read, reading}
 use Rattle.fund.specs.Refusals.{Lengths}
 use Rattle.fund.specs.Quantile.{quantileOf}
 use Rattle.fund.specs.Answer.{part, Answer, answerTo}
 use Rattle.fund.specs.Listing.{horizonIn}
+use Rattle.fund.specs.Sheets.{sheetReading}
 use Rattle.fund.specs.Distance.{WithinBounds, NeverBelow}
 use Rattle.laws.specs.Ranges.{FundOk}
-use Rattle.reader.specs.declared.FileRead.{FileRead}
-use Rattle.reader.specs.Read.{fileRead}
 use Rattle.matching.specs.declared.table.Matched.{Matched}
 use Rattle.matching.specs.Matching.{matching}
 use Rattle.valuation.specs.declared.Valued.{Valued}
 use Rattle.pricing.specs.declared.Priced.{Priced}
+use Rattle.pricing.specs.declared.Source.{Source}
+use Rattle.pricing.specs.declared.Source.the-variants.{File, Sheets}
 
 -- The answer that a call leaves: what it returns, and the slices.
 abbrev pub left : Priced → List ℤ → List ℕ → List ℤ → List ℕ → List ℤ → Answer
@@ -61,9 +62,10 @@ pub record Prices (text : List ℕ) (r : Reading) (level : ℕ) (n : Lengths) (p
   pub distance : (fund : FundFile) → r ≡ read fund → a .verdict ≡ Accepted → WithinBounds fund a
   pub never-below : (fund : FundFile) → r ≡ read fund → a .verdict ≡ Accepted → NeverBelow fund a
 
--- So is the call for every reading of which this was found.
-abbrev pub PricesFound : List ℕ → FileRead → ℕ → Lengths → Priced → Answer → Type 0
-PricesFound text found level n p a = (r : Reading) → found ≡ fileRead r → ((fund : FundFile) → r ≡ read fund → FundOk fund) → Prices text r level n p a
+-- What is read from a source.
+abbrev pub readingFrom : Source → List ℕ → List ℕ → List ℕ → Reading
+readingFrom File text rates members = reading text
+readingFrom Sheets text rates members = sheetReading text rates members
 
 -- Reading gave a fund, in its ranges, whose header and members these are, and whose refusals 3 to 6 and lives were found.
 pub record MatchedFund (r : Reading) (fund : Fund) (m : Matched) (enrolled : ℕ) : Type 0 where

@@ -11,8 +11,9 @@ ghost use mathlib.Core.Path.{_≡_};
 ghost use Rattle.fund.specs.Reading.{reading};
 ghost use Rattle.fund.specs.Quantile.{quantileOf};
 ghost use Rattle.fund.specs.Sheets.{sheetReading};
+ghost use Rattle.reader.specs.Read.{fileRead};
 ghost use Rattle.valuation.specs.Valued.{left as leftOf, lengths};
-ghost use Rattle.pricing.specs.Priced.{left, horizonWith, Tells, ValuedFor, Prices, PricesFound, lineOf};
+ghost use Rattle.pricing.specs.Priced.{left, horizonWith, Tells, ValuedFor, Prices, readingFrom, lineOf};
 
 // What a call answers beside the result slices: the verdict, where the part of the host's bytes that goes with it starts and
 // ends, the horizon of a fund that is accepted, the figures, and the answer at the level.
@@ -23,6 +24,12 @@ pub struct Priced {
     pub horizon: u64,
     pub figures: Figures,
     pub quantile: Quantile,
+}
+
+// Where a fund is read from: a file, or a header text and two sheets.
+enum Source {
+    File,
+    Sheets,
 }
 
 // The horizon is told of a fund that is accepted.
@@ -92,10 +99,23 @@ fn valued(
     }
 }
 
-// What is told of what was read: where reading stops, its refusal; else the fund is matched and valued.
-fn price_found(
+// What is read from a source.
+fn read_from(source: Source, text: &[u8], rates: &[u8], members: &[u8]) -> FileRead
+    ensures { λ r. ⌜ r ≡ fileRead (readingFrom source (now (text .entry)) (now (rates .entry)) (now (members .entry))) ⌝ }
+{
+    match source {
+        Source::File => reader::read(text),
+        Source::Sheets => sheet_reader::read(text, rates, members),
+    }
+}
+
+// Prices the fund of a source: where reading stops, its refusal; else the fund is matched and valued. One function for both sources, so that
+// what it calls has one caller.
+fn price_from(
+    source: Source,
     text: &[u8],
-    found: FileRead,
+    rates: &[u8],
+    members: &[u8],
     level: u64,
     transform: &mut [i64],
     h: &mut [u64],
@@ -103,10 +123,11 @@ fn price_found(
     r: &mut [u64],
     sums: &mut [i64],
 ) -> Priced
-    ensures { λ p. ⌜ PricesFound (now (text .entry)) found level
+    ensures { λ p. ⌜ Prices (now (text .entry)) (readingFrom source (now (text .entry)) (now (rates .entry)) (now (members .entry))) level
         (lengths (now (transform .entry)) (now (h .entry)) (now (f .entry)) (now (r .entry)) (now (sums .entry))) p
         (left p (now (transform .exit)) (now (h .exit)) (now (f .exit)) (now (r .exit)) (now (sums .exit))) ⌝ }
 {
+    let found = read_from(source, text, rates, members);
     let verdict = found.verdict;
     match verdict {
         Verdict::Refused(why, place) => {
@@ -116,10 +137,10 @@ fn price_found(
         }
         Verdict::Accepted => {
             let fund = found.fund;
-            let rates = found.rates;
-            let members = found.members;
+            let rate_rows = found.rates;
+            let member_rows = found.members;
             let enrolled = found.enrolled;
-            let matched = matching::matched(fund, rates, found.rated, members, enrolled);
+            let matched = matching::matched(fund, rate_rows, found.rated, member_rows, enrolled);
             let value = valued(fund, matched, enrolled, transform, h, f, r, sums);
             told(text, level, fund.horizon, value, &sums[..])
         }
@@ -140,8 +161,18 @@ pub fn price(
         (lengths (now (transform .entry)) (now (h .entry)) (now (f .entry)) (now (r .entry)) (now (sums .entry))) p
         (left p (now (transform .exit)) (now (h .exit)) (now (f .exit)) (now (r .exit)) (now (sums .exit))) ⌝ }
 {
-    let found = reader::read(file);
-    price_found(file, found, level, transform, h, f, r, sums)
+    price_from(
+        Source::File,
+        file,
+        file,
+        file,
+        level,
+        transform,
+        h,
+        f,
+        r,
+        sums,
+    )
 }
 
 // The same of a header text and two sheets of binary64 cells, of rates and of members. The part that goes with a verdict is one of the header text.
@@ -160,8 +191,18 @@ pub fn price_sheets(
         (lengths (now (transform .entry)) (now (h .entry)) (now (f .entry)) (now (r .entry)) (now (sums .entry))) p
         (left p (now (transform .exit)) (now (h .exit)) (now (f .exit)) (now (r .exit)) (now (sums .exit))) ⌝ }
 {
-    let found = sheet_reader::read(header, rates, members);
-    price_found(header, found, level, transform, h, f, r, sums)
+    price_from(
+        Source::Sheets,
+        header,
+        rates,
+        members,
+        level,
+        transform,
+        h,
+        f,
+        r,
+        sums,
+    )
 }
 
 // The line that the host is handed, a part of its own bytes.

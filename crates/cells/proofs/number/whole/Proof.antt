@@ -1,77 +1,68 @@
--- `cells::number::whole`: the invariant: the whole number that x equals, where there is one, lies from lo on and below hi.
-use Prim.Native.Nat.{ℕ, _+_, _-_, _/_, _≤_, _<_}
-use native.Mathlib.Omega.{arith}
-use lib.IntN.{pos}
+-- `cells::number::whole`: the only whole number that x can equal is the one of its bits (`only`), and it is compared with that.
+use borrow.Author.Needs.{needs}
+use mathlib.Core.Path.{_≡_, sym, ap, _∙_, subst}
+use mathlib.Core.Bool.{false, not}
+use Prim.Native.Nat.{ℕ, _≤_, _<_, _^_}
+use native.Mathlib.Nat.{le-trans, not-le-of-lt}
 use lib.Dec.{T, le→leb}
-use lib.Ieee.{binary64, inFloat}
-use Rattle.fund.specs.Cells.{ofWhole}
-use Rattle.fund.specs.Cells.{wholeOf}
-use Rattle.cells.specs.Ladder as ladder
+use lib.Ieee.{Float, nan, inf, fin, binary64, fits, inFloat, isNan, ofBits, toBits, ne, eq}
+use lib.Ieee.Bits.{ofBits-toBits}
+use lib.Ieee.Compare.{differs-from-itself, nan-differs}
+use Rattle.fund.specs.declared.Taken.the-variants.{Not}
+use Rattle.fund.specs.Cells.{ofWhole, wholeOf}
+use Rattle.cells.specs.Taken.{whole-at, whole-none, not-a-number}
+use Rattle.cells.specs.Part.{OnlyWhole}
 use Rattle.cells.proofs.number.whole.Statement.{statement}
 use Rattle.cells.proofs.number.whole.Tie as tie
 
-abbrev Inv-loop : tie.InvT-loop
-Inv-loop x most lo₀ hi₀ lo hi = (hi ≤ most + 1) × ladder.Within ofWhole most x lo hi
+no-nan : (x : Float) → ne x x ≡ false → T (not (isNan x))
+unfolding isNan
+no-nan nan e = absurd (subst T (sym nan-differs ∙ e) tt)
+no-nan (inf s) e = tt
+no-nan (fin s m p) e = tt
 
-abbrev μ-loop : tie.MeasureT-loop
-μ-loop x most lo₀ hi₀ lo hi = hi - lo
+-- what owning an `f64` tells: the format holds it
+held : (c : tie.Start) → T (fits binary64 (c .args .x))
+held c = subst T (sym (c .good .0 .1)) tt
 
-add-hi : tie.Need-add-hi Inv-loop μ-loop
-add-hi c = omega arith
+only : (x : Float) (k : ℕ) → T (fits binary64 x) → OnlyWhole (ofBits binary64 (toBits binary64 x)) k → OnlyWhole x k
+only x k h o = subst (λ (y : Float). OnlyWhole y k) (ofBits-toBits binary64 x h) o
 
-loop-holds : tie.Need-loop-holds Inv-loop μ-loop
-loop-holds c = (omega arith, ladder.within-all ofWhole (c .args .most) (ladder.wholes (c .args .most) (c .pre)) (c .args .x))
+above : (x : Float) (most k : ℕ) → most ≤ 2 ^ 53 → OnlyWhole x k → most < k → Not ≡ wholeOf x most
+above x most k m o l = sym (whole-none x most (λ n h t. not-le-of-lt l (subst (λ (z : ℕ). z ≤ most) (o n (le-trans h m) t) h)))
 
-sub-mid : tie.Need-sub-mid Inv-loop μ-loop
-sub-mid c = omega arith
+other : (x : Float) (most k : ℕ) → most ≤ 2 ^ 53 → OnlyWhole x k → eq x (ofWhole k) ≡ false → Not ≡ wholeOf x most
+other x most k m o e = sym (whole-none x most (λ n h t. subst T (ap (λ (z : ℕ). eq x (ofWhole z)) (o n (le-trans h m) t) ∙ e) t))
 
-add-mid : tie.Need-add-mid Inv-loop μ-loop
-add-mid c = omega arith
-
-middle-fits : (lo hi most : ℕ) → lo < hi → hi ≤ most + 1 → most ≤ 9007199254740992 → T (inFloat binary64 (pos (lo + (hi - lo) / 2)))
-unfolding inFloat
-middle-fits lo hi most l h m = le→leb (lo + (hi - lo) / 2) 9007199254740992 (omega arith)
-
-int-to-float-exact : tie.Need-int-to-float-exact Inv-loop μ-loop
-int-to-float-exact c =
-    let at = c .before .before in
-    middle-fits (at .loop .lo) (at .loop .hi) (at .before .args .most) (c .before .loop-test .taken) (at .loop .inv .0) (at .before .pre)
-
-returns : tie.Need-returns Inv-loop μ-loop
-unfolding wholeOf
+returns : tie.Need-returns
 returns c =
-    let start = c .before .before .before .before in
-    ladder.found ofWhole (start .args .most) (ladder.wholes (start .args .most) (start .pre)) (start .args .x) _ (omega arith) (c .if1 .taken)
+    let start = c .before in
+    sym (ap (λ (y : Float). wholeOf y (start .args .most)) (differs-from-itself (start .args .x) (subst T (sym (c .if1 .taken)) tt)) ∙ not-a-number .1 (start .args .most) (start .pre))
 
-loop-less : tie.Need-loop-less Inv-loop μ-loop
-loop-less c = omega arith
+float-to-bits-whole-part : tie.Need-float-to-bits-whole-part
+float-to-bits-whole-part c = no-nan (c .before .args .x) (c .if1 .left)
 
-loop-again : tie.Need-loop-again Inv-loop μ-loop
-loop-again c =
-    let at = c .before .before .before .before in
-    let most = at .before .args .most in
-    (omega arith, ladder.within-left ofWhole most (ladder.wholes most (at .before .pre)) (at .before .args .x) (at .loop .lo) (at .loop .hi) _ (at .loop .inv .1) (omega arith) (c .if2 .taken))
+whole-part-requires : tie.Need-whole-part-requires
+whole-part-requires c κs = search needs
 
-add-lo : tie.Need-add-lo Inv-loop μ-loop
-add-lo c = omega arith
-
-loop-less-2 : tie.Need-loop-less-2 Inv-loop μ-loop
-loop-less-2 c = omega arith
-
-loop-again-2 : tie.Need-loop-again-2 Inv-loop μ-loop
-loop-again-2 c =
-    let at = c .before .before .before .before in
-    let most = at .before .args .most in
-    (omega arith, ladder.within-right ofWhole most (ladder.wholes most (at .before .pre)) (at .before .args .x) (at .loop .lo) (at .loop .hi) _ (at .loop .inv .1) (omega arith) (c .before .if1 .left) (c .if2 .left))
-
-returns-2 : tie.Need-returns-2 Inv-loop μ-loop
-unfolding wholeOf
+returns-2 : tie.Need-returns-2
 returns-2 c =
-    let at = c .before in
-    let most = at .before .args .most in
-    ladder.none ofWhole most (ladder.wholes most (at .before .pre)) (at .before .args .x) (at .loop .lo) (at .loop .hi) (at .loop .inv .1) (c .loop-test .left)
+    let start = c .before .before .before in
+    above (start .args .x) (start .args .most) _ (start .pre) (only (start .args .x) _ (held start) (c .before .whole-part .ensures)) (c .if2 .taken)
+
+int-to-float-if3 : tie.Need-int-to-float-if3
+unfolding inFloat
+int-to-float-if3 c = le→leb _ _ (le-trans (c .before .if2 .left) (c .before .before .before .before .pre))
+
+returns-3 : tie.Need-returns-3
+returns-3 c =
+    let start = c .before .before .before .before .before in
+    sym (whole-at (start .args .x) (start .args .most) _ (start .pre) .1 (c .before .before .if2 .left) (subst T (sym (c .if3 .taken)) tt))
+
+returns-4 : tie.Need-returns-4
+returns-4 c =
+    let start = c .before .before .before .before .before in
+    other (start .args .x) (start .args .most) _ (start .pre) (only (start .args .x) _ (held start) (c .before .before .before .whole-part .ensures)) (c .if3 .left)
 
 pub whole-spec : {M : Type 1} → statement M
-whole-spec =
-    tie.close
-    (tie.spec Inv-loop μ-loop add-hi loop-holds sub-mid add-mid int-to-float-exact returns loop-less loop-again add-lo loop-less-2 loop-again-2 returns-2)
+whole-spec = tie.close (tie.spec returns float-to-bits-whole-part whole-part-requires returns-2 int-to-float-if3 returns-3 returns-4)
