@@ -3,4 +3,4 @@ pub mod Patterns
 pub mod Part
 pub mod Values
 pub mod Quotient
-pub mod Ladder
+pub mod Ascending

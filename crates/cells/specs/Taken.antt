@@ -20,7 +20,7 @@ use Rattle.fund.specs.Limits.{most-rate}
 use Rattle.fund.specs.Cells.{ofWhole, quotient, orElse, seek, wholeOf, rateOf}
 use Rattle.cells.specs.Values.{Is, has→is, eq→is, is→eq, is-one, le→cross}
 use Rattle.cells.specs.Quotient.{whole-value, round-value, quotient-value, grid-apart}
-use Rattle.cells.specs.Ladder.{wholes, millionths, few, rung-unique, found, seek-none}
+use Rattle.cells.specs.Ascending.{wholes, millionths, few, term-unique, found, seek-none}
 
 -- what is found is below the bound and passes the test
 sought : (p : ℕ → Bool) (n k : ℕ) → seek p n ≡ As k → (k < n) × T (p k)
@@ -64,7 +64,7 @@ rate-at x k = (
 
 -- "k is unique"
 pub rate-unique : (x : Float) (j k : ℕ) → j ≤ most-rate → k ≤ most-rate → T (eq x (quotient j 1000000)) → T (eq x (quotient k 1000000)) → j ≡ k
-rate-unique = rung-unique (λ (i : ℕ). quotient i 1000000) most-rate millionths
+rate-unique = term-unique (λ (i : ℕ). quotient i 1000000) most-rate millionths
 
 itself : (k : ℕ) → k ≤ most-rate → T (eq (quotient k 1000000) (quotient k 1000000))
 itself k K =

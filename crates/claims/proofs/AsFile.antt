@@ -1,23 +1,19 @@
 -- What is left is the answer to the sheets, and so that of the file with the same rows (as-file).
-use mathlib.Core.Path.{_≡_, refl, sym, _∙_, ap}
-use mathlib.Core.List.{List, [], _++_, map}
+use mathlib.Core.Path.{_∙_, ap}
+use mathlib.Core.List.{List}
 use Prim.Native.Nat.{ℕ}
-use lib.ListN.{take, drop}
-use Rattle.fund.specs.declared.Rate.{Rate}
-use Rattle.fund.specs.declared.Member.{Member}
-use Rattle.fund.specs.declared.SheetRow.the-variants.{Rate as RateRow, Member as MemberRow}
 use Rattle.fund.specs.declared.Verdict.{Verdict}
-use Rattle.fund.specs.Reading.{FundFile, Reading, read, reading}
+use Rattle.fund.specs.Reading.{Reading}
 use Rattle.fund.specs.Refusals.{Lengths, numberIn, placeIn}
 use Rattle.fund.specs.Quantile.{quantileOf}
-use Rattle.fund.specs.Answer.{Answer, Part, answerTo, answer}
+use Rattle.fund.specs.Answer.{Answer, answerTo, answer}
 use Rattle.fund.specs.Listing.{horizonIn}
-use Rattle.fund.specs.Sheets.{sheetRows, sheetReading, fileWith}
+use Rattle.fund.specs.Sheets.{sheetReading, fileWith}
 use Rattle.laws.specs.SheetFile.{same-reading}
-use Rattle.laws.specs.SheetAnswer.{no-part, withoutPart, same-answer}
+use Rattle.laws.specs.SheetAnswer.{no-part, same-answer}
 use Rattle.pricing.specs.Priced.{horizonWith}
 use Rattle.claims.specs.Demands.{Received, partBytes}
-use Rattle.claims.specs.Sheets.{SameAs, PricedAsFile}
+use Rattle.claims.specs.Sheets.{PricedAsFile}
 use Rattle.claims.proofs.Deriving.{Answered}
 
 module _ (header rates members : List ℕ) (level : ℕ) (n : Lengths) (o : Received) (k : Answered header (sheetReading header rates members) level n o) where

@@ -2,11 +2,10 @@
 -- the level says (demands). Only what acceptance and a refusal say of the definitions' answer is used.
 use mathlib.Core.Path.{_≡_, refl, sym, _∙_, ap, subst}
 use mathlib.Core.List.{List}
-use Prim.Native.Nat.{ℕ, _+_, _*_, _^_, _<_, _≤_}
+use Prim.Native.Nat.{ℕ, _<_}
 use native.Mathlib.Numerals.{add-one}
 use native.Mathlib.Omega.{arith}
-use lib.IntN.{ℤ, pos, natAbs, _*ℤ_, _-ℤ_}
-use lib.ListN.{length, getD}
+use lib.ListN.{length}
 use Rattle.fund.specs.declared.Refusal.{Refusal}
 use Rattle.fund.specs.declared.Verdict.{Verdict}
 use Rattle.fund.specs.declared.Verdict.the-variants.{Accepted, Refused}
@@ -17,7 +16,7 @@ use Rattle.fund.specs.Refusals.{Lengths, numberIn, verdict}
 use Rattle.fund.specs.Quantile.{quantile, quantileOf, QuantileSays}
 use Rattle.fund.specs.Answer.{Answer, refused, fundCells, accepted, answerOf, answerTo}
 use Rattle.fund.specs.Listing.{horizonIn}
-use Rattle.fund.specs.Distance.{fileDenominator, exactAt, exactPremiumAt, apart, WithinBounds, exactLoadedWorth, NeverBelow}
+use Rattle.fund.specs.Distance.{apart, WithinBounds, exactLoadedWorth, NeverBelow}
 use Rattle.laws.specs.Accepted.{accepts}
 use Rattle.laws.specs.Answer.{accepted-read, answer-accepted}
 use Rattle.laws.specs.Sums.{F-cell, length-F}

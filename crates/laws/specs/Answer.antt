@@ -13,7 +13,7 @@ use Rattle.fund.specs.declared.Verdict.{Verdict}
 use Rattle.fund.specs.declared.Verdict.the-variants.{Accepted, Refused}
 use Rattle.fund.specs.Base.{if_then_else_, table}
 use Rattle.fund.specs.Lines.{lines, linesFrom}
-use Rattle.fund.specs.Reading.{FundFile, Reading, read, stopped, reading}
+use Rattle.fund.specs.Reading.{FundFile, Reading, read, stopped}
 use Rattle.fund.specs.Folding.{lives}
 use Rattle.fund.specs.Recursion.{Cell}
 use Rattle.fund.specs.Refusals.{Lengths, verdict}

@@ -12,7 +12,7 @@ use Rattle.fund.specs.Base.{bytes}
 use Rattle.fund.specs.Reading.{FundFile, Reading, read, stopped, headerLines, fileRows, reading}
 use Rattle.fund.specs.Folding.{lives}
 use Rattle.fund.specs.Refusals.{Lengths, verdict}
-use Rattle.fund.specs.Answer.{fundCells, refused, answerOf, answerTo, answer}
+use Rattle.fund.specs.Answer.{fundCells, refused, answerOf, answerTo}
 use Rattle.fund.specs.Listing.{printed, horizonIn, enough, listingTo, listing}
 use Rattle.fund.specs.Sheets.{sheetRows, readSheets, sheetReading, sheetListing}
 use Rattle.laws.specs.SheetPrefix.{sheets-first}

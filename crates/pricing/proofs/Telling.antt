@@ -7,7 +7,6 @@ use borrow.Author.Tests.{le-leb, lt-leb}
 use lib.IntN.{ℤ}
 use lib.ListN.{length, take, drop}
 use Rattle.fund.specs.declared.Refusal.{Refusal}
-use Rattle.fund.specs.declared.Verdict.{Verdict}
 use Rattle.fund.specs.declared.Verdict.the-variants.{Refused}
 use Rattle.fund.specs.Reading.{FundFile, Reading, read}
 use Rattle.fund.specs.Refusals.{Lengths}

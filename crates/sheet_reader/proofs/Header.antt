@@ -1,5 +1,5 @@
 -- Behind the header text: bytes are form at their line (more-bytes), and else the rows follow (rows-follow); where the header stops, so does reading (header-stops).
-use mathlib.Core.Path.{_≡_, refl, sym, ap, _∙_}
+use mathlib.Core.Path.{_≡_, ap, _∙_}
 use mathlib.Core.List.{List, []}
 use Prim.Native.Nat.{ℕ, suc, _+_, _≤_, _<_}
 use native.Mathlib.Omega.{arith}

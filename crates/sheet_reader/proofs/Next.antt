@@ -2,22 +2,20 @@
 use mathlib.Core.Path.{_≡_, refl, sym, ap, subst, _∙_}
 use mathlib.Core.Bool.{Bool, true, false}
 use mathlib.Core.List.{List, [], _∷_, _++_, map}
-use Prim.Native.Nat.{ℕ, suc, _+_, _-_, _*_, _/_, _≤_, _<_}
+use Prim.Native.Nat.{ℕ, suc, _+_, _-_, _*_, _≤_, _<_}
 use native.Mathlib.Nat.{mul-comm, mul-suc, le-div-iff-mul-le, div-lt-iff-lt-mul, le-of-suc-le-suc}
-use native.Mathlib.Numerals.{add-one}
 use native.Mathlib.Omega.{arith}
 use borrow.Author.Tests.{ltb-true, ltb-false}
 use lib.Dec.{ltb}
-use lib.ListN.{length, take, drop, getD, length-append, length-drop, drop-of-length-le}
+use lib.ListN.{length, take, drop, length-append, length-drop, drop-of-length-le}
 use lib.Seq.{drop-cons, take-all}
-use Rattle.fund.specs.declared.Fund.{Fund}
 use Rattle.fund.specs.declared.Rate.{Rate}
 use Rattle.fund.specs.declared.Member.{Member}
 use Rattle.fund.specs.declared.Refusal.the-variants.{Range, Cell as CellRefusal}
 use Rattle.fund.specs.declared.SheetRow.{SheetRow}
 use Rattle.fund.specs.declared.SheetRow.the-variants.{Rate as RateRow, Member as MemberRow, NotTaken}
 use Rattle.fund.specs.Base.{table}
-use Rattle.fund.specs.Reading.{Reading, read, stopped, headerLines, rateInRange, memberInRange}
+use Rattle.fund.specs.Reading.{stopped, headerLines, rateInRange, memberInRange}
 use Rattle.fund.specs.Cells.{rate-width, member-width, rateRowOf, memberRowOf}
 use Rattle.fund.specs.Sheets.{rowCount, rowAt, rowsOf, readSheetRows}
 use Rattle.laws.specs.Tables.{length-table, getD-table}
@@ -25,7 +23,7 @@ use Rattle.laws.specs.TakenRows.{NoMember, NoRate, rate-row, member-row}
 use Rattle.reader.specs.Rows.{linePlace, leastAge, rateFits, memberFits}
 use Rattle.reader.proofs.Rows.{rate-fits, member-fits, fits-rated, fits-enrolled}
 use Rattle.sheet_reader.specs.declared.rows.RowStep.the-variants.{Rate as RateNext, Member as MemberNext, End, Stopped}
-use Rattle.sheet_reader.specs.Rows.{RowEnd, rowsLeft, Behind, NextOf, rowsFrom, After, RowStepped, rowStep}
+use Rattle.sheet_reader.specs.Rows.{RowEnd, rowsLeft, Behind, NextOf, rowsFrom, RowStepped, rowStep}
 
 -- ---- the rows of a sheet
 module _ (width : ℕ) (sheet : List ℕ) (some : 0 < width) where

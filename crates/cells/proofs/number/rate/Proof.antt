@@ -6,7 +6,7 @@ use borrow.Author.Needs.{needs}
 use lib.Ieee.{Float, eq, lt}
 use Rattle.fund.specs.Cells.{quotient}
 use Rattle.fund.specs.Cells.{rateOf}
-use Rattle.cells.specs.Ladder as ladder
+use Rattle.cells.specs.Ascending as ascending
 use Rattle.cells.proofs.number.rate.Statement.{statement}
 use Rattle.cells.proofs.number.rate.Tie as tie
 
@@ -14,7 +14,7 @@ abbrev q : ℕ → Float
 q k = quotient k 1000000
 
 abbrev Inv-loop : tie.InvT-loop
-Inv-loop x lo₀ hi₀ lo hi = (hi ≤ 1000001) × ladder.Within q 1000000 x lo hi
+Inv-loop x lo₀ hi₀ lo hi = (hi ≤ 1000001) × ascending.Within q 1000000 x lo hi
 
 abbrev μ-loop : tie.MeasureT-loop
 μ-loop x lo₀ hi₀ lo hi = hi - lo
@@ -23,7 +23,7 @@ add-hi : tie.Need-add-hi Inv-loop μ-loop
 add-hi c = search needs
 
 loop-holds : tie.Need-loop-holds Inv-loop μ-loop
-loop-holds c = (omega arith, ladder.within-all q 1000000 ladder.millionths (c .args .x))
+loop-holds c = (omega arith, ascending.within-all q 1000000 ascending.millionths (c .args .x))
 
 sub-mid : tie.Need-sub-mid Inv-loop μ-loop
 sub-mid c = omega arith
@@ -38,7 +38,7 @@ returns : tie.Need-returns Inv-loop μ-loop
 unfolding rateOf
 returns c =
     let call = c .before .millionths in
-    ladder.found q 1000000 ladder.millionths (c .before .before .before .before .args .x) _ (omega arith) (sym (ap (eq _) (call .ensures)) ∙ c .if1 .taken)
+    ascending.found q 1000000 ascending.millionths (c .before .before .before .before .args .x) _ (omega arith) (sym (ap (eq _) (call .ensures)) ∙ c .if1 .taken)
 
 loop-less : tie.Need-loop-less Inv-loop μ-loop
 loop-less c = omega arith
@@ -47,7 +47,7 @@ loop-again : tie.Need-loop-again Inv-loop μ-loop
 loop-again c =
     let call = c .before .before .millionths in
     let at = c .before .before .before .before in
-    (omega arith, ladder.within-left q 1000000 ladder.millionths (at .before .args .x) (at .loop .lo) (at .loop .hi) _ (at .loop .inv .1) (omega arith) (sym (ap (lt _) (call .ensures)) ∙ c .if2 .taken))
+    (omega arith, ascending.within-left q 1000000 ascending.millionths (at .before .args .x) (at .loop .lo) (at .loop .hi) _ (at .loop .inv .1) (omega arith) (sym (ap (lt _) (call .ensures)) ∙ c .if2 .taken))
 
 add-lo : tie.Need-add-lo Inv-loop μ-loop
 add-lo c = omega arith
@@ -60,13 +60,13 @@ loop-again-2 c =
     let call = c .before .before .millionths in
     let at = c .before .before .before .before in (
       omega arith,
-      ladder.within-right q 1000000 ladder.millionths (at .before .args .x) (at .loop .lo) (at .loop .hi) _ (at .loop .inv .1) (omega arith)
+      ascending.within-right q 1000000 ascending.millionths (at .before .args .x) (at .loop .lo) (at .loop .hi) _ (at .loop .inv .1) (omega arith)
           (sym (ap (eq _) (call .ensures)) ∙ c .before .if1 .left) (sym (ap (lt _) (call .ensures)) ∙ c .if2 .left),
     )
 
 returns-2 : tie.Need-returns-2 Inv-loop μ-loop
 unfolding rateOf
-returns-2 c = let at = c .before in ladder.none q 1000000 ladder.millionths (at .before .args .x) (at .loop .lo) (at .loop .hi) (at .loop .inv .1) (c .loop-test .left)
+returns-2 c = let at = c .before in ascending.none q 1000000 ascending.millionths (at .before .args .x) (at .loop .lo) (at .loop .hi) (at .loop .inv .1) (c .loop-test .left)
 
 pub rate-spec : {M : Type 1} → statement M
 rate-spec =

@@ -1,5 +1,4 @@
 -- `sheet_reader::rows::next_row`: a rate row while one is left, then a member row.
-use native.Mathlib.Omega.{arith}
 use borrow.Author.Needs.{needs}
 use Rattle.sheet_reader.proofs.Next.{next-rate, next-member, no-more}
 use Rattle.sheet_reader.proofs.rows.next_row.Statement.{statement}

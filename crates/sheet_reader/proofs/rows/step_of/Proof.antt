@@ -1,6 +1,5 @@
 -- `sheet_reader::rows::step_of`: by what the row is, and whether it is in range.
 use mathlib.Core.Path.{sym, _∙_}
-use native.Mathlib.Omega.{arith}
 use borrow.Author.Needs.{needs}
 use Rattle.fund.specs.Reading.{headerLines}
 use Rattle.sheet_reader.specs.Rows.{rowStep}
