@@ -11,6 +11,7 @@ from pathlib import Path
 
 sys.path.insert(0, str(Path(__file__).resolve().parent.parent / "tests"))
 import cases
+import distribution_funds
 import frequency_funds
 import generate
 import generate_sheets
@@ -75,7 +76,7 @@ def file_calls(count, seed):
     known += quantile_funds.cases(quantile_funds.ROWS + quantile_funds.MORE_ROWS)
     known += rate_funds.cases() + generate.gap_funds(seed, 300)
     known += tariff_funds.cases() + triangle_funds.cases() + generate.step_funds(seed, 100)
-    known += frequency_funds.cases()
+    known += frequency_funds.cases() + distribution_funds.cases(distribution_funds.ALL_ROWS)
     for case in known + list(heavy_funds(rng, 60)):
         yield case, (case.data,), case.lengths
 

@@ -1,6 +1,6 @@
 /* Prices a fund file, or a fund whose rows come as sheets: prints the premium with its bound and the gross premium in centimes, or
  * the refusal and the line at fault. With a level, in units of 10^-12, the place of the quantile too: the smallest total x with
- * F(x) at least the level, or none up to the horizon.
+ * F(x) at least the level, or none up to the horizon; and F there with its bound.
  *
  *     price FILE [LEVEL]
  *     price --sheets HEADER RATES MEMBERS [LEVEL]
@@ -61,6 +61,16 @@ static int read_text(const char *path, int number)
     return 1;
 }
 
+/* F(x) with the most by which it can differ from the exact probability of a total of at most x: R(0) + .. + R(x) + 2 E. */
+static void print_sum(const struct miguepo_result *fund, uint64_t x)
+{
+    uint64_t bound = 2 * fund->truncation;
+    for (uint64_t k = 0; k <= x; k++)
+        bound += r[k];
+    print_units("F ", sums[x] < 0, sums[x] < 0 ? 0 - (uint64_t)sums[x] : (uint64_t)sums[x]);
+    print_units(", within ", 0, bound);
+}
+
 static void print_refusal(const struct miguepo_result *fund)
 {
     printf("refused=%" PRIu64 ",%" PRIu64 "\n", fund->number, fund->place);
@@ -99,9 +109,12 @@ int main(int count, char **words)
     print_units("premium ", fund.premium < 0, fund.premium < 0 ? 0 - (uint64_t)fund.premium : (uint64_t)fund.premium);
     print_units(", within ", 0, fund.within);
     printf("\ngross %" PRIu64 " centimes\n", fund.gross);
-    if (with_level && fund.reached)
-        printf("quantile %" PRIu64 "\n", fund.quantile);
-    else if (with_level)
+    if (with_level && fund.reached) {
+        printf("quantile %" PRIu64 ": ", fund.quantile);
+        print_sum(&fund, fund.quantile);
+        printf("\n");
+    } else if (with_level) {
         printf("quantile none\n");
+    }
     return 0;
 }

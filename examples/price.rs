@@ -1,6 +1,6 @@
 // Prices a fund file, or a fund whose rows come as sheets: prints the premium with its bound and the gross premium in centimes, or
 // the refusal and the line at fault. With a level, in units of 10^-12, the place of the quantile too: the smallest total x with
-// F(x) at least the level, or none up to the horizon.
+// F(x) at least the level, or none up to the horizon; and F there with its bound.
 //
 //     price FILE [LEVEL]
 //     price --sheets HEADER RATES MEMBERS [LEVEL]
@@ -111,6 +111,18 @@ fn price_sheets(header: &[u8], rates: &[u8], members: &[u8], level: u64, s: &mut
     fund
 }
 
+// How far F(x) can be from the exact probability of a total of at most x: R(0) + .. + R(x) + 2 E.
+fn sum_bound(fund: &Fund, s: &Slices, x: usize) -> u64 {
+    s.r[..=x].iter().sum::<u64>() + 2 * fund.truncation
+}
+
+// The place of the quantile with F there and its bound, or none.
+fn quantile_text(fund: &Fund, s: &Slices) -> String {
+    let Some(place) = fund.quantile() else { return "none".to_string() };
+    let x = place as usize;
+    format!("{place}: F {}, within {}", decimal(s.sums[x] < 0, s.sums[x].unsigned_abs()), decimal(false, sum_bound(fund, s, x)))
+}
+
 // A number of units of 10^-12, as a decimal number.
 fn decimal(negative: bool, units: u64) -> String {
     let one = 1_000_000_000_000;
@@ -153,7 +165,7 @@ fn main() {
         println!("premium {}, within {}", decimal(fund.premium < 0, fund.premium.unsigned_abs()), decimal(false, fund.within));
         println!("gross {} centimes", fund.gross);
         if level.is_some() {
-            println!("quantile {}", fund.quantile().map_or("none".to_string(), |place| place.to_string()));
+            println!("quantile {}", quantile_text(&fund, &slices));
         }
         return;
     }

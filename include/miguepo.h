@@ -1,5 +1,5 @@
-/* Stop-loss premiums of a pension fund, with a proved bound on every probability
- * and on the premium.
+/* Stop-loss premiums of a pension fund, with a proved bound on every probability,
+ * on the distribution function and on the premium.
  *
  * One call prices one fund file, or one header text with two sheets, and finds
  * the fund's quantile at a level. The level and all figures but places, sizes, the
@@ -80,6 +80,17 @@ struct miguepo_result {
  * A level above MIGUEPO_MOST_LEVEL is not reached, whatever F is; the fund is
  * priced all the same. The gross premium is never below the exact premium's loaded
  * worth.
+ *
+ * The bound of F: sums[x] and the exact probability of a total of at most x differ
+ * by at most B(x) = r[0] + .. + r[x] + 2 E. The distances of f[0] to f[x] from the
+ * exact probabilities, added up, are at most B(x) too: the cut, 2 E, counts once.
+ * The listing prints B(x); it is not lent, and a host adds it up from r and the
+ * truncation figure. A uint64_t cannot wrap there: r[x] is at most 250,000, E at
+ * most 10^8, and there are at most 4,096 cells, so B(x) is at most 1,224,000,000.
+ * Where the quantile is x, the exact probability of a total of at most x is at
+ * least the level less B(x), and that of a total of at most y, for each y below x,
+ * is below the level plus B(y).
+ *
  * Refused (1 to 10): the horizon, every figure, reached, the quantile and every
  * cell of the five slices are 0.
  */

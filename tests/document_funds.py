@@ -1,7 +1,7 @@
 """Every fund and every figure that document 01 states, and the figures of the readings.
 
 Its funds take worth=100 and repeat their frequency, as document 02's third and
-fifth requests say.
+fifth requests say; the cell lines are those of its seventh.
 
 checks() gives pairs (name, holds).  Run as a program, it prints them.
 """
@@ -16,9 +16,9 @@ FIRST_FILE = (b"rates=2030\nmembers=2030\nhorizon=2\norder=3\nfrequency=1000,100
 
 FIRST_LISTING = """truncation=42866942
 mean=100000000000
-cell=0,900000000000,85733885
-cell=1,100000000000,85733887
-cell=2,0,85733888
+cell=0,900000000000,85733885,900000000000,85733885
+cell=1,100000000000,85733887,1000000000000,85733888
+cell=2,0,85733888,1000000000000,85733892
 premium=0
 within=171467773
 gross=1
@@ -31,8 +31,8 @@ EMPTY = Text(horizon=1, deductible=2)
 
 EMPTY_LISTING = """truncation=0
 mean=0
-cell=0,1000000000000,0
-cell=1,0,1
+cell=0,1000000000000,0,1000000000000,0
+cell=1,0,1,1000000000000,1
 premium=0
 within=1
 gross=1

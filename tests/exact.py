@@ -2,13 +2,16 @@
 
 The fractions share with pricing.py only reading and folding, the whole numbers
 the weights of group 2 too.
-check_distance(data) checks demand 3 for one file, and that the gross premium
-is not below the exact premium's loaded worth.
+check_distance(data) checks demand 3 for one file, that the gross premium
+is not below the exact premium's loaded worth, and what document 02's seventh
+request says of the cell lines: the sum of all distances up to x and the distance of
+F(x) are within the bound printed at x, and what that means for the answer at a level.
 """
 
+import random
 from fractions import Fraction
-from itertools import product as outcomes_of
-from math import factorial
+from itertools import accumulate, product as outcomes_of
+from math import factorial, floor
 
 import pricing
 
@@ -103,19 +106,33 @@ def premium(fund, members, exact):
                    + sum((M - x) * exact[x] for x in range(M)))
 
 
-def average_excess(fund, members):
-    """Of all outcomes of the group 1 members: the average excess over M, in units."""
-    M = fund.deductible
+def outcomes(members):
+    """Of all outcomes of the group 1 members: the amount, and its chance over 10^(6g)."""
     choices = [((m.p, 0), (m.q, m.d), (m.i, m.e))
                for m in pricing.group_1(members)]
-    total = 0
     for outcome in outcomes_of(*choices):
         weight, amount = 1, 0
         for chance, payment in outcome:
             weight *= chance
             amount += payment
-        total += weight * max(amount - M, 0)
-    return UNIT * Fraction(total, 10 ** (6 * len(choices)))
+        yield amount, weight
+
+
+def over_outcomes(members, total):
+    return Fraction(total, 10 ** (6 * len(pricing.group_1(members))))
+
+
+def average_excess(fund, members):
+    """Of all outcomes of the group 1 members: the average excess over M, in units."""
+    M = fund.deductible
+    return UNIT * over_outcomes(members, sum(weight * max(amount - M, 0) for amount, weight in outcomes(members)))
+
+
+def chances_within(fund, members):
+    """Of all outcomes of the group 1 members: the chance of at most x, for each x up to X."""
+    listed = list(outcomes(members))
+    return [over_outcomes(members, sum(weight for amount, weight in listed if amount <= x))
+            for x in range(fund.horizon + 1)]
 
 
 def loading(deductible):
@@ -202,18 +219,8 @@ def read_and_fold(data):
 
 def check_cells(answer, exact):
     """Statements on f(0) to f(X) that do not hold."""
-    broken = []
-    E = answer.truncation
-    distance_sum = bound_sum = 0
-    for x, value in enumerate(exact):
-        distance = abs(answer.f[x] - UNIT * value)
-        distance_sum += distance
-        bound_sum += answer.R[x]
-        if distance > answer.R[x] + 2 * E:
-            broken.append(f"f({x}) is not within R({x}) + 2E")
-        if distance_sum > bound_sum + 2 * E:
-            broken.append(f"the sum to {x} is not within its bound")
-    return broken
+    return [f"f({x}) is not within R({x}) + 2E" for x, value in enumerate(exact)
+            if abs(answer.f[x] - UNIT * value) > answer.R[x] + 2 * answer.truncation]
 
 
 def check_cells_multiplied_out(answer, whole, over):
@@ -223,6 +230,117 @@ def check_cells_multiplied_out(answer, whole, over):
             if abs(answer.f[x] * whole - UNIT * numerator)
             > (answer.R[x] + 2 * answer.truncation) * whole]
 
+
+# The distribution function
+
+class Compared:
+    """How many comparisons were made, and the largest share of a bound that a distance took."""
+
+    def __init__(self):
+        self.counts = dict.fromkeys(("sums of distances", "F", "levels", "places at levels"), 0)
+        self.shares = dict.fromkeys(("sums of distances", "F"), 0.0)
+
+    def add(self, name, distance, bound):
+        self.counts[name] += 1
+        if bound:
+            self.shares[name] = max(self.shares[name], float(Fraction(distance) / bound))
+
+    def add_level(self, places):
+        self.counts["levels"] += 1
+        self.counts["places at levels"] += places
+
+    def text(self):
+        return (", ".join(f"{count} {name}" for name, count in self.counts.items()) + "; the largest share of a bound: "
+                + ", ".join(f"{share:.6f} of {name}" for name, share in self.shares.items()))
+
+
+def printed_cells(answer):
+    """The five numbers of each cell line of the listing."""
+    return [tuple(map(int, line.removeprefix("cell=").split(",")))
+            for line in pricing.listing(answer).splitlines() if line.startswith("cell=")]
+
+
+def check_sums(cells, exact, seen):
+    """The sum of all distances up to x, and the distance of F(x), against the bound printed at x."""
+    broken = []
+    distance = total = 0 * ONE
+    for (x, f, _, F, bound), value in zip(cells, exact, strict=True):
+        distance += abs(f - UNIT * value)
+        total += UNIT * value
+        seen.add("sums of distances", distance, bound)
+        seen.add("F", abs(F - total), bound)
+        if distance > bound:
+            broken.append(f"the distances up to {x} are not within the printed bound")
+        if abs(F - total) > bound:
+            broken.append(f"F({x}) is not within the printed bound")
+    return broken
+
+
+def check_sums_multiplied_out(cells, whole, over):
+    """The same comparisons in whole numbers."""
+    broken = []
+    distance = total = 0
+    for (x, f, _, F, bound), numerator in zip(cells, over, strict=True):
+        distance += abs(f * whole - UNIT * numerator)
+        total += UNIT * numerator
+        if max(distance, abs(F * whole - total)) > bound * whole:
+            broken.append(f"the sums multiplied out are not within the bound printed at {x}")
+    return broken
+
+
+def levels_about(rng, cells, sums):
+    """0 and 10^12, any, each F(x) and the levels beside it, and those about each exact sum and its bound."""
+    levels = {0, 1, UNIT - 1, UNIT, *(rng.randint(0, UNIT) for _ in range(6))}
+    for (_, _, _, F, bound), total in zip(cells, sums):
+        levels |= {F - 1, F, F + 1, rng.randint(0, max(F, 0))}
+        levels |= {floor(total) + by for by in (-bound - 1, -bound, 0, 1, bound, bound + 1)}
+    return sorted(level for level in levels if 0 <= level <= UNIT)
+
+
+def check_levels(cells, exact, rng, seen):
+    """What the answer at a level says of the exact distribution function.
+
+    At the answered x it is at least the level less the bound printed at x.  At each place before x, or
+    where none is answered at each place up to the horizon, it is below the level and the bound printed there.
+    """
+    F = [cell[3] for cell in cells]
+    sums = list(accumulate(UNIT * value for value in exact))
+    # For whole levels: at most `reach` where it is reached, above `passed` where it is not.
+    reach = [floor(total + cell[4]) for total, cell in zip(sums, cells)]
+    passed = [floor(total - cell[4]) for total, cell in zip(sums, cells)]
+    broken = []
+    for level in levels_about(rng, cells, sums):
+        x = pricing.quantile(F, level)
+        before = passed if x is None else passed[:x]
+        seen.add_level(len(before) + (x is not None))
+        if x is not None and level > reach[x]:
+            broken.append(f"level {level}: the exact sum at {x} is below the level less the bound")
+        if not all(level > most for most in before):
+            broken.append(f"level {level}: an exact sum before {x} is not below the level and its bound")
+    return broken
+
+
+def check_outcome_sums(fund, members, exact):
+    """With lambda 0 the exact distribution function is the chance of at most x over all outcomes."""
+    if (pricing.lambda_units(members, fund.frequency) == 0 and few_outcomes(members)
+            and list(accumulate(exact)) != chances_within(fund, members)):
+        return ["the exact distribution function is not that of the outcomes"]
+    return []
+
+
+def check_without_replacement(data, seen):
+    """The statements on the cell lines where lambda is 0: for any horizon and number of members."""
+    answer = pricing.price(data)
+    fund, members = read_and_fold(data)
+    if answer.number or pricing.lambda_units(members, fund.frequency):
+        return ["refused, or lambda is not 0"]
+    whole, over = 10 ** (6 * len(pricing.group_1(members))), group_1_numerators(members, fund.horizon)
+    exact, cells = [Fraction(numerator, whole) for numerator in over], printed_cells(answer)
+    return (check_sums(cells, exact, seen) + check_sums_multiplied_out(cells, whole, over)
+            + check_levels(cells, exact, random.Random(data), seen))
+
+
+# The premium
 
 def check_premium(answer, fund, members, exact_premium):
     broken = []
@@ -269,22 +387,28 @@ def check_gross_by_outcomes(data):
     return check_gross(answer, fund, average_excess(fund, members))
 
 
-def check_distance(data, answer=None):
-    """The statements of demand 3 that do not hold for this file; [] if all do.
+def check_distance(data, answer=None, seen=None):
+    """The statements of demand 3 and on the cell lines that do not hold for this file; [] if all do.
 
-    A refused file has nothing to hold.
+    A refused file has nothing to hold.  What is compared is counted in `seen`.
     """
-    answer = answer or pricing.price(data)
+    answer, seen = answer or pricing.price(data), seen or Compared()
     if answer.number:
         return []
     fund, members = read_and_fold(data)
-    exact = values(fund, members)
+    exact, cells = values(fund, members), printed_cells(answer)
+    if [len(cell) for cell in cells] != [5] * len(exact):
+        return ["not five numbers in each cell line"]
     exact_premium = premium(fund, members, exact)
     whole, over = denominator(fund, members), numerators(fund, members)
     numerator = premium_numerator(fund, members, whole, over)
     return (check_cells(answer, exact)
             + check_cells_multiplied_out(answer, whole, over)
             + check_numerators(whole, over, exact)
+            + check_sums(cells, exact, seen)
+            + check_sums_multiplied_out(cells, whole, over)
+            + check_levels(cells, exact, random.Random(data), seen)
+            + check_outcome_sums(fund, members, exact)
             + check_premium(answer, fund, members, exact_premium)
             + check_premium_numerator(whole, numerator, exact_premium)
             + check_gross(answer, fund, exact_premium)

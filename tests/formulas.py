@@ -1,4 +1,4 @@
-"""The figures asked for one by one, with fractions: document 01's, F, the quantile, the gross premium.
+"""The figures asked for one by one, with fractions: document 01's, F and its bound, the quantile, the gross premium.
 
 A second way of writing the method: each figure is a function of its indices,
 written as the document's formula and remembered, with no running cells.
@@ -130,6 +130,12 @@ class Formulas:
     def F(self, x):
         return sum(self.f(k) for k in range(x + 1))
 
+    def cell_line(self, x):
+        """x, f(x), R(x) + 2E, F(x), R(0) + .. + R(x) + 2E."""
+        cut = 2 * self.truncation()
+        return "cell=%d,%d,%d,%d,%d" % (x, self.f(x), self.R(x) + cut, self.F(x),
+                                        sum(self.R(k) for k in range(x + 1)) + cut)
+
     def quantile(self, level):
         reached = [x for x in range(self.X + 1) if self.F(x) >= level]
         return min(reached) if reached and level <= UNIT else None
@@ -163,6 +169,8 @@ def check_figures(data, answer, level=0):
         ("gross", answer.gross, formulas.gross()),
         ("quantile", answer.quantile, formulas.quantile(level)),
     ]
+    lines = [line for line in pricing.listing(answer).split("\n") if line.startswith("cell")]
+    pairs.append(("cell lines", lines, [formulas.cell_line(x) for x in cells]))
     for name in ("D", "H", "f", "R", "F"):
         mine = [getattr(formulas, name)(x) for x in cells]
         rest = [0] * (len(getattr(answer, name)) - len(mine))

@@ -283,6 +283,26 @@ def large_funds(seed, count):
     return cases
 
 
+def one_by_one_text(rng):
+    """A fund of group 1 alone with a longer horizon; the rates are nearly as large as the order allows."""
+    X, r, count = rng.randint(60, 240), rng.randint(1, pricing.ORDER_HIGH), rng.randint(15, 50)
+    limit = min(largest_rate(r, pricing.TRUNCATION_HIGH // count), 4 * pricing.MILLION // count)
+    ages = sorted(rng.sample(range(pricing.AGE_HIGH + 1), 5))
+    rates = []
+    for age in ages:
+        total = rng.randint(limit * 3 // 4, limit)
+        q = rng.choice((0, total, rng.randint(0, total)))
+        rates.append((age, q, total - q))
+    members = tuple((rng.choice(ages), 1, rng.randint(0, X // 4), rng.randint(0, X // 4)) for _ in range(count))
+    return Text(horizon=X, order=r, deductible=rng.randint(0, X + 1), rate_rows=tuple(rates), member_rows=members)
+
+
+def one_by_one_funds(seed, count):
+    """Their exact values need no Poisson part."""
+    rng = random.Random(seed)
+    return [Case(f"one-by-one-{index}", one_by_one_text(rng).data()) for index in range(count)]
+
+
 def full_fund():
     """As many rates and members as are allowed, with amounts of up to five digits: some 26,000 bytes."""
     rng = random.Random(2030)

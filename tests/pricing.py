@@ -1,7 +1,7 @@
 """The answer of a pricing call, in whole numbers, in the order of document 01.
 
-The quantile, the rate in force, the gross premium and the two frequencies are
-those of document 02.
+The quantile, the rate in force, the gross premium, the two frequencies and the bound
+of the distribution function are those of document 02.
 
 price(data, lengths, level) gives every figure of a call for any bytes, any
 lengths of the five result slices and any level.  listing(answer) gives the
@@ -586,13 +586,38 @@ def price(data, lengths=LISTING_LENGTHS, level=0):
 
 # The listing
 
+def cell_bounds(R, truncation_figure):
+    """R(x) + 2E: how far f(x) may be from the exact value."""
+    return [bound + 2 * truncation_figure for bound in R]
+
+
+def sum_bounds(R, truncation_figure):
+    """R(0) + .. + R(x) + 2E: how far F(x) may be from the exact distribution function.
+
+    The cut counts once, however many cells are added.
+    """
+    return [total + 2 * truncation_figure for total in accumulate(R)]
+
+
+def printed_sums(f, F):
+    """F as it is lent."""
+    return list(F)
+
+
+def cell_line(x, f, bound, F, sum_bound):
+    return f"cell={x},{f},{bound},{F},{sum_bound}"
+
+
+def cell_lines(answer):
+    f, R, F = (cells[:answer.horizon + 1] for cells in (answer.f, answer.R, answer.F))
+    return list(map(cell_line, range(answer.horizon + 1), f, cell_bounds(R, answer.truncation),
+                    printed_sums(f, F), sum_bounds(R, answer.truncation)))
+
+
 def listing(answer):
     if answer.number:
         return f"refused={answer.number},{answer.place}\n"
-    lines = [f"truncation={answer.truncation}", f"mean={answer.mean}"]
-    for x in range(answer.horizon + 1):
-        lines.append(f"cell={x},{answer.f[x]},"
-                     f"{answer.R[x] + 2 * answer.truncation}")
+    lines = [f"truncation={answer.truncation}", f"mean={answer.mean}", *cell_lines(answer)]
     lines.append(f"premium={answer.premium}")
     lines.append(f"within={answer.bound}")
     lines.append(f"gross={answer.gross}")

@@ -14,6 +14,7 @@ from pathlib import Path
 from unittest import mock
 
 import cases
+import distribution_funds
 import document_funds
 import exact
 import exact_rows
@@ -32,6 +33,7 @@ import test_sheet_bytes
 import triangle_funds
 
 SHORT_SLICES = (26, 25, 27, 25, 28)     # the small funds have X up to 24
+COMPARED = exact.Compared()             # with exact values, by the sections below
 
 
 def part_of(data, answer):
@@ -67,6 +69,17 @@ def gross_holds(data, answer):
     return answer.gross == formulas.gross(answer.premium, answer.bound, fund.worth, fund.deductible)
 
 
+def cells_hold(answer):
+    """Each cell line has x, f(x), R(x) + 2E, F(x) and R(0) + .. + R(x) + 2E, in the answer's own cells."""
+    cells, cut = exact.printed_cells(answer), 2 * answer.truncation
+    total, bound = 0, cut
+    for x, cell in enumerate(cells):
+        total, bound = total + answer.f[x], bound + answer.R[x]
+        if cell != (x, answer.f[x], answer.R[x] + cut, total, bound):
+            return False
+    return len(cells) == answer.horizon + 1
+
+
 def accepted_answer_holds(answer):
     """Limits kept, the first D and H zero, zero beyond X, one line for each figure."""
     used = answer.horizon + 1
@@ -77,6 +90,7 @@ def accepted_answer_holds(answer):
             and max(answer.R) <= 250000 and answer.truncation <= 10 ** 8
             and all(h >= 0 for h in answer.H)
             and all(F == sum(answer.f[:x + 1]) for x, F in enumerate(answer.F[:used]))
+            and cells_hold(answer)
             and pricing.listing(answer).count("\n") == used + 5)
 
 
@@ -135,13 +149,23 @@ def is_small(answer):
     return answer.number == 0 and answer.horizon <= 24
 
 
-def distance_checks(made):
+def distance_checks(made, seen=None):
+    """Demand 3, and the bound of the distribution function."""
     checks = []
     for case in made:
         answer = pricing.price(case.data, case.lengths)
         if is_small(answer):
-            broken = exact.check_distance(case.data, answer)
+            broken = exact.check_distance(case.data, answer, seen)
             checks.append((f"{case.name}: demand 3 {broken}", not broken))
+    return checks
+
+
+def one_by_one_checks(made):
+    """The bound of the distribution function over longer horizons."""
+    checks = []
+    for case in made:
+        broken = exact.check_without_replacement(case.data, COMPARED)
+        checks.append((f"{case.name}: distribution function {broken}", not broken))
     return checks
 
 
@@ -633,13 +657,44 @@ def noticed(small, limits, damaged):
         "tariff": failures(tariff_funds.checks()),
         "triangle": failures(triangle_funds.fund_checks()),
         "frequencies": failures(frequency_funds.fund_checks()),
+        "distribution": failures(distribution_funds.fund_checks()),
     }
+
+
+def noticed_in_listings(small):
+    return {
+        "document": failures(document_funds.checks()),
+        "demand 3": failures(distance_checks(small)),
+        "formulas": failures(formula_checks(small)),
+        "answers": failures(answer_checks(small)),
+        "distribution": failures(distribution_funds.fund_checks()),
+    }
+
+
+def shown(found):
+    return ", ".join(f"{family} {number}" for family, number in found.items())
+
+
+def mutation_funds():
+    return [case for case in with_slices(generate.small_funds(11, 48), SHORT_SLICES)
+            if "long" not in case.name]
+
+
+def cell_line_mutation_checks():
+    """Each wrong cell line is told apart by a fund worked by hand; nothing fails without one."""
+    small = mutation_funds()[::2]
+    checks = [("no mutation: no check of cell lines fails", not any(noticed_in_listings(small).values()))]
+    for name, target, value in distribution_funds.MUTATIONS:
+        with distribution_funds.mutated(target, value):
+            found = noticed_in_listings(small)
+        print(f"  mutation of cell lines: {name}: {shown(found)}")
+        checks.append((f"mutation noticed: {name}", found["distribution"] > 0))
+    return checks
 
 
 def mutation_checks():
     """Each mutation makes at least one check fail; nothing fails without one."""
-    small = [case for case in with_slices(generate.small_funds(11, 48), SHORT_SLICES)
-             if "long" not in case.name]
+    small = mutation_funds()
     limits = [case for case in generate.limit_funds() if "1000" not in case.name
               and "-high" not in case.name]
     damaged = generate.damaged_files()
@@ -652,8 +707,7 @@ def mutation_checks():
     for name, module, target, value in [*changes, *FREQUENCY_MUTATIONS]:
         with mock.patch.object(module, target, value):
             found = noticed(small, limits, damaged)
-        print(f"  mutation: {name}: " + ", ".join(
-            f"{family} {number}" for family, number in found.items()))
+        print(f"  mutation: {name}: {shown(found)}")
         checks.append((f"mutation noticed: {name}", any(found.values())))
     return checks
 
@@ -777,9 +831,9 @@ def sections():
     changed = with_slices(generate.random_damage(7, 1500), SHORT_SLICES)
     any_bytes = random_bytes_cases(5, 30)
     yield "document 01", document_funds.checks()
-    yield "demand 3", distance_checks(small)
-    yield "demand 3 at limits", distance_checks(small_limit_funds())
-    yield "demand 3 after random changes", distance_checks(changed[9::10])
+    yield "demand 3", distance_checks(small, COMPARED)
+    yield "demand 3 at limits", distance_checks(small_limit_funds(), COMPARED)
+    yield "demand 3 after random changes", distance_checks(changed[9::10], COMPARED)
     yield "formulas", formula_checks(small[::2]) + formula_checks(small_limit_funds()[::3])
     yield "limits", expected_checks(limits) + limit_figure_checks()
     yield "damaged files", expected_checks(damaged)
@@ -788,16 +842,20 @@ def sections():
     yield "quantiles", quantile_funds.checks() + answer_checks(quantile_funds.cases())
     gaps = with_slices(generate.gap_funds(2, 240), SHORT_SLICES)
     yield "rates for some ages", (rate_funds.checks() + answer_checks(rate_funds.cases() + gaps)
-                                  + distance_checks(rate_funds.cases() + gaps) + formula_checks(gaps[::4]))
+                                  + distance_checks(rate_funds.cases() + gaps, COMPARED) + formula_checks(gaps[::4]))
     steps = generate.step_funds(3, 48)
     yield "tariff", (tariff_funds.checks() + answer_checks(tariff_funds.cases() + steps)
-                     + reading_checks(tariff_funds.cases()) + distance_checks(tariff_funds.cases())
+                     + reading_checks(tariff_funds.cases()) + distance_checks(tariff_funds.cases(), COMPARED)
                      + formula_checks(tariff_funds.cases()))
     yield "triangle", (triangle_funds.checks() + answer_checks(triangle_funds.cases())
-                       + distance_checks(triangle_funds.cases()) + formula_checks(triangle_funds.cases()))
+                       + distance_checks(triangle_funds.cases(), COMPARED) + formula_checks(triangle_funds.cases()))
     yield "frequencies", (frequency_funds.checks() + answer_checks(frequency_funds.cases())
-                          + reading_checks(frequency_funds.cases()) + distance_checks(frequency_funds.cases())
+                          + reading_checks(frequency_funds.cases()) + distance_checks(frequency_funds.cases(), COMPARED)
                           + formula_checks(frequency_funds.cases()))
+    known = distribution_funds.cases()
+    alone = generate.one_by_one_funds(7, 30) + distribution_funds.unreplaced_cases()
+    yield "distribution function", (distribution_funds.checks() + answer_checks(known) + distance_checks(known, COMPARED)
+                                    + formula_checks(known) + one_by_one_checks(alone))
     yield "sheets", sheet_checks.checks()
     yield "sheet_bytes", test_sheet_bytes.checks()
     yield "larger funds", large_checks(generate.large_funds(9, 6) + steps[::6])
@@ -805,6 +863,7 @@ def sections():
     yield "exact rows", row_checks()
     yield "program", program_checks()
     yield "mutations", mutation_checks()
+    yield "mutations of cell lines", cell_line_mutation_checks()
     yield "mutations of sheets", sheet_checks.mutation_checks()
 
 
@@ -820,6 +879,7 @@ def main():
         if not checks:
             failed += 1
             print(f"  FAILED {name}: no checks")
+    print(f"compared with exact values: {COMPARED.text()}")
     print(f"{passed} passed, {failed} failed")
     return 1 if failed else 0
 

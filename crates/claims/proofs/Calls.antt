@@ -1,6 +1,6 @@
 -- The contracts of the pricing calls and of the listing, in plain words (price-answered, price-demands, host-answered, host-demands, prints, prints-level, prints-read,
 -- prints-level-read).
-use mathlib.Core.Path.{_≡_, refl, _∙_, ap, subst}
+use mathlib.Core.Path.{_≡_, refl, sym, _∙_, ap, subst}
 use mathlib.Core.Bool.{Bool}
 use mathlib.Core.List.{List, []}
 use Prim.Native.Nat.{ℕ, _-_}
@@ -9,16 +9,17 @@ use lib.Dec.{leb}
 use lib.IntN.{ℤ}
 use lib.ListN.{length, getD, drop}
 use Rattle.fund.specs.declared.Verdict.{Verdict}
-use Rattle.fund.specs.declared.Verdict.the-variants.{Accepted, Refused}
 use Rattle.fund.specs.Base.{if_then_else_}
-use Rattle.fund.specs.Reading.{Reading, reading}
+use Rattle.fund.specs.Reading.{FundFile, Reading, read, reading}
 use Rattle.fund.specs.Refusals.{Lengths, numberIn, placeIn}
 use Rattle.fund.specs.declared.Quantile.{Quantile}
 use Rattle.fund.specs.declared.Quantile.the-variants.{At, None}
 use Rattle.fund.specs.Quantile.{quantileOf, reachedIn, quantileIn}
 use Rattle.fund.specs.Answer.{Answer, answerTo}
-use Rattle.fund.specs.Listing.{horizonIn, listingTo}
-use Rattle.fund.specs.Distance.{WithinBounds, NeverBelow}
+use Rattle.fund.specs.Listing.{horizonIn, enough, listingTo}
+use Rattle.fund.specs.Distance.{WithinBounds, NeverBelow, QuantileWithin}
+use Rattle.laws.specs.Ranges.{FundOk, read-ranges}
+use Rattle.distance.specs.Distance.{distance, level-within}
 use Rattle.text.specs.Shown.{room}
 use Rattle.text.specs.Writing.{Written}
 use Rattle.printing.specs.declared.PrintedInput.{PrintedInput}
@@ -26,6 +27,7 @@ use Rattle.printing.specs.Input.{PrintsInput, PrintsLevelInput}
 use Rattle.printing.specs.Printed.{shownTo, levelLineTo, shownLevelTo}
 use Rattle.pricing.specs.declared.Priced.{Priced}
 use Rattle.pricing.specs.Priced.{left, horizonWith, Prices}
+use Rattle.pricing.specs.Joining.{told-horizon}
 use Rattle.miguepo.specs.Host.{Hosts}
 use Rattle.claims.specs.Demands.{partBytes, Demands}
 use Rattle.claims.specs.Listing.{Shows, PrintsTo, Prints, PrintsLevelTo, PrintsLevel, PrintsRead}
@@ -58,21 +60,17 @@ module _ (text : List ℕ) (r : Reading) (level : ℕ) (n : Lengths) (p : Priced
             };
         quantile = k .answers .quantile ∙ ap (quantileOf level (p .horizon) s) v;
         distance = λ fund e a. subst (λ (x : Answer). WithinBounds fund x) is (k .distance fund e (v ∙ a));
+        level-within = λ fund e a l. subst (λ (x : Answer). QuantileWithin fund x level (p .quantile)) is (k .level-within fund e (v ∙ a) l);
         never-below = λ fund e a. subst (λ (x : Answer). NeverBelow fund x) is (k .never-below fund e (v ∙ a));
       }
 
   pub price-demands : Demands text r level n (priced text p d h f b s)
   price-demands = demands text r level n (priced text p d h f b s) price-answered
 
--- the two fields tell the answer, and of a refusal the horizon does not count
-module _ (level X : ℕ) (F : List ℤ) where
-  read-back : (q : Quantile) → quantileRead (reachedIn q) (quantileIn q) ≡ q
-  read-back (At x) = refl
-  read-back None = refl
-
-  told-horizon : (v : Verdict) → quantileOf level X F v ≡ quantileOf level (horizonWith v X) F v
-  told-horizon Accepted = refl
-  told-horizon (Refused why place) = refl
+-- the two fields tell the answer
+read-back : (q : Quantile) → quantileRead (reachedIn q) (quantileIn q) ≡ q
+read-back (At x) = refl
+read-back None = refl
 
 module _ (text : List ℕ) (r : Reading) (level : ℕ) (n : Lengths) (result : List ℕ) (d : List ℤ) (h : List ℕ) (f : List ℤ) (b : List ℕ) (s : List ℤ) (k : Hosts text r level n result d h f b s) where
   abbrev a : Answer
@@ -81,9 +79,8 @@ module _ (text : List ℕ) (r : Reading) (level : ℕ) (n : Lengths) (result : L
   abbrev X : ℕ
   X = horizonIn r
 
-  quantile-is : quantileRead (getD result 10 0) (getD result 11 0) ≡ quantileOf level (getD result 4 0) s (a .verdict)
-  quantile-is =
-      rw (k .result-is, k .F-is) (read-back level X s (quantileOf level X (a .F) (a .verdict)) ∙ told-horizon level X (a .F) (a .verdict))
+  quantile-read : quantileRead (getD result 10 0) (getD result 11 0) ≡ quantileOf level X (a .F) (a .verdict)
+  quantile-read = rw (k .result-is) (read-back (quantileOf level X (a .F) (a .verdict)))
 
   pub host-answered : Answered text r level n (hosted text result d h f b s)
   host-answered =
@@ -91,8 +88,9 @@ module _ (text : List ℕ) (r : Reading) (level : ℕ) (n : Lengths) (result : L
         refuses = rw (k .result-is) (record { number = refl; place = refl; line = refl });
         horizon = ap (λ fs. getD fs 4 0) (k .result-is);
         method = record { figures = rw (k .result-is) (rw (k .premium) refl); D = k .D-is; H = k .H-is; f = k .f-is; R = k .R-is; F = k .F-is };
-        quantile = quantile-is;
+        quantile = rw (quantile-read, k .F-is, k .result-is) (sym (told-horizon level X (a .F) (a .verdict)));
         distance = λ fund e a. k .distance fund e (ap numberIn a);
+        level-within = λ fund e v l. rw quantile-read (k .level-within fund e (ap numberIn v) l);
         never-below = λ fund e a. k .never-below fund e (ap numberIn a);
       }
 
@@ -110,22 +108,28 @@ shows least shown before after size w =
           record { none = z; same = subst (λ k. drop k after ≡ drop k before) z (w .beyond) };
     }
 
-pub prints : (text : List ℕ) (r : Reading) (before after : List ℕ) (size : ℕ) → Written (shownTo text r (length before)) before after size → PrintsTo text r before after size
-prints text r = shows room (listingTo text r)
+-- whatever is read is in its ranges
+abbrev InRanges : Reading → Type 0
+InRanges r = (fund : FundFile) → r ≡ read fund → FundOk fund
 
-pub prints-level : (level : ℕ) (text : List ℕ) (r : Reading) (before after : List ℕ) (size : ℕ) → Written (shownLevelTo text r level (length before)) before after size → PrintsLevelTo level text r before after size
-prints-level level text r = shows 64 (levelLineTo text r level)
+pub prints : (text : List ℕ) (r : Reading) → InRanges r → (before after : List ℕ) (size : ℕ) → Written (shownTo text r (length before)) before after size → PrintsTo text r before after size
+prints text r ok before after size w =
+    record { shows = shows room (listingTo text r) before after size w; within = λ fund e v. distance text enough r fund (ok fund e) e v }
+
+pub prints-level : (level : ℕ) (text : List ℕ) (r : Reading) → InRanges r → (before after : List ℕ) (size : ℕ) → Written (shownLevelTo text r level (length before)) before after size → PrintsLevelTo level text r before after size
+prints-level level text r ok before after size w =
+    record { shows = shows 64 (levelLineTo text r level) before after size w; within = λ fund e v l. level-within text enough r fund (ok fund e) e v level l }
 
 pub prints-read : (buffer before after : List ℕ) (p : PrintedInput) → PrintsInput buffer before after p → PrintsRead Prints buffer before after (p .failed) (p .read) (p .size)
 prints-read buffer before after p k =
     record {
-      printed = λ e file h. prints file (reading file) before after (p .size) (k .prints e file h);
+      printed = λ e file h. prints file (reading file) (read-ranges file) before after (p .size) (k .prints e file h);
       stays = λ e. let s = k .kept e in record { none = s .0; same = s .1 };
     }
 
 pub prints-level-read : (level : ℕ) (buffer before after : List ℕ) (p : PrintedInput) → PrintsLevelInput level buffer before after p → PrintsRead (PrintsLevel level) buffer before after (p .failed) (p .read) (p .size)
 prints-level-read level buffer before after p k =
     record {
-      printed = λ e file h. prints-level level file (reading file) before after (p .size) (k .prints e file h);
+      printed = λ e file h. prints-level level file (reading file) (read-ranges file) before after (p .size) (k .prints e file h);
       stays = λ e. let s = k .kept e in record { none = s .0; same = s .1 };
     }

@@ -2,28 +2,30 @@
 -- the level says (demands). Only what acceptance and a refusal say of the definitions' answer is used.
 use mathlib.Core.Path.{_≡_, refl, sym, _∙_, ap, subst}
 use mathlib.Core.List.{List}
-use Prim.Native.Nat.{ℕ, _<_}
+use Prim.Native.Nat.{ℕ, _<_, _≤_}
 use native.Mathlib.Numerals.{add-one}
 use native.Mathlib.Omega.{arith}
-use lib.ListN.{length}
+use Rattle.fund.specs.declared.Quantile.{Quantile}
+use Rattle.fund.specs.declared.Quantile.the-variants.{At, None}
 use Rattle.fund.specs.declared.Refusal.{Refusal}
 use Rattle.fund.specs.declared.Verdict.{Verdict}
 use Rattle.fund.specs.declared.Verdict.the-variants.{Accepted, Refused}
+use Rattle.fund.specs.Limits.{most-level}
 use Rattle.fund.specs.Transform.{unit}
 use Rattle.fund.specs.Reading.{FundFile, Reading, read, stopped}
 use Rattle.fund.specs.Folding.{lives}
 use Rattle.fund.specs.Refusals.{Lengths, numberIn, verdict}
-use Rattle.fund.specs.Quantile.{quantile, quantileOf, QuantileSays}
+use Rattle.fund.specs.Quantile.{quantileOf}
+use Rattle.fund.specs.Distribution.{distributionBound}
 use Rattle.fund.specs.Answer.{Answer, refused, fundCells, accepted, answerOf, answerTo}
 use Rattle.fund.specs.Listing.{horizonIn}
-use Rattle.fund.specs.Distance.{apart, WithinBounds, exactLoadedWorth, NeverBelow}
-use Rattle.laws.specs.Accepted.{accepts}
+use Rattle.fund.specs.Distance.{apart, exactSum, boundAt, WithinBounds, exactLoadedWorth, NeverBelow, QuantileWithin}
 use Rattle.laws.specs.Answer.{accepted-read, answer-accepted}
-use Rattle.laws.specs.Sums.{F-cell, length-F}
-use Rattle.laws.specs.Quantile.{quantile-says, quantile-above}
+use Rattle.laws.specs.Sums.{F-cell, level-says}
+use Rattle.laws.specs.Quantile.{quantile-above}
 use Rattle.laws.specs.Numbers.{zero-accepted}
 use Rattle.pricing.specs.Priced.{horizonWith}
-use Rattle.claims.specs.Demands.{Received, Refuses, Zero, Method, Close, Quantiles, Demands}
+use Rattle.claims.specs.Demands.{Received, Refuses, Zero, Method, Close, ExactSays, Quantiles, Demands}
 
 -- ---- a refusal
 -- An answer with a number above 0 is a refusal's.
@@ -42,13 +44,14 @@ refused-as text (read fund) n l = after (verdict fund n (fundCells (fund .header
 refused-as text (stopped why place) n l = record { why = why; place = place; is = refl }
 
 -- ---- the demands
--- What is left is the answer, and the distance and the gross premium's cover hold of it.
+-- What is left is the answer, and the distance, the answer at the level and the gross premium's cover hold of it.
 pub record Answered (text : List ℕ) (r : Reading) (level : ℕ) (n : Lengths) (o : Received) : Type 0 where
   pub refuses : Refuses text r n o
   pub horizon : o .horizon ≡ horizonWith (answerTo text n r .verdict) (horizonIn r)
   pub method : Method text r n o
   pub quantile : o .quantile ≡ quantileOf level (o .horizon) (o .F) (answerTo text n r .verdict)
   pub distance : (fund : FundFile) → r ≡ read fund → answerTo text n r .verdict ≡ Accepted → WithinBounds fund (answerTo text n r)
+  pub level-within : (fund : FundFile) → r ≡ read fund → answerTo text n r .verdict ≡ Accepted → level ≤ most-level → QuantileWithin fund (answerTo text n r) level (o .quantile)
   pub never-below : (fund : FundFile) → r ≡ read fund → answerTo text n r .verdict ≡ Accepted → NeverBelow fund (answerTo text n r)
 
 module _ (text : List ℕ) (r : Reading) (level : ℕ) (n : Lengths) (o : Received) (k : Answered text r level n o) where
@@ -69,7 +72,7 @@ module _ (text : List ℕ) (r : Reading) (level : ℕ) (n : Lengths) (o : Receiv
       }
 
   close-of : answerTo text n r .verdict ≡ Accepted → Close r o
-  unfolding apart unit horizonIn exactLoadedWorth
+  unfolding apart unit horizonIn exactSum boundAt distributionBound exactLoadedWorth
   close-of v =
       let a = accepted-read text n r v in
       let m = k .method in
@@ -80,11 +83,24 @@ module _ (text : List ℕ) (r : Reading) (level : ℕ) (n : Lengths) (o : Receiv
         is-read = a .is-read;
         horizon = X;
         cell = λ x l. rw (m .f, m .R, m .figures) (w .cell x (omega (arith, l, X)));
+        cells = λ x l. rw (add-one x, m .f, m .R, m .figures) (w .cells x (omega (arith, l, X)));
+        sums = λ x l. rw (add-one x, m .F, m .R, m .figures) (w .sums x (omega (arith, l, X)));
         premium = rw (m .figures) (w .premium);
         gross = rw (m .figures) (k .never-below (a .fund) (a .is-read) v .gross);
       }
 
-  quantiles-of : answerTo text n r .verdict ≡ Accepted → Quantiles level o
+  -- what is said of the definitions' answer is said of the outcome
+  exact-says : (fund : FundFile) → o .horizon ≡ fund .header .horizon → (q : Quantile) → QuantileWithin fund (answerTo text n r) level q → ExactSays fund level o q
+  unfolding unit exactSum boundAt distributionBound
+  exact-says fund X (At x) w =
+      let m = k .method in
+      record {
+        reached = rw (add-one x, m .R, m .figures) (w .reached);
+        before = λ y l. rw (add-one y, m .R, m .figures) (w .before y l);
+      }
+  exact-says fund X None w = λ y l. let m = k .method in rw (add-one y, m .R, m .figures) (w y (omega (arith, l, X)))
+
+  quantiles-of : answerTo text n r .verdict ≡ Accepted → Quantiles r level o
   unfolding horizonIn
   quantiles-of v =
       let a = accepted-read text n r v in
@@ -92,15 +108,15 @@ module _ (text : List ℕ) (r : Reading) (level : ℕ) (n : Lengths) (o : Receiv
       let c = answer-accepted text n r (a .fund) (a .is-read) v in
       let h = a .fund .header in
       let ms = lives (a .fund) in
-      let X : o .horizon ≡ h .horizon = k .horizon ∙ ap (λ x. horizonWith x (horizonIn r)) v ∙ ap horizonIn (a .is-read) in
+      let told : (fund : FundFile) → r ≡ read fund → o .horizon ≡ fund .header .horizon = λ fund e. k .horizon ∙ ap (λ x. horizonWith x (horizonIn r)) v ∙ ap horizonIn e in
+      let X = told (a .fund) (a .is-read) in
       let F : o .F ≡ accepted h ms n .F = m .F ∙ ap (λ (x : Answer). x .F) (c .answer-is) in
       let f : o .f ≡ accepted h ms n .f = m .f ∙ ap (λ (x : Answer). x .f) (c .answer-is) in
-      let q : o .quantile ≡ quantile level (o .horizon) (o .F) = k .quantile ∙ ap (quantileOf level (o .horizon) (o .F)) v in
-      let long = accepts (a .fund) n (fundCells h ms) (c .verdict-is) .long .sums-long in
       record {
         sums = λ x l. rw (add-one x, F, f) (F-cell h ms n x (omega (arith, l, X)));
-        says = λ l. subst (QuantileSays level (o .horizon) (o .F)) (sym q) (quantile-says level (o .horizon) (o .F) l (omega (arith, ap length F, length-F h ms n long, long, X)));
-        above = λ l. q ∙ quantile-above level (o .horizon) (o .F) l;
+        says = λ l. rw (k .quantile, X, m .F) (level-says text n r (a .fund) (a .is-read) v level l);
+        exact = λ fund e l. exact-says fund (told fund e) (o .quantile) (k .level-within fund e v l);
+        above = λ l. k .quantile ∙ ap (quantileOf level (o .horizon) (o .F)) v ∙ quantile-above level (o .horizon) (o .F) l;
       }
 
   pub demands : Demands text r level n o

@@ -3,13 +3,13 @@
 use mathlib.Core.Path.{_≡_}
 use mathlib.Core.List.{List}
 use Prim.Native.Nat.{ℕ, _+_, _*_, _^_, _<_, _≤_}
-use lib.IntN.{ℤ, pos, natAbs, _*ℤ_, _-ℤ_}
-use lib.Signed.{_≤ℤ_}
+use lib.IntN.{ℤ, pos, natAbs, _+ℤ_, _*ℤ_, _-ℤ_}
+use lib.Signed.{_≤ℤ_, _<ℤ_}
 use lib.ListN.{getD, take, drop, replicate}
 use Rattle.fund.specs.declared.Figures.{Figures}
 use Rattle.fund.specs.declared.Quantile.{Quantile}
-use Rattle.fund.specs.declared.Quantile.the-variants.{None}
-use Rattle.fund.specs.Base.{sumℤ}
+use Rattle.fund.specs.declared.Quantile.the-variants.{At, None}
+use Rattle.fund.specs.Base.{sum, sumℤ}
 use Rattle.fund.specs.Reading.{FundFile, Reading, read}
 use Rattle.fund.specs.Tariff.{loading}
 use Rattle.fund.specs.Refusals.{Lengths, numberIn, placeIn}
@@ -62,24 +62,51 @@ pub record Method (text : List ℕ) (r : Reading) (n : Lengths) (o : Received) :
   pub R : o .R ≡ answerTo text n r .R
   pub F : o .F ≡ answerTo text n r .F
 
+-- Of a fund that was read and what a host has of it, all times document 01's denominator: how far f(x) is from 10^12 times the exact value at x, 10^12
+-- times the exact distribution function at x, and R(0) + .. + R(x) + 2×E.
+abbrev pub cellDistance : FundFile → Received → ℕ → ℕ
+cellDistance fund o x = natAbs (pos (fileDenominator fund) *ℤ getD (o .f) x (pos 0) -ℤ pos (10 ^ 12) *ℤ exactAt fund x)
+
+abbrev pub exactDistribution : FundFile → ℕ → ℤ
+exactDistribution fund x = pos (10 ^ 12) *ℤ sumℤ (x + 1) (exactAt fund)
+
+abbrev pub sumBound : FundFile → Received → ℕ → ℕ
+sumBound fund o x = fileDenominator fund * (sum (x + 1) (λ y. getD (o .R) y 0) + 2 * o .figures .truncation)
+
 -- Demand 3, of a fund that is accepted: a fund was read; each f(x) that the host has is within R(x) + 2×E of 10^12 times the
--- exact value at x, and the premium within its bound of the exact premium; all times document 01's denominator. And the gross premium is
+-- exact value at x; up to each x these distances add to at most R(0) + .. + R(x) + 2×E, and F(x) is so near to 10^12 times the exact distribution function
+-- at x; and the premium is within its bound of the exact premium; all times document 01's denominator. And the gross premium is
 -- never below the exact premium's loaded worth, both times 10^15 and the denominator.
 pub record Close (r : Reading) (o : Received) : Type 0 where
   pub fund : FundFile
   pub is-read : r ≡ read fund
   pub horizon : o .horizon ≡ fund .header .horizon
-  pub cell : (x : ℕ) → x ≤ o .horizon →
-      natAbs (pos (fileDenominator fund) *ℤ getD (o .f) x (pos 0) -ℤ pos (10 ^ 12) *ℤ exactAt fund x) ≤ fileDenominator fund * (getD (o .R) x 0 + 2 * o .figures .truncation)
+  pub cell : (x : ℕ) → x ≤ o .horizon → cellDistance fund o x ≤ fileDenominator fund * (getD (o .R) x 0 + 2 * o .figures .truncation)
+  pub cells : (x : ℕ) → x ≤ o .horizon → sum (x + 1) (cellDistance fund o) ≤ sumBound fund o x
+  pub sums : (x : ℕ) → x ≤ o .horizon → natAbs (pos (fileDenominator fund) *ℤ getD (o .F) x (pos 0) -ℤ exactDistribution fund x) ≤ sumBound fund o x
   pub premium : natAbs (pos (fileDenominator fund) *ℤ o .figures .premium -ℤ exactPremiumAt fund (o .figures .mean)) ≤ fileDenominator fund * o .figures .within
   pub gross : (exactPremiumAt fund (o .figures .mean) *ℤ pos (fund .header .worth * loading (fund .header .deductible))) ≤ℤ pos (o .figures .gross * 10 ^ 15 * fileDenominator fund)
 
+-- What an answer at a level of at most 10^12 says of 10^12 times the exact distribution function: at the answered place it is at least the level less the
+-- bound there, and at every place before it is below the level plus the bound there; of none, that it is so at every place up to the horizon.
+abbrev pub BelowLevel : FundFile → ℕ → Received → ℕ → Type 0
+BelowLevel fund level o y = exactDistribution fund y <ℤ pos (fileDenominator fund * level + sumBound fund o y)
+
+pub record ReachesLevel (fund : FundFile) (level : ℕ) (o : Received) (x : ℕ) : Type 0 where
+  pub reached : pos (fileDenominator fund * level) ≤ℤ (exactDistribution fund x +ℤ pos (sumBound fund o x))
+  pub before : (y : ℕ) → y < x → BelowLevel fund level o y
+
+abbrev pub ExactSays : FundFile → ℕ → Received → Quantile → Type 0
+ExactSays fund level o (At x) = ReachesLevel fund level o x
+ExactSays fund level o None = (y : ℕ) → y ≤ o .horizon → BelowLevel fund level o y
+
 -- The deductible at a level, of a fund that is accepted. F(x) is f(0) + .. + f(x) of the f that the host has. Up to a level of 10^12 the
 -- answer is the first place up to the horizon where F is at least the level, and F is below the level at every place before it; or none,
--- and F is below the level at every place up to the horizon. Above 10^12 it is none.
-pub record Quantiles (level : ℕ) (o : Received) : Type 0 where
+-- and F is below the level at every place up to the horizon; and so the exact distribution function, but for the bounds. Above 10^12 it is none.
+pub record Quantiles (r : Reading) (level : ℕ) (o : Received) : Type 0 where
   pub sums : (x : ℕ) → x ≤ o .horizon → getD (o .F) x (pos 0) ≡ sumℤ (x + 1) (λ y. getD (o .f) y (pos 0))
   pub says : level ≤ 10 ^ 12 → QuantileSays level (o .horizon) (o .F) (o .quantile)
+  pub exact : (fund : FundFile) → r ≡ read fund → level ≤ 10 ^ 12 → ExactSays fund level o (o .quantile)
   pub above : 10 ^ 12 < level → o .quantile ≡ None
 
 -- Of a file, the text is the file and the reading is its own; of sheets, the text is the header text.
@@ -88,4 +115,4 @@ pub record Demands (text : List ℕ) (r : Reading) (level : ℕ) (n : Lengths) (
   pub zero : 0 < o .number → Zero n o
   pub method : Method text r n o
   pub close : o .number ≡ 0 → Close r o
-  pub quantiles : o .number ≡ 0 → Quantiles level o
+  pub quantiles : o .number ≡ 0 → Quantiles r level o

@@ -1,11 +1,15 @@
--- What a text holds after a file's listing, or the line of its answer at a level, was printed into it.
+-- What a text holds after a file's listing, or the line of its answer at a level, was printed into it, and how near it is to the exact figures.
 use mathlib.Core.Path.{_≡_}
 use mathlib.Core.Bool.{Bool, true, false}
 use mathlib.Core.List.{List}
-use Prim.Native.Nat.{ℕ, _<_, _≤_}
+use Prim.Native.Nat.{ℕ, _^_, _<_, _≤_}
 use lib.ListN.{length, take, drop}
-use Rattle.fund.specs.Reading.{Reading, reading}
-use Rattle.fund.specs.Listing.{listingTo}
+use Rattle.fund.specs.declared.Verdict.the-variants.{Accepted}
+use Rattle.fund.specs.Reading.{FundFile, Reading, read, reading}
+use Rattle.fund.specs.Quantile.{quantileOf}
+use Rattle.fund.specs.Answer.{answerTo}
+use Rattle.fund.specs.Listing.{horizonIn, enough, listingTo}
+use Rattle.fund.specs.Distance.{WithinBounds, QuantileWithin}
 use Rattle.text.specs.Shown.{room}
 use Rattle.printing.specs.Printed.{levelLineTo}
 
@@ -24,16 +28,20 @@ pub record Shows (least : ℕ) (shown before after : List ℕ) (size : ℕ) : Ty
   pub listed : least ≤ length before → Begins shown before after size
   pub kept : length before < least → Unchanged before after size
 
--- The listing of what was read, in a text with room for every listing.
-abbrev pub PrintsTo : List ℕ → Reading → List ℕ → List ℕ → ℕ → Type 0
-PrintsTo text r = Shows room (listingTo text r)
+-- The listing of what was read, in a text with room for every listing. It shows the answer to slices that are long enough for every horizon; of a fund
+-- that is accepted each f(x), each F(x) and the premium that it shows are within the bounds that it shows of the exact ones.
+pub record PrintsTo (text : List ℕ) (r : Reading) (before after : List ℕ) (size : ℕ) : Type 0 where
+  pub shows : Shows room (listingTo text r) before after size
+  pub within : (fund : FundFile) → r ≡ read fund → answerTo text enough r .verdict ≡ Accepted → WithinBounds fund (answerTo text enough r)
 
 abbrev pub Prints : List ℕ → List ℕ → List ℕ → ℕ → Type 0
 Prints file = PrintsTo file (reading file)
 
--- The line of the answer at a level, in a text of at least 64 bytes.
-abbrev pub PrintsLevelTo : ℕ → List ℕ → Reading → List ℕ → List ℕ → ℕ → Type 0
-PrintsLevelTo level text r = Shows 64 (levelLineTo text r level)
+-- The line of the answer at a level, in a text of at least 64 bytes; and what the answer of an accepted fund says of the exact distribution function.
+pub record PrintsLevelTo (level : ℕ) (text : List ℕ) (r : Reading) (before after : List ℕ) (size : ℕ) : Type 0 where
+  pub shows : Shows 64 (levelLineTo text r level) before after size
+  pub within : (fund : FundFile) → r ≡ read fund → answerTo text enough r .verdict ≡ Accepted → level ≤ 10 ^ 12 →
+      QuantileWithin fund (answerTo text enough r) level (quantileOf level (horizonIn r) (answerTo text enough r .F) (answerTo text enough r .verdict))
 
 abbrev pub PrintsLevel : ℕ → List ℕ → List ℕ → List ℕ → ℕ → Type 0
 PrintsLevel level file = PrintsLevelTo level file (reading file)

@@ -215,10 +215,11 @@ pub fn claimed_listing(
     horizon: usize,
     f: &[i64],
     r: &[u64],
+    sums: &[i64],
     text: &mut [u8],
 ) -> usize
-    ensures { λ size. ⌜ Written (listingOf (shownAnswer verdict figures (now (f .entry)) (now (r .entry))) horizon (length (now (text .entry))))
+    ensures { λ size. ⌜ Written (listingOf (shownAnswer verdict figures (now (f .entry)) (now (r .entry)) (now (sums .entry))) horizon (length (now (text .entry))))
         (now (text .entry)) (now (text .exit)) size ⌝ }
 {
-    text::listing(verdict, figures, horizon, f, r, text)
+    text::listing(verdict, figures, horizon, f, r, sums, text)
 }

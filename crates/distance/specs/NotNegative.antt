@@ -2,8 +2,7 @@
 -- unit under 0, the premium is within its bound of it, and premium and bound are whole numbers.
 use mathlib.Core.Path.{_≡_, sym, _∙_, ap, subst}
 use mathlib.Core.List.{List}
-use Prim.Native.Nat.{ℕ, zero, suc, _<_, _≤_ as _≤ⁿ_, _+_ as _+ⁿ_, _*_ as _*ⁿ_, _^_}
-use native.Mathlib.Nat.{mul-pos, one-le-pow}
+use Prim.Native.Nat.{ℕ, suc, _<_, _≤_ as _≤ⁿ_, _*_ as _*ⁿ_}
 use native.Mathlib.Omega.{arith}
 use lib.Dec.{le→leb}
 use lib.IntN.{ℤ, pos, negsuc, natAbs, _+ℤ_, _-ℤ_, _*ℤ_}
@@ -20,28 +19,15 @@ use Rattle.fund.specs.Reading.{FundFile, Reading, read}
 use Rattle.fund.specs.Folding.{lives}
 use Rattle.fund.specs.Refusals.{Lengths}
 use Rattle.fund.specs.Answer.{fundCells, fundMean, fundFigures, Answer, accepted, answerTo}
-use Rattle.fund.specs.Exact.{singles, denominator, factorial}
 use Rattle.fund.specs.Distance.{fileDenominator, exactPremiumAt}
 use Rattle.laws.specs.Accepted.{Accepts, accepts}
 use Rattle.laws.specs.Ranges.{FundOk}
 use Rattle.laws.specs.Answer.{answer-accepted}
 use Rattle.distance.specs.Weights.{amounts-below}
 use Rattle.distance.specs.ExactPremium.{exact-premium-low}
-use Rattle.distance.specs.Distance.{priceable, distance}
+use Rattle.distance.specs.Distance.{priceable, denominator-pos, distance}
 
 -- ---- whole numbers
-factorial-pos : (n : ℕ) → 0 < factorial n
-unfolding factorial
-factorial-pos zero = omega arith
-factorial-pos (suc n) = mul-pos (omega arith) (factorial-pos n)
-
-denominator-pos : (fund : FundFile) → 0 < fileDenominator fund
-unfolding fileDenominator denominator
-denominator-pos fund = mul-pos (mul-pos tens (factorial-pos (fund .header .horizon))) (factorial-pos 63)
-  where
-    tens : 0 < 10 ^ (6 *ⁿ singles (lives fund) +ⁿ 12 *ⁿ fund .header .horizon +ⁿ 756)
-    tens = one-le-pow (6 *ⁿ singles (lives fund) +ⁿ 12 *ⁿ fund .header .horizon +ⁿ 756) 10 (omega arith)
-
 -- a whole number that is not below -1/2
 half-whole : (z : ℤ) → negQ oneQ ≤ nat 2 * ofℤ z → pos 0 ≤ℤ z
 half-whole (pos n) h = record { le = le→leb 0 n (omega arith) }

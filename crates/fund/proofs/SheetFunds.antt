@@ -14,8 +14,10 @@ use Rattle.fund.specs.Recursion.{t, alternating, multiplied, start, c, s
 use Rattle.fund.specs.Premium.{sumBelow, boundBelow, premium, within}
 use Rattle.fund.specs.Tariff.{loading, withBound, gross}
 use Rattle.fund.specs.Refusals.{first, unmatched, half, wide, anyShort, short, refuse, at0, firstMember, valued, matched, verdict}
+use Rattle.fund.specs.Quantile.{runningSum}
+use Rattle.fund.specs.Distribution.{distributionBound}
 use Rattle.fund.specs.Answer.{fundTerms, fundStart, fundCells, fundTruncation, fundMean, fundPremium, fundWithin, fundFigures, lineAt, part, refused, lent, accepted, answerOf, answerTo}
-use Rattle.fund.specs.Listing.{digitsWithin, decimal, signedDecimal, joined, cellLines, listed, refusedLine, printed, horizonIn, enough, listingTo}
+use Rattle.fund.specs.Listing.{digitsWithin, decimal, signedDecimal, joined, cellLine, cellLines, listed, refusedLine, printed, horizonIn, enough, listingTo}
 use Rattle.fund.specs.Cells.{leastFirst, cellOf, orElse, seek, wholeOf, atLeast, numberOf, amountOf, memberJoined, memberRowOf}
 use Rattle.fund.specs.Sheets.{readSheetRows, readSheets, rowsReading}
 use Rattle.fund.specs.Starred.{text}
@@ -32,7 +34,7 @@ given s =
     }
 
 pub every-sheet : map given sheetFunds ≡ sheetFunds
-unfolding near nearest up bytes total sum sumℤ table alternate begun linesFrom lines digits isNumber valueFrom value inFirst fields allNumbers numbers behind spelled between inRanges headerLines headerOf rising rateInRange memberInRange readHeader heldUntil rateInForce folded life lives unit nextRow row placed termOf rowTerms singleTerms deathWeight disabilityWeight replacedTerm replacedTerms terms sumD sumH D H lambda load w truncation mean t alternating multiplied start c startBound entries sumR sumF nextCell cells sumBelow boundBelow premium within loading withBound gross first unmatched half wide anyShort short refuse at0 firstMember valued matched verdict fundTerms fundStart fundCells fundTruncation fundMean fundPremium fundWithin fundFigures lineAt part refused lent accepted answerOf answerTo digitsWithin decimal signedDecimal joined cellLines listed refusedLine printed horizonIn listingTo text readSheetRows readSheets headerText sheetFunds
+unfolding near nearest up bytes total sum sumℤ table alternate begun linesFrom lines digits isNumber valueFrom value inFirst fields allNumbers numbers behind spelled between inRanges headerLines headerOf rising rateInRange memberInRange readHeader heldUntil rateInForce folded life lives unit nextRow row placed termOf rowTerms singleTerms deathWeight disabilityWeight replacedTerm replacedTerms terms sumD sumH D H lambda load w truncation mean t alternating multiplied start c startBound entries sumR sumF nextCell cells sumBelow boundBelow premium within loading withBound gross first unmatched half wide anyShort short refuse at0 firstMember valued matched verdict runningSum distributionBound fundTerms fundStart fundCells fundTruncation fundMean fundPremium fundWithin fundFigures lineAt part refused lent accepted answerOf answerTo digitsWithin decimal signedDecimal joined cellLine cellLines listed refusedLine printed horizonIn listingTo text readSheetRows readSheets headerText sheetFunds
 every-sheet = refl
 
 pub every-row-of-bytes : map (λ (r : RowBytes). record { bytes = r .bytes; row = memberRowOf (r .bytes) }) memberBytes ≡ memberBytes

@@ -10,6 +10,7 @@ pub mod Premium
 pub mod Tariff
 pub mod Refusals
 pub mod Quantile
+pub mod Distribution
 pub mod Answer
 pub mod Listing
 pub mod Cells

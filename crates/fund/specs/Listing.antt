@@ -4,7 +4,7 @@ use mathlib.Core.List.{List, [], _∷_, _++_}
 use Prim.Native.Nat.{ℕ, zero, suc, _+_, _/_, _%_}
 use lib.Dec.{ltb}
 use lib.IntN.{ℤ, pos, negsuc}
-use lib.ListN.{take}
+use lib.ListN.{getD}
 use Rattle.fund.specs.declared.Refusal.{Refusal}
 use Rattle.fund.specs.declared.Verdict.{Verdict}
 use Rattle.fund.specs.declared.Verdict.the-variants.{Accepted, Refused}
@@ -13,6 +13,7 @@ use Rattle.fund.specs.Base.{bytes}
 use Rattle.fund.specs.Reading.{Reading, read, stopped, reading}
 use Rattle.fund.specs.Premium.{printedBound}
 use Rattle.fund.specs.Refusals.{Lengths, numberOf}
+use Rattle.fund.specs.Distribution.{distributionBound}
 use Rattle.fund.specs.Answer.{Answer, answerTo}
 
 -- A number in decimal. A number has no more digits than the number itself and one.
@@ -34,19 +35,24 @@ unfoldable pub joined : List ℕ → List (List ℕ) → List ℕ
 joined text [] = text ++ (10 ∷ [])
 joined text (next ∷ more) = text ++ (44 ∷ joined next more)
 
--- "A cell line is x, f(x), R(x) + 2×E."
-unfoldable pub cellLines : ℕ → ℕ → List ℤ → List ℕ → List ℕ
-cellLines E x [] Rs = []
-cellLines E x (f ∷ fs) [] = []
-cellLines E x (f ∷ fs) (R ∷ Rs) =
-    bytes "cell=" ++ (joined (decimal x) (signedDecimal f ∷ decimal (printedBound E R) ∷ []) ++ cellLines E (suc x) fs Rs)
+-- "A cell line is x, f(x), R(x) + 2×E." Document 02, §7: "F(x) and the bound are added, in this order, at the end of each cell line".
+unfoldable pub cellLine : ℕ → List ℤ → List ℕ → List ℤ → ℕ → List ℕ
+cellLine E f R F x =
+    bytes "cell="
+    ++ joined (decimal x)
+    (signedDecimal (getD f x (pos 0)) ∷ decimal (printedBound E (getD R x 0)) ∷ signedDecimal (getD F x (pos 0)) ∷ decimal (distributionBound E R x) ∷ [])
+
+-- The lines of n cells, from that of x on.
+unfoldable pub cellLines : ℕ → List ℤ → List ℕ → List ℤ → ℕ → ℕ → List ℕ
+cellLines E f R F x zero = []
+cellLines E f R F x (suc n) = cellLine E f R F x ++ cellLines E f R F (suc x) n
 
 -- The lines of an accepted fund with horizon X; document 02, §3: "The listing gains a last line `gross=`". And "A refusal prints only `refused=number,place`."
 unfoldable pub listed : ℕ → Answer → List ℕ
 listed X a =
     bytes "truncation=" ++ (joined (decimal (a .figures .truncation)) []
     ++ (bytes "mean=" ++ (joined (decimal (a .figures .mean)) []
-    ++ (cellLines (a .figures .truncation) 0 (take (suc X) (a .f)) (take (suc X) (a .R))
+    ++ (cellLines (a .figures .truncation) (a .f) (a .R) (a .F) 0 (suc X)
     ++ (bytes "premium=" ++ (joined (signedDecimal (a .figures .premium)) []
     ++ (bytes "within=" ++ (joined (decimal (a .figures .within)) []
     ++ (bytes "gross=" ++ joined (decimal (a .figures .gross)) [])))))))))

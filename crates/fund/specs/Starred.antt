@@ -1,6 +1,6 @@
 -- Document 01's starred funds: each file with what the program prints for it, and the bounds R(0), R(1), .. that the
 -- document states, whether or not the fund is accepted. Then rows for wrong turns that these funds would not show, rows for rates that are
--- printed for some ages only, rows for the line of the worth, and rows for the line of the frequencies.
+-- printed for some ages only, rows for the line of the worth, for the line of the frequencies, and for the bound of the distribution function.
 use mathlib.Core.List.{List, [], _∷_, _++_, map}
 use Prim.Native.Nat.{ℕ}
 use Prim.Native.String.{String}
@@ -27,9 +27,9 @@ abbrev pub oneMemberWith : String → List String
 oneMemberWith gross =
     "truncation=42866942"
     ∷ "mean=100000000000"
-    ∷ "cell=0,900000000000,85733885"
-    ∷ "cell=1,100000000000,85733887"
-    ∷ "cell=2,0,85733888"
+    ∷ "cell=0,900000000000,85733885,900000000000,85733885"
+    ∷ "cell=1,100000000000,85733887,1000000000000,85733888"
+    ∷ "cell=2,0,85733888,1000000000000,85733892"
     ∷ "premium=0"
     ∷ "within=171467773"
     ∷ gross
@@ -72,7 +72,7 @@ starred =
     -- No rates, no members, X = 1, M = 2.
     ∷ record {
       file = file "horizon=1" "order=3" "deductible=2" ("end=0" ∷ []);
-      listing = text ("truncation=0" ∷ "mean=0" ∷ "cell=0,1000000000000,0" ∷ "cell=1,0,1" ∷ "premium=0" ∷ "within=1" ∷ "gross=1" ∷ []);
+      listing = text ("truncation=0" ∷ "mean=0" ∷ "cell=0,1000000000000,0,1000000000000,0" ∷ "cell=1,0,1,1000000000000,1" ∷ "premium=0" ∷ "within=1" ∷ "gross=1" ∷ []);
       bounds = 0 ∷ 1 ∷ [];
     }
     -- Eight group 2 members: X = 5 accepted; X = 6 refused 10 at 6; a ninth with q = 1: refused 7.
@@ -82,12 +82,12 @@ starred =
           text
           ("truncation=0"
           ∷ "mean=8000000000000"
-          ∷ "cell=0,335462628,691"
-          ∷ "cell=1,2683701024,5529"
-          ∷ "cell=2,10734804096,22117"
-          ∷ "cell=3,28626144256,58980"
-          ∷ "cell=4,57252288512,117961"
-          ∷ "cell=5,91603661619,188739"
+          ∷ "cell=0,335462628,691,335462628,691"
+          ∷ "cell=1,2683701024,5529,3019163652,6220"
+          ∷ "cell=2,10734804096,22117,13753967748,28337"
+          ∷ "cell=3,28626144256,58980,42380112004,87317"
+          ∷ "cell=4,57252288512,117961,99632400516,205278"
+          ∷ "cell=5,91603661619,188739,191236062135,394017"
           ∷ "premium=6003354626280"
           ∷ "within=6911"
           ∷ "gross=901"
@@ -113,7 +113,7 @@ starred =
     ∷ record {
       file = file "horizon=2" "order=3" "deductible=2" ("rate=40,500000,0" ∷ "member=40,1,0,0" ∷ "end=1" ∷ []);
       listing =
-          text ("truncation=0" ∷ "mean=0" ∷ "cell=0,1000000000000,1" ∷ "cell=1,0,1" ∷ "cell=2,0,1" ∷ "premium=0" ∷ "within=3" ∷ "gross=1" ∷ []);
+          text ("truncation=0" ∷ "mean=0" ∷ "cell=0,1000000000000,1,1000000000000,1" ∷ "cell=1,0,1,1000000000000,2" ∷ "cell=2,0,1,1000000000000,3" ∷ "premium=0" ∷ "within=3" ∷ "gross=1" ∷ []);
       bounds = 1 ∷ 1 ∷ 1 ∷ [];
     }
     -- Editions 2030 and 2031: refused 3. M = 4 with X = 2: refused 4; M = 3 accepted.
@@ -129,9 +129,9 @@ starred =
           text
           ("truncation=42866942"
           ∷ "mean=100000000000"
-          ∷ "cell=0,900000000000,85733885"
-          ∷ "cell=1,100000000000,85733887"
-          ∷ "cell=2,0,85733888"
+          ∷ "cell=0,900000000000,85733885,900000000000,85733885"
+          ∷ "cell=1,100000000000,85733887,1000000000000,85733888"
+          ∷ "cell=2,0,85733888,1000000000000,85733892"
           ∷ "premium=0"
           ∷ "within=257201665"
           ∷ "gross=1"
@@ -147,31 +147,31 @@ wrongTurns =
     -- An amount beyond X counts in p and in the mean: group 1, d = 5 and X = 3.
     record {
       file = file "horizon=3" "order=12" "deductible=2" ("rate=40,100000,100000" ∷ "member=40,1,5,1" ∷ "end=1" ∷ []);
-      listing = text ("truncation=1529" ∷ "mean=600000000000" ∷ "cell=0,800000000000,3059" ∷ "cell=1,100000000000,3061" ∷ "cell=2,0,3062" ∷ "cell=3,0,3062" ∷ "premium=300000000000" ∷ "within=6121" ∷ "gross=46" ∷ []);
+      listing = text ("truncation=1529" ∷ "mean=600000000000" ∷ "cell=0,800000000000,3059,800000000000,3059" ∷ "cell=1,100000000000,3061,900000000000,3062" ∷ "cell=2,0,3062,900000000000,3066" ∷ "cell=3,0,3062,900000000000,3070" ∷ "premium=300000000000" ∷ "within=6121" ∷ "gross=46" ∷ []);
       bounds = 1 ∷ 3 ∷ 4 ∷ 4 ∷ [];
     }
     -- d = e: both terms of an equal pair land on one place and add.
     ∷ record {
       file = file "horizon=4" "order=12" "deductible=2" ("rate=40,100000,100000" ∷ "member=40,1,2,2" ∷ "end=1" ∷ []);
-      listing = text ("truncation=1529" ∷ "mean=400000000000" ∷ "cell=0,800000000000,3059" ∷ "cell=1,0,3059" ∷ "cell=2,200000000000,3062" ∷ "cell=3,0,3060" ∷ "cell=4,0,3063" ∷ "premium=0" ∷ "within=6119" ∷ "gross=1" ∷ []);
+      listing = text ("truncation=1529" ∷ "mean=400000000000" ∷ "cell=0,800000000000,3059,800000000000,3059" ∷ "cell=1,0,3059,800000000000,3060" ∷ "cell=2,200000000000,3062,1000000000000,3064" ∷ "cell=3,0,3060,1000000000000,3066" ∷ "cell=4,0,3063,1000000000000,3071" ∷ "premium=0" ∷ "within=6119" ∷ "gross=1" ∷ []);
       bounds = 1 ∷ 1 ∷ 4 ∷ 2 ∷ 5 ∷ [];
     }
     -- A negative half away from zero: f(6) = -1.
     ∷ record {
       file = file "horizon=6" "order=12" "deductible=3" ("rate=40,1530,1421" ∷ "member=40,1,2,3" ∷ "end=1" ∷ []);
-      listing = text ("truncation=1" ∷ "mean=7323000000" ∷ "cell=0,997049000000,3" ∷ "cell=1,0,3" ∷ "cell=2,1530000000,5" ∷ "cell=3,1421000000,5" ∷ "cell=4,0,6" ∷ "cell=5,0,6" ∷ "cell=6,-1,7" ∷ "premium=0" ∷ "within=14" ∷ "gross=1" ∷ []);
+      listing = text ("truncation=1" ∷ "mean=7323000000" ∷ "cell=0,997049000000,3,997049000000,3" ∷ "cell=1,0,3,997049000000,4" ∷ "cell=2,1530000000,5,998579000000,7" ∷ "cell=3,1421000000,5,1000000000000,10" ∷ "cell=4,0,6,1000000000000,14" ∷ "cell=5,0,6,1000000000000,18" ∷ "cell=6,-1,7,999999999999,23" ∷ "premium=0" ∷ "within=14" ∷ "gross=1" ∷ []);
       bounds = 1 ∷ 1 ∷ 3 ∷ 3 ∷ 4 ∷ 4 ∷ 5 ∷ [];
     }
     -- A product's error is not multiplied by k again: group 2 at place 2.
     ∷ record {
       file = file "horizon=4" "order=1" "deductible=1" ("rate=40,1000000,0" ∷ "member=40,2,2,0" ∷ "member=40,2,2,0" ∷ "member=40,2,2,0" ∷ "end=3" ∷ []);
-      listing = text ("truncation=0" ∷ "mean=6000000000000" ∷ "cell=0,49787068368,135" ∷ "cell=1,0,1" ∷ "cell=2,149361205104,406" ∷ "cell=3,0,3" ∷ "cell=4,224041807656,610" ∷ "premium=5049787068368" ∷ "within=135" ∷ "gross=758" ∷ []);
+      listing = text ("truncation=0" ∷ "mean=6000000000000" ∷ "cell=0,49787068368,135,49787068368,135" ∷ "cell=1,0,1,49787068368,136" ∷ "cell=2,149361205104,406,199148273472,542" ∷ "cell=3,0,3,199148273472,545" ∷ "cell=4,224041807656,610,423190081128,1155" ∷ "premium=5049787068368" ∷ "within=135" ∷ "gross=758" ∷ []);
       bounds = 135 ∷ 1 ∷ 406 ∷ 3 ∷ 610 ∷ [];
     }
     -- A v is one sum, divided and rounded once: its two products rounded apart would give f(3) = 1.
     ∷ record {
       file = file "horizon=3" "order=12" "deductible=2" ("rate=40,100000,100004" ∷ "member=40,1,1,2" ∷ "end=1" ∷ []);
-      listing = text ("truncation=1529" ∷ "mean=300008000000" ∷ "cell=0,799996000000,3059" ∷ "cell=1,100000000000,3061" ∷ "cell=2,100004000000,3063" ∷ "cell=3,0,3063" ∷ "premium=0" ∷ "within=6121" ∷ "gross=1" ∷ []);
+      listing = text ("truncation=1529" ∷ "mean=300008000000" ∷ "cell=0,799996000000,3059,799996000000,3059" ∷ "cell=1,100000000000,3061,899996000000,3062" ∷ "cell=2,100004000000,3063,1000000000000,3067" ∷ "cell=3,0,3063,1000000000000,3072" ∷ "premium=0" ∷ "within=6121" ∷ "gross=1" ∷ []);
       bounds = 1 ∷ 3 ∷ 5 ∷ 5 ∷ [];
     }
     ∷ []
@@ -251,28 +251,28 @@ frequencies =
     -- a with q and b with i. In lambda: amounts beyond X, and q×d = i×e, so that the mean does not tell a from b. In the mean: amounts beyond X, and q = i.
     -- In D: q×d = i×e again, D(1) = 30,000,000,000 and D(3) = 15,000,000,000.
     replacedAt "frequency=1000,500" "rate=40,20000,30000" "member=40,2,9,6"
-    ("truncation=0" ∷ "mean=270000000000" ∷ "cell=0,965605416258,125" ∷ "cell=1,0,1" ∷ "cell=2,0,1" ∷ "cell=3,0,1" ∷ "cell=4,0,1" ∷ "premium=201210832516" ∷ "within=251" ∷ "gross=31" ∷ [])
+    ("truncation=0" ∷ "mean=270000000000" ∷ "cell=0,965605416258,125,965605416258,125" ∷ "cell=1,0,1,965605416258,126" ∷ "cell=2,0,1,965605416258,127" ∷ "cell=3,0,1,965605416258,128" ∷ "cell=4,0,1,965605416258,129" ∷ "premium=201210832516" ∷ "within=251" ∷ "gross=31" ∷ [])
     (125 ∷ 1 ∷ 1 ∷ 1 ∷ 1 ∷ [])
     ∷ replacedAt "frequency=1000,500" "rate=40,20000,20000" "member=40,2,6,9"
-    ("truncation=0" ∷ "mean=210000000000" ∷ "cell=0,970445533548,125" ∷ "cell=1,0,1" ∷ "cell=2,0,1" ∷ "cell=3,0,1" ∷ "cell=4,0,1" ∷ "premium=150891067096" ∷ "within=251" ∷ "gross=23" ∷ [])
+    ("truncation=0" ∷ "mean=210000000000" ∷ "cell=0,970445533548,125,970445533548,125" ∷ "cell=1,0,1,970445533548,126" ∷ "cell=2,0,1,970445533548,127" ∷ "cell=3,0,1,970445533548,128" ∷ "cell=4,0,1,970445533548,129" ∷ "premium=150891067096" ∷ "within=251" ∷ "gross=23" ∷ [])
     (125 ∷ 1 ∷ 1 ∷ 1 ∷ 1 ∷ [])
     ∷ replacedAt "frequency=1000,500" "rate=40,30000,10000" "member=40,2,1,3"
-    ("truncation=0" ∷ "mean=45000000000" ∷ "cell=0,965605416258,125" ∷ "cell=1,28968162488,5" ∷ "cell=2,434522438,2" ∷ "cell=3,4832372306,2" ∷ "cell=4,144873402,2" ∷ "premium=5178995004" ∷ "within=255" ∷ "gross=1" ∷ [])
+    ("truncation=0" ∷ "mean=45000000000" ∷ "cell=0,965605416258,125,965605416258,125" ∷ "cell=1,28968162488,5,994573578746,130" ∷ "cell=2,434522438,2,995008101184,132" ∷ "cell=3,4832372306,2,999840473490,134" ∷ "cell=4,144873402,2,999985346892,136" ∷ "premium=5178995004" ∷ "within=255" ∷ "gross=1" ∷ [])
     (125 ∷ 5 ∷ 2 ∷ 2 ∷ 2 ∷ [])
     -- Only a disabled member's place is filled, only a deceased member's.
     ∷ replacedAt "frequency=0,1000" "rate=40,30000,10000" "member=40,2,1,3"
-    ("truncation=0" ∷ "mean=30000000000" ∷ "cell=0,990049833749,125" ∷ "cell=1,0,1" ∷ "cell=2,0,1" ∷ "cell=3,9900498337,3" ∷ "cell=4,0,2" ∷ "premium=10099667498" ∷ "within=251" ∷ "gross=2" ∷ [])
+    ("truncation=0" ∷ "mean=30000000000" ∷ "cell=0,990049833749,125,990049833749,125" ∷ "cell=1,0,1,990049833749,126" ∷ "cell=2,0,1,990049833749,127" ∷ "cell=3,9900498337,3,999950332086,130" ∷ "cell=4,0,2,999950332086,132" ∷ "premium=10099667498" ∷ "within=251" ∷ "gross=2" ∷ [])
     (125 ∷ 1 ∷ 1 ∷ 3 ∷ 2 ∷ [])
     ∷ replacedAt "frequency=1000,0" "rate=40,30000,10000" "member=40,2,1,3"
-    ("truncation=0" ∷ "mean=30000000000" ∷ "cell=0,970445533548,125" ∷ "cell=1,29113366006,5" ∷ "cell=2,436700490,2" ∷ "cell=3,4367005,2" ∷ "cell=4,32753,2" ∷ "premium=4433102" ∷ "within=255" ∷ "gross=1" ∷ [])
+    ("truncation=0" ∷ "mean=30000000000" ∷ "cell=0,970445533548,125,970445533548,125" ∷ "cell=1,29113366006,5,999558899554,130" ∷ "cell=2,436700490,2,999995600044,132" ∷ "cell=3,4367005,2,999999967049,134" ∷ "cell=4,32753,2,999999999802,136" ∷ "premium=4433102" ∷ "within=255" ∷ "gross=1" ∷ [])
     (125 ∷ 5 ∷ 2 ∷ 2 ∷ 2 ∷ [])
     -- Lambda 0: a = 0, and no disability.
     ∷ replacedAt "frequency=0,5000" "rate=40,30000,10000" "member=40,2,1,0"
-    ("truncation=0" ∷ "mean=0" ∷ "cell=0,1000000000000,0" ∷ "cell=1,0,1" ∷ "cell=2,0,1" ∷ "cell=3,0,1" ∷ "cell=4,0,1" ∷ "premium=0" ∷ "within=1" ∷ "gross=1" ∷ [])
+    ("truncation=0" ∷ "mean=0" ∷ "cell=0,1000000000000,0,1000000000000,0" ∷ "cell=1,0,1,1000000000000,1" ∷ "cell=2,0,1,1000000000000,2" ∷ "cell=3,0,1,1000000000000,3" ∷ "cell=4,0,1,1000000000000,4" ∷ "premium=0" ∷ "within=1" ∷ "gross=1" ∷ [])
     (0 ∷ 1 ∷ 1 ∷ 1 ∷ 1 ∷ [])
     -- The limits, and range at line 5.
     ∷ replacedAt "frequency=5000,5000" "rate=40,30000,10000" "member=40,2,1,3"
-    ("truncation=0" ∷ "mean=300000000000" ∷ "cell=0,818730753079,125" ∷ "cell=1,122809612962,20" ∷ "cell=2,9210720972,3" ∷ "cell=3,41397073703,8" ∷ "cell=4,6157750750,3" ∷ "premium=60271119120" ∷ "within=270" ∷ "gross=10" ∷ [])
+    ("truncation=0" ∷ "mean=300000000000" ∷ "cell=0,818730753079,125,818730753079,125" ∷ "cell=1,122809612962,20,941540366041,145" ∷ "cell=2,9210720972,3,950751087013,148" ∷ "cell=3,41397073703,8,992148160716,156" ∷ "cell=4,6157750750,3,998305911466,159" ∷ "premium=60271119120" ∷ "within=270" ∷ "gross=10" ∷ [])
     (125 ∷ 20 ∷ 3 ∷ 8 ∷ 3 ∷ [])
     ∷ refusedAt "frequency=5001,0" "refused=2,5"
     ∷ refusedAt "frequency=0,5001" "refused=2,5"
@@ -282,4 +282,21 @@ frequencies =
     ∷ refusedAt "frequency=1000,1000,1000" "refused=1,5"
     ∷ refusedAt "frequency=1000," "refused=1,5"
     ∷ refusedAt "frequency=5001,10000000" "refused=1,5"
+    ∷ []
+
+-- Document 02, §7: an accepted fund and its figures. The first fund tells the cut counted at each cell, the bound of the last cell alone and F of another place
+-- apart, the fund with f(6) = -1 an F that may only rise.
+unfoldable pub listedAt : String → String → List String → List String → List ℕ → StarredRow
+listedAt horizon deductible rows listed bounds = record { file = file horizon "order=12" deductible rows; listing = text listed; bounds = bounds }
+
+unfoldable pub distributions : List StarredRow
+distributions =
+    -- F ends 2 units above 10^12.
+    listedAt "horizon=2" "deductible=0" ("rate=40,120,0" ∷ "member=40,1,1,0" ∷ "member=40,1,1,0" ∷ "end=2" ∷ [])
+    ("truncation=2" ∷ "mean=240000000" ∷ "cell=0,999760014400,6,999760014400,6" ∷ "cell=1,239971201,8,999999985601,10" ∷ "cell=2,14401,9,1000000000002,15" ∷ "premium=240000000" ∷ "within=0" ∷ "gross=1" ∷ [])
+    (2 ∷ 4 ∷ 5 ∷ [])
+    -- One cell.
+    ∷ listedAt "horizon=0" "deductible=1" ("rate=40,100000,100000" ∷ "member=40,1,5,1" ∷ "end=1" ∷ [])
+    ("truncation=1529" ∷ "mean=600000000000" ∷ "cell=0,800000000000,3059,800000000000,3059" ∷ "premium=400000000000" ∷ "within=3059" ∷ "gross=61" ∷ [])
+    (1 ∷ [])
     ∷ []

@@ -10,6 +10,7 @@ pub mod Valued
 pub mod Quantile
 pub mod Tariff
 pub mod Sums
+pub mod Distribution
 pub mod Slices
 pub mod Tells
 pub mod Numbers

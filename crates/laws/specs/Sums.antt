@@ -1,5 +1,5 @@
 -- The running sums of an answer: sums of equal cells are equal (running-lent), and F(x) of an accepted fund is the sum of the f that it
--- leaves, up to x (F-cell); its slice keeps its length (length-F).
+-- leaves, up to x (F-cell); its slice keeps its length (length-F). So the answer at a level says what it should of these sums (level-says).
 use mathlib.Core.Path.{_≡_, refl, sym, _∙_, ap, ap₂}
 use mathlib.Core.List.{List, map}
 use Prim.Native.Nat.{ℕ, zero, suc, _-_, _<_, _≤_}
@@ -8,14 +8,20 @@ use lib.IntN.{ℤ, pos, _+ℤ_}
 use lib.ListN.{length, getD, replicate, length-map, length-append, length-replicate, List·getD-append}
 use Rattle.fund.specs.declared.Fund.{Fund}
 use Rattle.fund.specs.declared.Life.{Life}
+use Rattle.fund.specs.declared.Verdict.the-variants.{Accepted}
 use Rattle.fund.specs.Base.{sumℤ, table}
+use Rattle.fund.specs.Limits.{most-level}
+use Rattle.fund.specs.Reading.{FundFile, Reading, read}
+use Rattle.fund.specs.Folding.{lives}
 use Rattle.fund.specs.Recursion.{Cell}
 use Rattle.fund.specs.Refusals.{Lengths}
-use Rattle.fund.specs.Quantile.{runningSum}
-use Rattle.fund.specs.Answer.{fundCells, lent, accepted}
+use Rattle.fund.specs.Quantile.{runningSum, quantileOf, QuantileSays}
+use Rattle.fund.specs.Answer.{fundCells, lent, Answer, accepted, answerTo}
+use Rattle.laws.specs.Accepted.{accepts}
 use Rattle.laws.specs.Tables.{length-table, getD-table}
 use Rattle.laws.specs.Slices.{table-ext}
-use Rattle.laws.specs.Answer.{fundCell, fundCells-are}
+use Rattle.laws.specs.Answer.{fundCell, fundCells-are, answer-accepted}
+use Rattle.laws.specs.Quantile.{quantile-says}
 
 sums-ext : (n : ℕ) (g h : ℕ → ℤ) → ((k : ℕ) → k < n → g k ≡ h k) → sumℤ n g ≡ sumℤ n h
 unfolding sumℤ
@@ -52,3 +58,11 @@ module _ (fund : Fund) (ms : List Life) where
       getD-lent (pos 0) (n .F) (table (suc (fund .horizon)) (runningSum fundFs)) (pos 0) x (let w = length-table (suc (fund .horizon)) (runningSum fundFs) in omega arith)
       ∙ getD-table (suc (fund .horizon)) (runningSum fundFs) x (pos 0) (omega arith)
       ∙ sym (running-at (n .f) fundFs x (let w = length-fs in omega arith))
+
+pub level-says : (text : List ℕ) (n : Lengths) (r : Reading) (fund : FundFile) → r ≡ read fund → answerTo text n r .verdict ≡ Accepted → (level : ℕ) → level ≤ most-level →
+    QuantileSays level (fund .header .horizon) (answerTo text n r .F) (quantileOf level (fund .header .horizon) (answerTo text n r .F) (answerTo text n r .verdict))
+level-says text n r fund is e level l =
+    let c = answer-accepted text n r fund is e in
+    let long = accepts fund n (fundCells (fund .header) (lives fund)) (c .verdict-is) .long .sums-long in
+    let F = ap (λ (a : Answer). length (a .F)) (c .answer-is) in
+    rw e (quantile-says level (fund .header .horizon) (answerTo text n r .F) l (omega (arith, F, length-F (fund .header) (lives fund) n long, long)))

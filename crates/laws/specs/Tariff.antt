@@ -48,11 +48,11 @@ sub-above a b c h = go (ltb a b) (nltb→le a b) h
     go true f k = omega arith
     go false f k = let l : b ≤ a = f tt in omega arith
 
-difference-above : (x z c : ℕ) → natAbs (pos x -ℤ pos z) ≤ c → z ≤ x + c
+pub difference-above : (x z c : ℕ) → natAbs (pos x -ℤ pos z) ≤ c → z ≤ x + c
 difference-above x zero c h = omega arith
 difference-above x (suc z) c h = sub-above x (suc z) c h
 
-difference-below : (x z c : ℕ) → natAbs (negℤ (pos x) -ℤ pos z) ≤ c → x + z ≤ c
+pub difference-below : (x z c : ℕ) → natAbs (negℤ (pos x) -ℤ pos z) ≤ c → x + z ≤ c
 difference-below zero zero c h = omega arith
 difference-below zero (suc z) c h = omega (arith, sub-above 0 (suc z) c h)
 difference-below (suc x) zero c h = omega (arith, sub-above 0 (suc x) c h)

@@ -1,5 +1,5 @@
 -- What the call answers, handed over field by field (hosts).
-use mathlib.Core.Path.{_≡_, refl, _∙_, ap, subst}
+use mathlib.Core.Path.{_≡_, _∙_, ap, subst}
 use mathlib.Core.List.{List}
 use Prim.Native.Nat.{ℕ, _+_, _-_, _≤_}
 use native.Mathlib.Omega.{arith}
@@ -7,15 +7,15 @@ use lib.IntN.{ℤ}
 use lib.ListN.{length}
 use Rattle.fund.specs.Reading.{Reading}
 use Rattle.fund.specs.Refusals.{Lengths, numberIn}
-use Rattle.fund.specs.declared.Verdict.{Verdict}
-use Rattle.fund.specs.declared.Verdict.the-variants.{Accepted, Refused}
+use Rattle.fund.specs.declared.Verdict.the-variants.{Accepted}
 use Rattle.fund.specs.Quantile.{quantileOf}
 use Rattle.fund.specs.Answer.{Answer, answerTo}
 use Rattle.fund.specs.Listing.{horizonIn}
-use Rattle.fund.specs.Distance.{WithinBounds, NeverBelow}
+use Rattle.fund.specs.Distance.{WithinBounds, NeverBelow, QuantileWithin}
 use Rattle.laws.specs.Numbers.{zero-accepted}
 use Rattle.pricing.specs.declared.Priced.{Priced}
-use Rattle.pricing.specs.Priced.{left, horizonWith, Prices}
+use Rattle.pricing.specs.Priced.{left, Prices}
+use Rattle.pricing.specs.Joining.{quantile-is}
 use mir.Syntax.{w64}
 use mir.Val.{SFits}
 use Rattle.miguepo.specs.Bits.{bitsOf, readSigned}
@@ -29,23 +29,10 @@ module _ (text : List ℕ) (r : Reading) (level : ℕ) (n : Lengths) (p : Priced
   zero-told : numberIn (answerTo text n r .verdict) ≡ 0 → p .verdict ≡ Accepted
   zero-told z = ap (λ (x : Answer). x .verdict) same ∙ zero-accepted (answerTo text n r .verdict) z
 
-  -- the answer at the level, by the definitions
-  quantile-is : p .quantile ≡ quantileOf level (horizonIn r) (answerTo text n r .F) (answerTo text n r .verdict)
-  quantile-is =
-      k .answers .quantile
-      ∙ ap (λ X. quantileOf level X F (p .verdict)) (k .answers .horizon)
-      ∙ told-horizon (p .verdict) (horizonIn r)
-      ∙ ap (λ (x : Answer). quantileOf level (horizonIn r) (x .F) (x .verdict)) same
-    where
-      -- of a refusal the horizon does not count
-      told-horizon : (v : Verdict) (X : ℕ) → quantileOf level (horizonWith v X) F v ≡ quantileOf level X F v
-      told-horizon Accepted X = refl
-      told-horizon (Refused why place) X = refl
-
   pub hosts : (result : List ℕ) → result ≡ pricedFields p → SFits w64 (p .figures .premium) → Hosts text r level n result D H f R F
   hosts result e fits =
       record {
-        result-is = e ∙ rw (quantile-is, k .answers .horizon) (ap (λ (y : Answer). resultFields y (horizonIn r) (quantileOf level (horizonIn r) (answerTo text n r .F) (answerTo text n r .verdict))) same);
+        result-is = e ∙ rw (quantile-is (k .answers), k .answers .horizon) (ap (λ (y : Answer). resultFields y (horizonIn r) (quantileOf level (horizonIn r) (answerTo text n r .F) (answerTo text n r .verdict))) same);
         premium = subst (λ (x : Answer). readSigned (bitsOf (x .figures .premium)) ≡ x .figures .premium) same (bits-read (p .figures .premium) fits);
         inside = subst (λ (x : Answer). x .part .start + x .part .size ≤ length text) same (omega (arith, k .answers .ordered, k .answers .inside));
         D-is = ap (λ (x : Answer). x .D) same;
@@ -54,5 +41,7 @@ module _ (text : List ℕ) (r : Reading) (level : ℕ) (n : Lengths) (p : Priced
         R-is = ap (λ (x : Answer). x .R) same;
         F-is = ap (λ (x : Answer). x .F) same;
         distance = λ fund e z. subst (λ (x : Answer). WithinBounds fund x) same (k .distance fund e (zero-told z));
+        level-within = λ fund e z l.
+            subst (λ (x : Answer). QuantileWithin fund x level (quantileOf level (horizonIn r) (answerTo text n r .F) (answerTo text n r .verdict))) same (rw (quantile-is (k .answers)) at (k .level-within fund e (zero-told z) l));
         never-below = λ fund e z. subst (λ (x : Answer). NeverBelow fund x) same (k .never-below fund e (zero-told z));
       }

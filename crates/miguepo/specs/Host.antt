@@ -4,13 +4,14 @@ use mathlib.Core.List.{List, [], _∷_}
 use Prim.Native.Nat.{ℕ, _+_, _-_, _≤_}
 use lib.IntN.{ℤ}
 use lib.ListN.{length}
+use Rattle.fund.specs.Limits.{most-level}
 use Rattle.fund.specs.Reading.{FundFile, Reading, read}
 use Rattle.fund.specs.Refusals.{Lengths, numberIn, placeIn}
 use Rattle.fund.specs.declared.Quantile.{Quantile}
 use Rattle.fund.specs.Quantile.{quantileOf, reachedIn, quantileIn}
 use Rattle.fund.specs.Answer.{Answer, answerTo}
 use Rattle.fund.specs.Listing.{horizonIn}
-use Rattle.fund.specs.Distance.{WithinBounds, NeverBelow}
+use Rattle.fund.specs.Distance.{WithinBounds, NeverBelow, QuantileWithin}
 use Rattle.pricing.specs.declared.Priced.{Priced}
 use Rattle.pricing.specs.Priced.{horizonWith}
 use Rattle.miguepo.specs.Bits.{bitsOf, readSigned}
@@ -50,7 +51,8 @@ pricedFields p =
     ∷ []
 
 -- Everything that is handed over is the answer's, and C reads the premium from its bits; the line lies in the text; demand 3 holds
--- of a fund with number 0, and its gross premium is not below the exact premium's loaded worth.
+-- of a fund with number 0, its answer at a level of at most 10^12 is right but for the bounds of the sums, and its gross premium is not below the exact
+-- premium's loaded worth.
 pub record Hosts (text : List ℕ) (r : Reading) (level : ℕ) (n : Lengths) (result : List ℕ) (D : List ℤ) (H : List ℕ) (f : List ℤ) (R : List ℕ) (F : List ℤ) : Type 0 where
   pub result-is : result ≡ resultFields (answerTo text n r) (horizonIn r) (quantileOf level (horizonIn r) (answerTo text n r .F) (answerTo text n r .verdict))
   pub premium : readSigned (bitsOf (answerTo text n r .figures .premium)) ≡ answerTo text n r .figures .premium
@@ -61,4 +63,6 @@ pub record Hosts (text : List ℕ) (r : Reading) (level : ℕ) (n : Lengths) (re
   pub R-is : R ≡ answerTo text n r .R
   pub F-is : F ≡ answerTo text n r .F
   pub distance : (fund : FundFile) → r ≡ read fund → numberIn (answerTo text n r .verdict) ≡ 0 → WithinBounds fund (answerTo text n r)
+  pub level-within : (fund : FundFile) → r ≡ read fund → numberIn (answerTo text n r .verdict) ≡ 0 → level ≤ most-level →
+      QuantileWithin fund (answerTo text n r) level (quantileOf level (horizonIn r) (answerTo text n r .F) (answerTo text n r .verdict))
   pub never-below : (fund : FundFile) → r ≡ read fund → numberIn (answerTo text n r .verdict) ≡ 0 → NeverBelow fund (answerTo text n r)

@@ -1,4 +1,4 @@
--- A call that tells of an answer of the definition's meets its contract, demand 3 and the gross premium's cover included (prices); and the line that is handed back
+-- A call that tells of an answer of the definition's meets its contract, demand 3, the answer at the level and the gross premium's cover included (prices); and the line that is handed back
 -- (line-inside, line-outside, line-reversed).
 use mathlib.Core.Path.{_≡_, refl, sym, _∙_, ap, subst}
 use mathlib.Core.List.{List, []}
@@ -13,11 +13,12 @@ use Rattle.fund.specs.Refusals.{Lengths}
 use Rattle.fund.specs.Quantile.{quantileOf}
 use Rattle.fund.specs.Answer.{Answer, refused, answerTo}
 use Rattle.fund.specs.Listing.{horizonIn}
-use Rattle.fund.specs.Distance.{WithinBounds, NeverBelow}
+use Rattle.fund.specs.Distance.{WithinBounds, NeverBelow, QuantileWithin}
 use Rattle.laws.specs.Ranges.{FundOk}
-use Rattle.distance.specs.Distance.{distance, never-below}
+use Rattle.distance.specs.Distance.{distance, level-within, never-below}
 use Rattle.valuation.specs.declared.Valued.{Valued}
 use Rattle.valuation.specs.Valued.{left as leftOf}
+use Rattle.pricing.specs.Joining.{quantile-is}
 use Rattle.pricing.specs.declared.Priced.{Priced}
 use Rattle.pricing.specs.Priced.{left, lined, horizonWith, Tells, Answers, Prices, lineOf}
 
@@ -45,6 +46,9 @@ module _ (text : List ℕ) (r : Reading) (level : ℕ) (n : Lengths) (p : Priced
       record {
         answers = k;
         distance = λ fund z e. subst (λ (x : Answer). WithinBounds fund x) (sym (k .answer)) (distance text n r fund (ok fund z) z (v ∙ e));
+        level-within = λ fund z e l.
+            rw (quantile-is k)
+            (subst (λ (x : Answer). QuantileWithin fund x level (quantileOf level (horizonIn r) (answerTo text n r .F) (answerTo text n r .verdict))) (sym (k .answer)) (level-within text n r fund (ok fund z) z (v ∙ e) level l));
         never-below = λ fund z e. subst (λ (x : Answer). NeverBelow fund x) (sym (k .answer)) (never-below text n r fund (ok fund z) z (v ∙ e));
       }
 

@@ -1,6 +1,6 @@
 -- What joins the steps of a pricing call: a fund that is read and matched has lives in their ranges (lives-in); refusals 3 to 6
--- come before what follows them (matched-first); and the answer of a call from the answers of its steps (answer-stopped,
--- answer-matched, answer-valued).
+-- come before what follows them (matched-first); the answer of a call from the answers of its steps (answer-stopped,
+-- answer-matched, answer-valued); and its answer at the level, by the definitions (told-horizon, quantile-is).
 use mathlib.Core.Path.{_≡_, refl, _∙_, ap}
 use mathlib.Core.Bool.{Bool, true, false}
 use mathlib.Core.List.{List, [], _∷_, map}
@@ -8,6 +8,7 @@ use mathlib.Core.Option.{Option, none, some}
 use Prim.Native.Nat.{ℕ, _+_, _≤_}
 use native.Mathlib.Omega.{arith}
 use lib.Dec.{eqb}
+use lib.IntN.{ℤ}
 use Rattle.fund.specs.declared.Rate.{Rate}
 use Rattle.fund.specs.declared.Member.{Member}
 use Rattle.fund.specs.declared.Refusal.{Refusal}
@@ -19,11 +20,15 @@ use Rattle.fund.specs.Limits.{most-rate}
 use Rattle.fund.specs.Reading.{FundFile, Reading, read, stopped}
 use Rattle.fund.specs.Folding.{rateInForce, folded, life, lives}
 use Rattle.fund.specs.Refusals.{Lengths, refuse, valued, matched, verdict}
-use Rattle.fund.specs.Answer.{refused, fundCells, answerOf, answerTo}
+use Rattle.fund.specs.Quantile.{quantileOf}
+use Rattle.fund.specs.Answer.{Answer, refused, fundCells, answerOf, answerTo}
+use Rattle.fund.specs.Listing.{horizonIn}
 use Rattle.laws.specs.Accepted.{All, Limited, not-half, all-map, refuse-accepted, first-none}
 use Rattle.laws.specs.InForce.{in-force-all}
 use Rattle.laws.specs.Ranges.{RateOk, MemberOk, FundOk}
 use Rattle.widths.specs.Lives.{InRange}
+use Rattle.pricing.specs.declared.Priced.{Priced}
+use Rattle.pricing.specs.Priced.{left, horizonWith, Answers}
 
 -- ---- lives in their ranges
 folded-in : (o : Option Rate) (m : Member) → ((r : Rate) → o ≡ some r → RateOk r) → MemberOk m → Limited (folded o m) → InRange (folded o m)
@@ -104,3 +109,17 @@ module _ (text : List ℕ) (n : Lengths) (r : Reading) (fund : FundFile) (e : r 
   pub answer-valued : matched fund Accepted ≡ Accepted → answerTo text n r ≡ answerOf text n fund (valued (fund .header) (lives fund) n (fundCells (fund .header) (lives fund)))
   unfolding answerTo verdict
   answer-valued m = ap (answerTo text n) e ∙ ap (answerOf text n fund) (matched-first fund rest ∙ ap (λ u. thenVerdict u rest) m)
+
+-- ---- the answer at the level
+-- of a refusal the horizon does not count
+pub told-horizon : (level X : ℕ) (F : List ℤ) (v : Verdict) → quantileOf level (horizonWith v X) F v ≡ quantileOf level X F v
+told-horizon level X F Accepted = refl
+told-horizon level X F (Refused why place) = refl
+
+pub quantile-is : {text : List ℕ} {r : Reading} {level : ℕ} {p : Priced} {D : List ℤ} {H : List ℕ} {f : List ℤ} {R : List ℕ} {F : List ℤ} {is : Answer} → Answers text r level p (left p D H f R F) is →
+    p .quantile ≡ quantileOf level (horizonIn r) (is .F) (is .verdict)
+quantile-is {r = r} {level} {p} {F = F} k =
+    k .quantile
+    ∙ ap (λ X. quantileOf level X F (p .verdict)) (k .horizon)
+    ∙ told-horizon level (horizonIn r) F (p .verdict)
+    ∙ ap (λ (x : Answer). quantileOf level (horizonIn r) (x .F) (x .verdict)) (k .answer)

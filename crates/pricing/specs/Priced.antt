@@ -1,4 +1,5 @@
--- What a pricing call leaves: the answer of document 01; of every fund that it accepts, demand 3 and what the gross premium covers.
+-- What a pricing call leaves: the answer of document 01; of every fund that it accepts, demand 3, what the answer at the level says of the exact
+-- distribution function, and what the gross premium covers.
 use mathlib.Core.Path.{_≡_}
 use mathlib.Core.Bool.{_&&_}
 use mathlib.Core.List.{List, []}
@@ -10,13 +11,14 @@ use Rattle.fund.specs.declared.Fund.{Fund}
 use Rattle.fund.specs.declared.Verdict.{Verdict}
 use Rattle.fund.specs.declared.Verdict.the-variants.{Accepted, Refused}
 use Rattle.fund.specs.Base.{if_then_else_}
+use Rattle.fund.specs.Limits.{most-level}
 use Rattle.fund.specs.Reading.{FundFile, Reading, read, reading}
 use Rattle.fund.specs.Refusals.{Lengths}
 use Rattle.fund.specs.Quantile.{quantileOf}
 use Rattle.fund.specs.Answer.{part, Answer, answerTo}
 use Rattle.fund.specs.Listing.{horizonIn}
 use Rattle.fund.specs.Sheets.{sheetReading}
-use Rattle.fund.specs.Distance.{WithinBounds, NeverBelow}
+use Rattle.fund.specs.Distance.{WithinBounds, NeverBelow, QuantileWithin}
 use Rattle.laws.specs.Ranges.{FundOk}
 use Rattle.matching.specs.declared.table.Matched.{Matched}
 use Rattle.matching.specs.Matching.{matching}
@@ -54,12 +56,13 @@ pub record Answers (text : List ℕ) (r : Reading) (level : ℕ) (p : Priced) (a
   pub inside : p .end ≤ length text
 
 -- The contract of a call. For each sequence of bytes, any level and any lengths of the slices, the answer is the definition's: number,
--- place, part, figures, every lent cell, and the answer at the level. And demand 3: whenever it accepts, each f(x) and the premium are within their
--- bounds of the exact values, and the gross premium is never below the exact premium's loaded worth. The reading is that of a file, whose
--- text it is, or that of a header text and two sheets.
+-- place, part, figures, every lent cell, and the answer at the level. And demand 3: whenever it accepts, each f(x), each F(x) and the premium are
+-- within their bounds of the exact values; the answer at a level of at most 10^12 is right but for the bounds of the sums; and the gross premium is
+-- never below the exact premium's loaded worth. The reading is that of a file, whose text it is, or that of a header text and two sheets.
 pub record Prices (text : List ℕ) (r : Reading) (level : ℕ) (n : Lengths) (p : Priced) (a : Answer) : Type 0 where
   pub answers : Answers text r level p a (answerTo text n r)
   pub distance : (fund : FundFile) → r ≡ read fund → a .verdict ≡ Accepted → WithinBounds fund a
+  pub level-within : (fund : FundFile) → r ≡ read fund → a .verdict ≡ Accepted → level ≤ most-level → QuantileWithin fund a level (p .quantile)
   pub never-below : (fund : FundFile) → r ≡ read fund → a .verdict ≡ Accepted → NeverBelow fund a
 
 -- What is read from a source.

@@ -1,5 +1,5 @@
 -- What `text::level_line` shows of the call's answer is the line of what was read (level-is), and of a file that of its first bytes (level-first).
-use mathlib.Core.Path.{_≡_, refl, _∙_, ap}
+use mathlib.Core.Path.{_≡_, refl, _∙_, ap, ap₂}
 use mathlib.Core.List.{List, []}
 use Prim.Native.Nat.{ℕ, _≤_}
 use lib.Dec.{leb}
@@ -11,31 +11,24 @@ use Rattle.fund.specs.Base.{if_then_else_}
 use Rattle.fund.specs.Reading.{FundFile, Reading, read, stopped, reading}
 use Rattle.fund.specs.Folding.{lives}
 use Rattle.fund.specs.Refusals.{Lengths, verdict}
-use Rattle.fund.specs.Quantile.{quantileOf}
-use Rattle.fund.specs.Answer.{fundCells, refused, answerOf, answerTo}
+use Rattle.fund.specs.Answer.{Answer, fundCells, refused, answerOf, answerTo}
 use Rattle.fund.specs.Listing.{horizonIn, enough}
 use Rattle.text.specs.Writing.{Written}
 use Rattle.text.specs.Level.{answerLine, level-room, levelLineOf}
 use Rattle.pricing.specs.declared.Priced.{Priced}
-use Rattle.pricing.specs.Priced.{left, horizonWith, Answers}
+use Rattle.pricing.specs.Priced.{left, Answers}
+use Rattle.pricing.specs.Joining.{quantile-is}
 use Rattle.prefix.specs.Prefix.{most-bytes, reading-first}
 use Rattle.printing.specs.Printed.{lineAtLevel, levelLineTo, levelLine, shownLevelTo, shownLevel}
 use Rattle.printing.specs.Input.{HoldsFirst, PrintsLevelFirst}
 use Rattle.printing.proofs.Printing.{lentLengths, answers-enough, shows-first}
-
--- of a refusal the answer is none for every horizon
-quantile-left : (level X : ℕ) (s : List ℤ) (v : Verdict) → quantileOf level (horizonWith v X) s v ≡ quantileOf level X s v
-quantile-left level X s Accepted = refl
-quantile-left level X s (Refused why place) = refl
 
 pub level-is : (text : List ℕ) (r : Reading) (level : ℕ) (p : Priced) (d : List ℤ) (h : List ℕ) (f : List ℤ) (b : List ℕ) (s : List ℤ) → Answers text r level p (left p d h f b s) (answerTo text lentLengths r) →
     (size : ℕ) → levelLineOf (p .verdict) (p .quantile) size ≡ shownLevelTo text r level size
 unfolding levelLineOf levelLineTo
 level-is text r level p d h f b s given size =
     let k = answers-enough text r level p (left p d h f b s) given in
-    ap (λ (l : List ℕ). if leb level-room size then l else [])
-    (ap (answerLine (p .verdict)) (k .quantile ∙ ap (λ (X : ℕ). quantileOf level X s (p .verdict)) (k .horizon) ∙ quantile-left level (horizonIn r) s (p .verdict))
-    ∙ ap (lineAtLevel level (horizonIn r)) (k .answer))
+    ap (λ (l : List ℕ). if leb level-room size then l else []) (ap₂ answerLine (ap (λ (a : Answer). a .verdict) (k .answer)) (quantile-is k))
 
 -- the line does not show the part of the bytes that is handed back with a refusal
 line-of : (f g : List ℕ) (n : Lengths) (fund : FundFile) (level X : ℕ) (v : Verdict) → lineAtLevel level X (answerOf f n fund v) ≡ lineAtLevel level X (answerOf g n fund v)

@@ -63,7 +63,7 @@ horizon-most (stopped why place) ok Accepted = omega arith
 
 -- a listing shows the same of a refusal for every horizon
 printed-left : (p : Priced) (d : List ℤ) (h : List ℕ) (f : List ℤ) (r : List ℕ) (s : List ℤ) (X : ℕ) (v : Verdict) →
-    printed (shownAnswer (p .verdict) (p .figures) f r) (horizonWith v X) v ≡ printed (left p d h f r s) X v
+    printed (shownAnswer (p .verdict) (p .figures) f r s) (horizonWith v X) v ≡ printed (left p d h f r s) X v
 unfolding printed listed
 printed-left p d h f r s X Accepted = refl
 printed-left p d h f r s X (Refused why place) = refl
@@ -74,7 +74,7 @@ module _ (text : List ℕ) (r : Reading) (ok : (fund : FundFile) → r ≡ read 
   k = answers-enough text r level p (left p d h f b s) given
 
   abbrev shownOne : Answer
-  shownOne = shownAnswer (p .verdict) (p .figures) f b
+  shownOne = shownAnswer (p .verdict) (p .figures) f b s
 
   within : AnswerIn (left p d h f b s)
   within = rw (k .answer) (answer-in text enough r)
@@ -82,14 +82,15 @@ module _ (text : List ℕ) (r : Reading) (ok : (fund : FundFile) → r ≡ read 
   X-most : p .horizon ≤ most-horizon
   X-most = rw (k .horizon) (horizon-most r ok (p .verdict))
 
-  module _ (lf : length f ≡ suc most-horizon) (lr : length b ≡ suc most-horizon) (size : ℕ) where
-    range-is : printable (p .figures .truncation) (p .horizon) (length f) b size ≡ leb room size
+  module _ (lf : length f ≡ suc most-horizon) (lr : length b ≡ suc most-horizon) (ls : length s ≡ suc most-horizon) (size : ℕ) where
+    range-is : printable (p .figures .truncation) (p .horizon) (length f) b (length s) size ≡ leb room size
     unfolding printable
     range-is =
         rw (
           le-leb (p .horizon) most-horizon X-most,
           lt-ltb (p .horizon) (length f) (omega (arith, X-most, lf)),
           lt-ltb (p .horizon) (length b) (omega (arith, X-most, lr)),
+          lt-ltb (p .horizon) (length s) (omega (arith, X-most, ls)),
           le-leb (p .figures .truncation) most-truncation (within .truncation),
           bounded-first (suc (p .horizon)) b (within .bounds),
         )

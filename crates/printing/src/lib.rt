@@ -44,7 +44,7 @@ pub fn print(file: &[u8], text: &mut [u8]) -> usize
     let verdict = priced.verdict;
     let horizon = priced.horizon as usize;
     let figures = priced.figures;
-    text::listing(verdict, figures, horizon, &f, &r, text)
+    text::listing(verdict, figures, horizon, &f, &r, &sums, text)
 }
 
 // Prices the fund of a file and writes the line of its answer at a level from the start of the text; returns the line's size. A text

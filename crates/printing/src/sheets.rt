@@ -32,7 +32,7 @@ pub fn print_sheets(header: &[u8], rates: &[u8], members: &[u8], text: &mut [u8]
     let verdict = priced.verdict;
     let horizon = priced.horizon as usize;
     let figures = priced.figures;
-    text::listing(verdict, figures, horizon, &f, &r, text)
+    text::listing(verdict, figures, horizon, &f, &r, &sums, text)
 }
 
 // The line of its answer at a level, as `print_level` does.

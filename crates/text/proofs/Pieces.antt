@@ -1,47 +1,59 @@
 -- The lines of a listing as the pieces that are put one behind the other, and the test of the bounds R(x): as a fact of each
--- (bounded-at, all-bounded), and one by one.
-use mathlib.Core.Path.{_≡_, refl, sym, ap, _∙_}
+-- (bounded-at, all-bounded), one by one, and as a fact of their sums (sum-most).
+use mathlib.Core.Path.{_≡_, refl, ap, _∙_}
 use mathlib.Core.Bool.{Bool, true, false, _&&_}
-use mathlib.Core.List.{List, [], _∷_, _++_, append-assoc}
-use Prim.Native.Nat.{ℕ, zero, suc, _+_, _*_, _≤_, _<_, zero-le, suc-le-suc}
-use native.Mathlib.Nat.{le-of-suc-le-suc}
+use mathlib.Core.List.{List, [], _∷_, _++_}
+use Prim.Native.Nat.{ℕ, zero, suc, _+_, _-_, _*_, _≤_, _<_, zero-le, suc-le-suc}
 use native.Mathlib.Numerals.{add-one}
 use native.Mathlib.Omega.{arith}
 use borrow.Author.Tests.{leb-true, le-leb, lt-leb}
 use lib.Dec.{leb}
 use lib.IntN.{ℤ, pos}
-use lib.ListN.{length, getD, drop}
-use lib.Seq.{append-snoc, drop-cons}
+use lib.ListN.{length, getD, take, drop}
+use lib.Seq.{append-snoc, drop-cons, getD-take}
+use mir.Syntax.{w64}
+use mir.Val.{SFits, toZ, ofZ}
+use mir.Facts.{toZ-ofZ}
 use Rattle.fund.specs.declared.Refusal.{Refusal}
-use Rattle.fund.specs.Base.{bytes}
+use Rattle.fund.specs.Base.{sum, bytes}
 use Rattle.fund.specs.Limits.{most-bound}
 use Rattle.fund.specs.Refusals.{numberOf}
-use Rattle.fund.specs.Listing.{decimal, signedDecimal, joined, cellLines, refusedLine}
+use Rattle.fund.specs.Distribution.{distributionBound}
+use Rattle.fund.specs.Listing.{decimal, signedDecimal, joined, cellLine, cellLines, refusedLine}
+use Rattle.text.specs.Writing.{Put}
 use Rattle.text.specs.Shown.{bounded}
-use Rattle.text.specs.Pieces.{cellLine}
+use Rattle.text.specs.Pieces.{cellText}
 
-joined-next : (text next : List ℕ) (more : List (List ℕ)) → joined text (next ∷ more) ≡ (text ++ (44 ∷ [])) ++ joined next more
-unfolding joined
-joined-next text next more = sym (append-snoc text 44 (joined next more))
+pub cell-pieces : (x : ℕ) (f : ℤ) (within : ℕ) (F : ℤ) (bound : ℕ)
+    → cellText x f within F bound
+    ≡ bytes "cell=" ++ ((decimal x ++ (44 ∷ [])) ++ ((signedDecimal f ++ (44 ∷ [])) ++ ((decimal within ++ (44 ∷ [])) ++ ((signedDecimal F ++ (44 ∷ [])) ++ (decimal bound ++ (10 ∷ []))))))
+unfolding cellText joined
+cell-pieces x f within F bound = simp append-snoc
 
-pub cell-pieces : (x : ℕ) (f : ℤ) (bound : ℕ)
-    → cellLine x f bound ≡ bytes "cell=" ++ ((decimal x ++ (44 ∷ [])) ++ ((signedDecimal f ++ (44 ∷ [])) ++ (decimal bound ++ (10 ∷ []))))
-unfolding cellLine joined
-cell-pieces x f bound =
-    ap (λ l. bytes "cell=" ++ l)
-    (joined-next (decimal x) (signedDecimal f) (decimal bound ∷ [])
-    ∙ ap (λ l. (decimal x ++ (44 ∷ [])) ++ l) (joined-next (signedDecimal f) (decimal bound) []))
+-- The code holds f and F as words.
+pub cell-words : {text : List ℕ} {at : ℕ} (x : ℕ) (f : ℤ) (within : ℕ) (F : ℤ) (bound : ℕ) {after : List ℕ} {next : ℕ} → SFits w64 f → SFits w64 F
+    → Put text at (cellText x (toZ w64 (ofZ w64 f)) within (toZ w64 (ofZ w64 F)) bound) after next → Put text at (cellText x f within F bound) after next
+cell-words x f within F bound g G p = rw (toZ-ofZ g, toZ-ofZ G) at p
 
 pub refusal-pieces : (why : Refusal) (place n : ℕ) → n ≡ numberOf why
     → refusedLine why place ≡ bytes "refused=" ++ ((decimal n ++ (44 ∷ [])) ++ (decimal place ++ (10 ∷ [])))
 unfolding refusedLine joined
-refusal-pieces why place n e = rw e (ap (λ l. bytes "refused=" ++ l) (joined-next (decimal (numberOf why)) (decimal place) []))
+refusal-pieces why place n e = rw e (simp append-snoc)
+
+-- The bound of the distribution function before x: 2×E, and R of each cell before.
+abbrev pub boundBefore : ℕ → List ℕ → ℕ → ℕ
+boundBefore E R x = sum x (λ y. getD R y 0) + 2 * E
+
+pub bound-step : (E : ℕ) (R : List ℕ) (x : ℕ) → boundBefore E R (x + 1) ≡ boundBefore E R x + getD R x 0
+unfolding sum
+bound-step E R x = rw add-one (omega arith)
 
 -- The lines of the cells from x on: that of x, and those behind it.
-pub cells-step : (E x : ℕ) (f : List ℤ) (R : List ℕ) → x < length f → x < length R
-    → cellLines E x (drop x f) (drop x R) ≡ cellLine x (getD f x (pos 0)) (getD R x 0 + 2 * E) ++ cellLines E (x + 1) (drop (x + 1) f) (drop (x + 1) R)
-unfolding cellLines cellLine
-cells-step E x f R h g = rw (add-one, drop-cons f x (pos 0), drop-cons R x 0) (sym (append-assoc (bytes "cell=") _ _))
+pub cells-step : (E : ℕ) (f : List ℤ) (R : List ℕ) (F : List ℤ) (x n bound : ℕ) → x < n → bound ≡ boundBefore E R x
+    → cellLines E f R F x (n - x)
+    ≡ cellText x (getD f x (pos 0)) (getD R x 0 + 2 * E) (getD F x (pos 0)) (bound + getD R x 0) ++ cellLines E f R F (x + 1) (n - (x + 1))
+unfolding cellLines cellLine cellText distributionBound
+cells-step E f R F x n bound h e = let k : n - x ≡ suc (n - (x + 1)) = omega arith in rw (k, e, ← bound-step, add-one)
 
 pub and-left : (a b : Bool) → a && b ≡ true → a ≡ true
 and-left true b e = refl
@@ -51,11 +63,11 @@ pub and-right : (a b : Bool) → a && b ≡ true → b ≡ true
 and-right true b e = e
 and-right false b e = let z : _≡_ {A = ℕ} 0 1 = cc in absurd (omega arith)
 
-pub bounded-at : (R : List ℕ) (x : ℕ) → bounded R ≡ true → x < length R → getD R x 0 ≤ most-bound
+pub bounded-at : (R : List ℕ) (x : ℕ) → bounded R ≡ true → getD R x 0 ≤ most-bound
 unfolding bounded
-bounded-at [] x e h = absurd (omega arith)
-bounded-at (y ∷ R) zero e h = leb-true y most-bound (and-left (leb y most-bound) (bounded R) e)
-bounded-at (y ∷ R) (suc x) e h = bounded-at R x (and-right (leb y most-bound) (bounded R) e) (le-of-suc-le-suc h)
+bounded-at [] x e = omega arith
+bounded-at (y ∷ R) zero e = leb-true y most-bound (and-left (leb y most-bound) (bounded R) e)
+bounded-at (y ∷ R) (suc x) e = bounded-at R x (and-right (leb y most-bound) (bounded R) e)
 
 pub all-bounded : (R : List ℕ) → ((x : ℕ) → x < length R → getD R x 0 ≤ most-bound) → bounded R ≡ true
 unfolding bounded
@@ -70,3 +82,13 @@ bounded-step R x h g = rw (add-one, drop-cons R x 0) (ap (λ b. b && bounded (dr
 pub bounded-over : (R : List ℕ) (x : ℕ) → x < length R → most-bound < getD R x 0 → bounded (drop x R) ≡ false
 unfolding bounded
 bounded-over R x h g = rw (drop-cons R x 0) (ap (λ b. b && bounded (drop (suc x) R)) (lt-leb (getD R x 0) most-bound g))
+
+-- Of the bounds of the first n cells: each, and the sum of those before a cell.
+module _ (n : ℕ) (R : List ℕ) (e : bounded (take n R) ≡ true) where
+  pub bounded-before : (x : ℕ) → x < n → getD R x 0 ≤ most-bound
+  bounded-before x h = rw (getD-take n R x 0 h) at (bounded-at (take n R) x e)
+
+  pub sum-most : (x : ℕ) → x ≤ n → sum x (λ y. getD R y 0) ≤ most-bound * x
+  unfolding sum
+  sum-most zero h = omega arith
+  sum-most (suc x) h = omega (arith, sum-most x (omega arith), bounded-before x h)

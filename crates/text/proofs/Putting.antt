@@ -31,6 +31,13 @@ pub room-then : {text : List ℕ} {at : ℕ} (a b : List ℕ) {middle : List ℕ
     → HasRoom text at (a ++ b) → Put text at a middle m → HasRoom middle m b
 room-then a b room p = record { fits = omega (arith, room .fits, length-append a b, p .behind, put-length p) }
 
+-- A piece of at most n bytes.
+pub room-most : {text : List ℕ} {at : ℕ} {piece : List ℕ} {n : ℕ} → length piece ≤ n → at + n ≤ length text → HasRoom text at piece
+room-most h k = record { fits = omega arith }
+
+pub put-most : {before : List ℕ} {at : ℕ} {piece after : List ℕ} {next n : ℕ} → Put before at piece after next → length piece ≤ n → next ≤ at + n
+put-most p h = omega (arith, p .behind)
+
 -- From the start of a text, and nothing at all.
 pub put-written : {text piece after : List ℕ} {size : ℕ} → size ≤ length text → Put text 0 piece after size → Written piece text after size
 put-written {text} {piece} {after} {size} h p =

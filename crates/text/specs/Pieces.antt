@@ -4,16 +4,16 @@ use mathlib.Core.Bool.{true}
 use mathlib.Core.List.{List, [], _∷_, _++_}
 use Prim.Native.Nat.{ℕ, suc, _≤_}
 use lib.IntN.{ℤ}
-use lib.ListN.{length}
+use lib.ListN.{length, take}
 use Rattle.fund.specs.declared.Figures.{Figures}
 use Rattle.fund.specs.Base.{bytes}
 use Rattle.fund.specs.Limits.{most-horizon, most-truncation}
 use Rattle.fund.specs.Listing.{decimal, signedDecimal, joined, cellLines}
 use Rattle.text.specs.Shown.{bounded}
 
--- "A cell line is x, f(x), R(x) + 2×E."
-unfoldable pub cellLine : ℕ → ℤ → ℕ → List ℕ
-cellLine x f bound = bytes "cell=" ++ joined (decimal x) (signedDecimal f ∷ decimal bound ∷ [])
+-- The line of a cell, from its figures.
+unfoldable pub cellText : ℕ → ℤ → ℕ → ℤ → ℕ → List ℕ
+cellText x f within F bound = bytes "cell=" ++ joined (decimal x) (signedDecimal f ∷ decimal within ∷ signedDecimal F ∷ decimal bound ∷ [])
 
 -- The lines before the cells, those of the premium and its bound, and all lines behind the cells.
 unfoldable pub head : Figures → List ℕ
@@ -25,13 +25,15 @@ premiumLines a = (bytes "premium=" ++ joined (signedDecimal (a .premium)) []) ++
 unfoldable pub foot : Figures → List ℕ
 foot a = premiumLines a ++ (bytes "gross=" ++ joined (decimal (a .gross)) [])
 
--- The lines of an accepted fund, from its figures and its cells.
-unfoldable pub acceptedLines : Figures → List ℤ → List ℕ → List ℕ
-acceptedLines a f R = head a ++ (cellLines (a .truncation) 0 f R ++ foot a)
+-- The lines of an accepted fund, from its figures and so many cells.
+unfoldable pub acceptedLines : Figures → List ℤ → List ℕ → List ℤ → ℕ → List ℕ
+acceptedLines a f R F count = head a ++ (cellLines (a .truncation) f R F 0 count ++ foot a)
 
--- The figures of the cells are as many as there are cells, and in range.
-pub record PrintableCells (E : ℕ) (f : List ℤ) (R : List ℕ) : Type 0 where
-  pub counts : length f ≡ length R
-  pub most : length R ≤ suc most-horizon
+-- The figures of so many cells are there and in range.
+pub record PrintableCells (E : ℕ) (f : List ℤ) (R : List ℕ) (F : List ℤ) (count : ℕ) : Type 0 where
+  pub enough-f : count ≤ length f
+  pub enough-R : count ≤ length R
+  pub enough-F : count ≤ length F
+  pub most : count ≤ suc most-horizon
   pub truncation : E ≤ most-truncation
-  pub bounds : bounded R ≡ true
+  pub bounds : bounded (take count R) ≡ true

@@ -14,18 +14,18 @@ use Rattle.fund.specs.Listing.{printed}
 
 -- The most bytes of a cell line, and of the other lines of a listing together.
 abbrev pub most-cell-line : ℕ
-most-cell-line = 53
+most-cell-line = 73
 
 abbrev pub most-other-lines : ℕ
-most-other-lines = 143
+most-other-lines = 142
 
 -- Room for every listing.
 abbrev pub room : ℕ
 room = most-cell-line * suc most-horizon + most-other-lines
 
 -- What is printed of an answer.
-abbrev pub shownAnswer : Verdict → Figures → List ℤ → List ℕ → Answer
-shownAnswer verdict figures f R = record { verdict = verdict; part = empty; figures = figures; D = []; H = []; f = f; R = R; F = [] }
+abbrev pub shownAnswer : Verdict → Figures → List ℤ → List ℕ → List ℤ → Answer
+shownAnswer verdict figures f R F = record { verdict = verdict; part = empty; figures = figures; D = []; H = []; f = f; R = R; F = F }
 
 -- No R(x) is above its limit.
 unfoldable pub bounded : List ℕ → Bool
@@ -33,9 +33,9 @@ bounded [] = true
 bounded (R ∷ Rs) = leb R most-bound && bounded Rs
 
 -- The figures of the cells 0 to X are there and in range, and a text of that size has room for every listing.
-unfoldable pub printable : ℕ → ℕ → ℕ → List ℕ → ℕ → Bool
-printable E X cells R size =
-    leb X most-horizon && (ltb X cells && (ltb X (length R) && (leb E most-truncation && (leb room size && bounded (take (suc X) R)))))
+unfoldable pub printable : ℕ → ℕ → ℕ → List ℕ → ℕ → ℕ → Bool
+printable E X cells R sums size =
+    leb X most-horizon && (ltb X cells && (ltb X (length R) && (ltb X sums && (leb E most-truncation && (leb room size && bounded (take (suc X) R))))))
 
 unfoldable pub listingOf : Answer → ℕ → ℕ → List ℕ
-listingOf a X size = if printable (a .figures .truncation) X (length (a .f)) (a .R) size then printed a X (a .verdict) else []
+listingOf a X size = if printable (a .figures .truncation) X (length (a .f)) (a .R) (length (a .F)) size then printed a X (a .verdict) else []

@@ -11,12 +11,12 @@ ghost use Prim.Native.Nat.{_+_, _*_, _<_, _≤_};
 ghost use lib.ListN.{length};
 ghost use Rattle.fund.specs.Listing.{decimal, signedDecimal, joined, cellLines, refusedLine};
 ghost use Rattle.text.specs.Writing.{HasRoom, Put, Written};
-ghost use Rattle.text.specs.Pieces.{cellLine, head, premiumLines, foot, acceptedLines, PrintableCells};
+ghost use Rattle.text.specs.Pieces.{cellText, head, premiumLines, foot, acceptedLines, PrintableCells};
 ghost use Rattle.text.specs.Shown.{most-cell-line, room, shownAnswer, bounded, printable, listingOf};
 ghost use Rattle.text.specs.Level.{quantileLine, level-room, levelLineOf};
 
 // Bytes enough for every listing.
-pub const ROOM: usize = 217231;
+pub const ROOM: usize = 299150;
 
 // Bytes enough for the line of every answer at a level.
 pub const LEVEL_ROOM: usize = 64;
@@ -29,19 +29,27 @@ pub fn listing(
     horizon: usize,
     f: &[i64],
     r: &[u64],
+    sums: &[i64],
     text: &mut [u8],
 ) -> usize
     ensures { λ size. ⌜
         Written
-        (listingOf (shownAnswer verdict figures (now (f .entry)) (now (r .entry))) horizon (length (now (text .entry))))
+        (listingOf (shownAnswer verdict figures (now (f .entry)) (now (r .entry)) (now (sums .entry))) horizon (length (now (text .entry))))
         (now (text .entry)) (now (text .exit)) size ⌝ }
 {
-    if !printable(figures.truncation, horizon, f.len(), r, text.len()) {
+    if !printable(
+        figures.truncation,
+        horizon,
+        f.len(),
+        r,
+        sums.len(),
+        text.len(),
+    ) {
         return 0;
     }
     let count = horizon + 1;
     match verdict {
-        Verdict::Accepted => put_accepted(figures, &f[..count], &r[..count], text),
+        Verdict::Accepted => put_accepted(figures, f, r, sums, count, text),
         Verdict::Refused(why, place) => put_refusal(why, place, text),
     }
 }
@@ -144,27 +152,42 @@ fn put_line(key: &[u8], n: u64, text: &mut [u8], at: usize) -> usize
     put_figure(n, b'\n', text, figure)
 }
 
-// Writes the line of a cell.
-fn put_cell(x: u64, f: i64, bound: u64, text: &mut [u8], at: usize) -> usize
-    requires { ⌜ HasRoom (now text) at (cellLine x f bound) ⌝ }
-    ensures { λ next. ⌜ Put (now (text .entry)) at (cellLine x f bound) (now (text .exit)) next ⌝ }
+// Writes the line of a cell: x, f(x) and its bound, F(x) and its bound.
+fn put_cell(x: u64, f: i64, within: u64, sum: i64, bound: u64, text: &mut [u8], at: usize) -> usize
+    requires { ⌜ HasRoom (now text) at (cellText x f within sum bound) ⌝ }
+    ensures { λ next. ⌜ Put (now (text .entry)) at (cellText x f within sum bound) (now (text .exit)) next ⌝ }
 {
     let x_at = put_key(b"cell=", text, at);
     let f_at = put_figure(x, b',', text, x_at);
-    let bound_at = put_signed_figure(f, b',', text, f_at);
+    let within_at = put_signed_figure(f, b',', text, f_at);
+    let sum_at = put_figure(within, b',', text, within_at);
+    let bound_at = put_signed_figure(sum, b',', text, sum_at);
     put_figure(bound, b'\n', text, bound_at)
 }
 
-// Writes the lines of the cells, from x = 0 on, each with the bound R(x) + 2×E.
-fn put_cells(truncation: u64, f: &[i64], r: &[u64], text: &mut [u8], at: usize) -> usize
-    requires { ⌜ PrintableCells truncation (now f) (now r) × (at + most-cell-line * length (now r) ≤ length (now text)) ⌝ }
-    ensures { λ next. ⌜ Put (now (text .entry)) at (cellLines truncation 0 (now (f .entry)) (now (r .entry))) (now (text .exit)) next ⌝ }
-    ensures { λ next. ⌜ next ≤ at + most-cell-line * length (now (r .entry)) ⌝ }
+// Writes the lines of so many cells, from x = 0 on. The bound of F(x) is R(0) + .. + R(x) + 2×E: each cell adds its R.
+fn put_cells(
+    truncation: u64,
+    f: &[i64],
+    r: &[u64],
+    sums: &[i64],
+    count: usize,
+    text: &mut [u8],
+    at: usize,
+) -> usize
+    requires { ⌜ PrintableCells truncation (now f) (now r) (now sums) count × (at + most-cell-line * count ≤ length (now text)) ⌝ }
+    ensures { λ next. ⌜ Put (now (text .entry)) at (cellLines truncation (now (f .entry)) (now (r .entry)) (now (sums .entry)) 0 count) (now (text .exit)) next ⌝ }
+    ensures { λ next. ⌜ next ≤ at + most-cell-line * count ⌝ }
 {
+    let cut = 2 * truncation;
+    let mut bound = cut;
     let mut next = at;
     let mut x = 0;
-    while x < r.len() {
-        next = put_cell(x as u64, f[x], r[x] + 2 * truncation, text, next);
+    while x < count {
+        let cell_bound = r[x];
+        let within = cell_bound + cut;
+        bound += cell_bound;
+        next = put_cell(x as u64, f[x], within, sums[x], bound, text, next);
         x += 1;
     }
     next
@@ -199,12 +222,20 @@ fn put_foot(figures: Figures, text: &mut [u8], at: usize) -> usize
 }
 
 // Writes the lines of an accepted fund.
-fn put_accepted(figures: Figures, f: &[i64], r: &[u64], text: &mut [u8]) -> usize
-    requires { ⌜ PrintableCells (figures .truncation) (now f) (now r) × (room ≤ length (now text)) ⌝ }
-    ensures { λ size. ⌜ Written (acceptedLines figures (now (f .entry)) (now (r .entry))) (now (text .entry)) (now (text .exit)) size ⌝ }
+fn put_accepted(
+    figures: Figures,
+    f: &[i64],
+    r: &[u64],
+    sums: &[i64],
+    count: usize,
+    text: &mut [u8],
+) -> usize
+    requires { ⌜ PrintableCells (figures .truncation) (now f) (now r) (now sums) count × (room ≤ length (now text)) ⌝ }
+    ensures { λ size. ⌜
+        Written (acceptedLines figures (now (f .entry)) (now (r .entry)) (now (sums .entry)) count) (now (text .entry)) (now (text .exit)) size ⌝ }
 {
     let cells = put_head(figures, text);
-    let foot = put_cells(figures.truncation, f, r, text, cells);
+    let foot = put_cells(figures.truncation, f, r, sums, count, text, cells);
     put_foot(figures, text, foot)
 }
 
@@ -245,8 +276,15 @@ fn all_bounded(r: &[u64]) -> bool
 }
 
 // The figures of the cells are there and in range, and there is room.
-fn printable(truncation: u64, horizon: usize, cells: usize, r: &[u64], room: usize) -> bool
-    ensures { λ yes. ⌜ yes ≡ printable truncation horizon cells (now (r .entry)) room ⌝ }
+fn printable(
+    truncation: u64,
+    horizon: usize,
+    cells: usize,
+    r: &[u64],
+    sums: usize,
+    room: usize,
+) -> bool
+    ensures { λ yes. ⌜ yes ≡ printable truncation horizon cells (now (r .entry)) sums room ⌝ }
 {
     if Fund::MOST_HORIZON < horizon as u64 {
         return false;
@@ -255,6 +293,9 @@ fn printable(truncation: u64, horizon: usize, cells: usize, r: &[u64], room: usi
         return false;
     }
     if r.len() <= horizon {
+        return false;
+    }
+    if sums <= horizon {
         return false;
     }
     if Fund::MOST_TRUNCATION < truncation {

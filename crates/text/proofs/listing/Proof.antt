@@ -4,7 +4,6 @@ use mathlib.Core.Bool.{true}
 use native.Mathlib.Omega.{arith}
 use borrow.Author.Tests.{not-true, not-false}
 use lib.ListN.{length}
-use lib.Seq.{length-take-le}
 use Rattle.text.specs.Shown.{printable}
 use Rattle.text.proofs.Putting.{written-none, written-as}
 use Rattle.text.proofs.Range.{Printable, in-range, given, listing-out, listing-accepted, listing-refused}
@@ -16,11 +15,11 @@ printable-requires : tie.Need-printable-requires
 printable-requires c κs = search needs
 
 -- Past the range test.
-test : (c : tie.Else1) → let a = c .before .before .before .before .args in printable (a .figures .truncation) (a .horizon) (length (a .f .now)) (a .r .now) (length (a .text .now)) ≡ true
+test : (c : tie.Else1) → let a = c .before .before .before .before .args in printable (a .figures .truncation) (a .horizon) (length (a .f .now)) (a .r .now) (length (a .sums .now)) (length (a .text .now)) ≡ true
 test c = sym (c .before .printable .ensures) ∙ not-false _ (c .if1 .left)
 
-range : (c : tie.Else1) → let a = c .before .before .before .before .args in Printable (a .figures .truncation) (a .horizon) (length (a .f .now)) (a .r .now) (length (a .text .now))
-range c = in-range _ _ _ _ _ (test c)
+range : (c : tie.Else1) → let a = c .before .before .before .before .args in Printable (a .figures .truncation) (a .horizon) (length (a .f .now)) (a .r .now) (length (a .sums .now)) (length (a .text .now))
+range c = in-range _ _ _ _ _ _ (test c)
 
 returns : tie.Need-returns
 returns c = written-as _ (listing-out _ _ _ (sym (c .before .printable .ensures) ∙ not-true _ (c .if1 .taken))) (written-none _)
@@ -31,14 +30,10 @@ add-count c = omega (arith, range c .horizon)
 enum-told : tie.Need-enum-told
 enum-told c = search needs
 
-slice-aggregate-put-accepted : tie.Need-slice-aggregate-put-accepted
-slice-aggregate-put-accepted c = sym (length-take-le _ _ (omega (arith, range (c .before .before .before) .enough-f)))
-
-slice-aggregate-put-accepted-2 : tie.Need-slice-aggregate-put-accepted-2
-slice-aggregate-put-accepted-2 c = sym (length-take-le _ _ (omega (arith, range (c .before .before .before .before) .enough-R)))
-
 put-accepted-requires : tie.Need-put-accepted-requires
-put-accepted-requires c κs = (given _ _ (range (c .before .before .before .before .before)), range (c .before .before .before .before .before) .enough-text)
+put-accepted-requires c κs =
+    let r = range (c .before .before .before) in
+    (given _ _ _ r, r .enough-text)
 
 enum-known-verdict : tie.Need-enum-known-verdict
 enum-known-verdict c = search needs
@@ -49,7 +44,7 @@ put-refusal-requires c κs = omega (arith, range (c .before .before .before .bef
 returns-2 : tie.Need-returns-2
 returns-2 c =
     let p = c .before .before in
-    let told = p .before .before .before .before in
+    let told = p .before .before in
     written-as _ (listing-accepted _ _ _ (test (told .before .before)) (told .enum-told .given .1)) (p .put-accepted .ensures)
 
 same-length : tie.Need-same-length
@@ -72,8 +67,6 @@ listing-spec =
     returns
     add-count
     enum-told
-    slice-aggregate-put-accepted
-    slice-aggregate-put-accepted-2
     put-accepted-requires
     enum-known-verdict
     put-refusal-requires

@@ -24,13 +24,20 @@ returns-3 c = simp (le-leb _ _ (c .before .before .if1 .left), lt-ltb _ _ (c .be
 
 returns-4 : tie.Need-returns-4
 unfolding printable
-returns-4 c = simp (le-leb _ _ (c .before .before .before .if1 .left), lt-ltb _ _ (c .before .before .if2 .left), lt-ltb _ _ (c .before .if3 .left), lt-leb _ _ (c .if4 .taken))
+returns-4 c = simp (le-leb _ _ (c .before .before .before .if1 .left), lt-ltb _ _ (c .before .before .if2 .left), lt-ltb _ _ (c .before .if3 .left), le-ltb _ _ (c .if4 .taken))
 
 returns-5 : tie.Need-returns-5
 unfolding printable
 returns-5 c =
     let d = c .before in
-    simp (le-leb _ _ (d .before .before .before .if1 .left), lt-ltb _ _ (d .before .before .if2 .left), lt-ltb _ _ (d .before .if3 .left), le-leb _ _ (d .if4 .left), lt-leb _ _ (c .if5 .taken))
+    simp (le-leb _ _ (d .before .before .before .if1 .left), lt-ltb _ _ (d .before .before .if2 .left), lt-ltb _ _ (d .before .if3 .left), lt-ltb _ _ (d .if4 .left), lt-leb _ _ (c .if5 .taken))
+
+returns-6 : tie.Need-returns-6
+unfolding printable
+returns-6 c =
+    let d = c .before in
+    let e = d .before in
+    simp (le-leb _ _ (e .before .before .before .if1 .left), lt-ltb _ _ (e .before .before .if2 .left), lt-ltb _ _ (e .before .if3 .left), lt-ltb _ _ (e .if4 .left), le-leb _ _ (d .if5 .left), lt-leb _ _ (c .if6 .taken))
 
 add-count : tie.Need-add-count
 add-count c = search needs
@@ -41,12 +48,13 @@ slice-aggregate-all-bounded c = sym (length-take-le _ _ (omega arith))
 all-bounded-requires : tie.Need-all-bounded-requires
 all-bounded-requires c κs = search needs
 
-returns-6 : tie.Need-returns-6
+returns-7 : tie.Need-returns-7
 unfolding printable
-returns-6 c =
+returns-7 c =
     let d = c .before .before in
-    let s = d .before .before .before .before .before .before in
-    simp (le-leb _ _ (d .before .before .before .before .if1 .left), lt-ltb _ _ (d .before .before .before .if2 .left), lt-ltb _ _ (d .before .before .if3 .left), le-leb _ _ (d .before .if4 .left), le-leb _ _ (d .if5 .left))
+    let e = d .before .before in
+    let s = e .before .before .before .before .before in
+    simp (le-leb _ _ (e .before .before .before .if1 .left), lt-ltb _ _ (e .before .before .if2 .left), lt-ltb _ _ (e .before .if3 .left), lt-ltb _ _ (e .if4 .left), le-leb _ _ (d .before .if5 .left), le-leb _ _ (d .if6 .left))
     (c .all-bounded .ensures ∙ ap (λ n. bounded (take n (s .args .r .now))) (add-one (s .args .horizon)))
 
 pub printable-spec : {M : Type 1} → statement M
@@ -58,7 +66,8 @@ printable-spec =
     returns-3
     returns-4
     returns-5
+    returns-6
     add-count
     slice-aggregate-all-bounded
     all-bounded-requires
-    returns-6)
+    returns-7)

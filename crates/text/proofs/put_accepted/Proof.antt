@@ -1,5 +1,4 @@
 -- `text::put_accepted` meets its contract: the head, the cells and the foot, which are within `room` together.
-use mathlib.Core.Path.{_∙_}
 use Prim.Native.Nat.{_≤_}
 use lib.ListN.{length}
 use native.Mathlib.Omega.{arith}
@@ -13,7 +12,7 @@ use Rattle.text.proofs.put_accepted.Tie as tie
 head-small : (s : tie.Start) → length (head (s .args .figures)) ≤ 58
 head-small s = head-size (s .args .figures) (search needs) (search needs)
 
-foot-small : (s : tie.Start) → length (foot (s .args .figures)) ≤ 85
+foot-small : (s : tie.Start) → length (foot (s .args .figures)) ≤ 84
 foot-small s = foot-size (s .args .figures) (search needs) (search needs) (search needs)
 
 put-head-requires : tie.Need-put-head-requires

@@ -1,71 +1,78 @@
--- `text::put_cells` meets its contract. The invariant: what is left to put is the lines of the cells from x on, and the lines
--- before them have at most 53 bytes each.
-use Prim.Native.Nat.{_≤_, _<_, _-_, _+_, _*_, _^_}
+-- `text::put_cells` meets its contract. The invariant: `bound` is the bound before x, what is left to put is the lines of the cells from x
+-- on, and the lines before them have at most 73 bytes each.
+use mathlib.Core.Path.{_≡_}
+use Prim.Native.Nat.{_≤_, _-_, _+_, _*_}
+use native.Mathlib.Nat.{sub-zero}
 use native.Mathlib.Omega.{arith}
-use lib.IntN.{pos}
-use lib.ListN.{length, getD, drop, drop-of-length-le}
-use mir.Syntax.{w64}
-use mir.Val.{SFits}
-use mir.Facts.{toZ-ofZ}
-use borrow.Author.Needs.{sfits-of}
+use lib.ListN.{getD}
+use borrow.Author.Needs.{needs, sfits-of}
+use Rattle.fund.specs.Base.{sum}
+use Rattle.fund.specs.Limits.{most-horizon, most-truncation, most-bound}
 use Rattle.fund.specs.Listing.{cellLines}
-use Rattle.text.specs.Pieces.{cellLine}
-use Rattle.text.proofs.Putting.{Left, left-all, left-step, left-none}
-use Rattle.text.proofs.Pieces.{cells-step, bounded-at}
+use Rattle.text.specs.Shown.{most-cell-line}
+use Rattle.text.proofs.Putting.{room-most, put-most, Left, left-all, left-step, left-none}
+use Rattle.text.proofs.Pieces.{cell-words, boundBefore, bound-step, cells-step, bounded-before, sum-most}
 use Rattle.text.proofs.Sizes.{cell-size}
 use Rattle.text.proofs.put_cells.Statement.{statement}
 use Rattle.text.proofs.put_cells.Tie as tie
 
 abbrev Inv-loop : tie.InvT-loop
-Inv-loop truncation f r text₀ at next₀ x₀ text next x =
-    (x ≤ length r) × (next ≤ at + 53 * x) × Left text₀ at (cellLines truncation 0 f r) text next (cellLines truncation x (drop x f) (drop x r))
+Inv-loop truncation f r sums count text₀ at cut bound₀ next₀ x₀ text bound next x =
+    (x ≤ count)
+    × (bound ≡ boundBefore truncation r x)
+    × (next ≤ at + most-cell-line * x)
+    × Left text₀ at (cellLines truncation f r sums 0 count) text next (cellLines truncation f r sums x (count - x))
 
 abbrev μ-loop : tie.MeasureT-loop
-μ-loop truncation f r text₀ at next₀ x₀ text next x = length r - x
+μ-loop truncation f r sums count text₀ at cut bound₀ next₀ x₀ text bound next x = count - x
 
--- In a turn: f(x) is a word, and the line has at most 53 bytes.
-sized : (c : tie.After-put-cell-arg Inv-loop μ-loop) → SFits w64 (getD (c .before .before .before .before .before .args .f .now) (c .before .before .loop .x) (pos 0))
-sized c = sfits-of (c .put-cell-arg .given)
+-- In a turn: the start, and the limits of R(x) and of the bound before x.
+abbrev start : tie.In-loop Inv-loop μ-loop → tie.Start Inv-loop μ-loop
+start c = c .before .before .before .before
 
-bounded : (c : tie.After-put-cell-arg Inv-loop μ-loop)
-    → let a = c .before .before .before .before .before .args in
-    getD (a .r .now) (c .before .before .loop .x) 0 + 2 * a .truncation < 2 ^ 64
-bounded c =
-    let s = c .before .before .before .before .before in
-    omega (arith, s .pre .0 .truncation, bounded-at (s .args .r .now) (c .before .before .loop .x) (s .pre .0 .bounds) (c .before .loop-test .taken))
+bounds : (c : tie.In-loop Inv-loop μ-loop) → (getD (start c .args .r .now) (c .before .loop .x) 0 ≤ most-bound) × (c .before .loop .bound ≤ most-bound * most-horizon + 2 * most-truncation)
+bounds c =
+    let s = start c in
+    let l = c .before .loop in (
+      bounded-before _ _ (s .pre .0 .bounds) (l .x) (c .loop-test .taken),
+      omega (arith, sum-most (s .args .count) (s .args .r .now) (s .pre .0 .bounds) (l .x) (l .inv .0)),
+    )
 
-size : (c : tie.After-put-cell-arg Inv-loop μ-loop)
-    → let a = c .before .before .before .before .before .args in
-    let x = c .before .before .loop .x in
-    length (cellLine x (getD (a .f .now) x (pos 0)) (getD (a .r .now) x 0 + 2 * a .truncation)) ≤ 53
-size c = cell-size _ _ _ (omega (arith, c .before .before .before .before .before .pre .0 .most)) (sized c) (bounded c)
+mul-cut : tie.Need-mul-cut Inv-loop μ-loop
+mul-cut c = omega arith
 
 loop-holds : tie.Need-loop-holds Inv-loop μ-loop
-loop-holds c = (omega arith, omega arith, left-all _ _ _)
+unfolding sum
+loop-holds c = (omega arith, omega arith, omega arith, rw sub-zero (left-all _ _ _))
+
+mul-cell-bound : tie.Need-mul-cell-bound Inv-loop μ-loop
+mul-cell-bound c = omega arith
+
+shared-slice-read-cell-bound : tie.Need-shared-slice-read-cell-bound Inv-loop μ-loop
+shared-slice-read-cell-bound c = omega arith
+
+add-within : tie.Need-add-within Inv-loop μ-loop
+add-within c = omega (arith, bounds (c .before))
+
+add-bound : tie.Need-add-bound Inv-loop μ-loop
+add-bound c = omega (arith, bounds (c .before))
 
 mul-put-cell : tie.Need-mul-put-cell Inv-loop μ-loop
 mul-put-cell c = omega arith
 
 shared-slice-copy-out-put-cell : tie.Need-shared-slice-copy-out-put-cell Inv-loop μ-loop
-shared-slice-copy-out-put-cell c = omega (arith, c .before .before .before .before .pre .0 .counts)
+shared-slice-copy-out-put-cell c = omega arith
 
 mul-put-cell-2 : tie.Need-mul-put-cell-2 Inv-loop μ-loop
 mul-put-cell-2 c = omega arith
 
-shared-slice-read-put-cell : tie.Need-shared-slice-read-put-cell Inv-loop μ-loop
-shared-slice-read-put-cell c = omega arith
-
-mul-put-cell-3 : tie.Need-mul-put-cell-3 Inv-loop μ-loop
-mul-put-cell-3 c = omega (arith, c .before .before .before .before .before .before .pre .0 .truncation)
-
-add-put-cell : tie.Need-add-put-cell Inv-loop μ-loop
-add-put-cell c = omega (arith, bounded (c .before))
+shared-slice-copy-out-put-cell-2 : tie.Need-shared-slice-copy-out-put-cell-2 Inv-loop μ-loop
+shared-slice-copy-out-put-cell-2 c = omega arith
 
 put-cell-requires : tie.Need-put-cell-requires Inv-loop μ-loop
 put-cell-requires c κs =
-    let a = c .before .before in
-    let l = a .before .before in
-    rw (toZ-ofZ (sized a)) (record { fits = omega (arith, size a, l .before .before .before .pre .1, l .loop .inv .2 .size) })
+    let b = bounds (c .before .before .before .before) in
+    room-most (cell-size _ _ _ _ _ (omega arith) (search needs) (omega arith) (search needs) (omega arith)) (omega arith)
 
 add-x : tie.Need-add-x Inv-loop μ-loop
 add-x c = omega arith
@@ -75,23 +82,29 @@ loop-less c = omega arith
 
 loop-again : tie.Need-loop-again Inv-loop μ-loop
 loop-again c =
-    let a = c .before .before .before .before .before in
-    let l = a .before .before in
-    let s = l .before .before .before in
-    let p = rw (toZ-ofZ (sized a)) at (c .before .before .put-cell .ensures) in
-    let step = cells-step (s .args .truncation) (l .loop .x) (s .args .f .now) (s .args .r .now) (omega (arith, s .pre .0 .counts)) (a .before .loop-test .taken) in
-    (omega arith, omega (arith, size a, p .behind), left-step _ _ (rw step at (l .loop .inv .2)) p)
+    let a = c .before .before .before .before in
+    let t = a .before .before .before in
+    let s = start t .args in
+    let l = t .before .loop in
+    let b = bounds t in
+    let p = c .before .before .put-cell .ensures in
+    let step = cells-step (s .truncation) (s .f .now) (s .r .now) (s .sums .now) (l .x) (s .count) (l .bound) (t .loop-test .taken) (l .inv .1) in (
+      omega arith,
+      omega (arith, bound-step (s .truncation) (s .r .now) (l .x)),
+      omega (arith, put-most p (cell-size _ _ _ _ _ (omega arith) (search needs) (omega arith) (search needs) (omega arith))),
+      left-step _ _ (rw step at (l .inv .3)) (cell-words _ _ _ _ _ (sfits-of (a .before .put-cell-arg .given)) (sfits-of (a .put-cell-arg2 .given)) p),
+    )
 
 same-length : tie.Need-same-length Inv-loop μ-loop
-same-length c = c .before .loop .inv .2 .size
+same-length c = c .before .loop .inv .3 .size
 
 returns : tie.Need-returns Inv-loop μ-loop
 unfolding cellLines
 returns c =
     let s = c .before .before .before .before in
     let l = c .before .loop in
-    let done : length (s .args .f .now) ≤ l .x = omega (arith, s .pre .0 .counts) in
-    (left-none (rw (drop-of-length-le (s .args .f .now) done) at (l .inv .2)), omega arith)
+    let done : s .args .count - l .x ≡ 0 = omega arith in
+    (left-none (rw done at (l .inv .3)), omega arith)
 
 pub put-cells-spec : {M : Type 1} → statement M
 put-cells-spec =
@@ -99,13 +112,16 @@ put-cells-spec =
     (tie.spec
     Inv-loop
     μ-loop
+    mul-cut
     loop-holds
+    mul-cell-bound
+    shared-slice-read-cell-bound
+    add-within
+    add-bound
     mul-put-cell
     shared-slice-copy-out-put-cell
     mul-put-cell-2
-    shared-slice-read-put-cell
-    mul-put-cell-3
-    add-put-cell
+    shared-slice-copy-out-put-cell-2
     put-cell-requires
     add-x
     loop-less

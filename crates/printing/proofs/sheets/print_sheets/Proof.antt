@@ -13,13 +13,13 @@ use Rattle.printing.proofs.sheets.print_sheets.Tie as tie
 returns : tie.Need-returns
 returns c =
     let listed = c .before .before in
-    let priced = listed .before .before .before .before .before .before .before .before .before .before in
+    let priced = listed .before .before .before .before .before .before .before .before .before .before .before in
     let a = priced .before .before .before .before .before .before .before .before .before .before .args in
     let p = priced .price-sheets in
     let l = listed .listing in
     let o = p .last .1 .1 .1 .1 in
-    let w = subst (λ (t : List ℕ). Written t (a .text .now) (l .last .1 .1 .1 .1 .1 .0) (l .result))
-    (shown-is (a .header .now) _ (sheet-ranges (a .header .now) (a .rates .now) (a .members .now)) 0 (p .result) (o .0) (o .1 .0) (o .1 .1 .0) (o .1 .1 .1 .0) (o .1 .1 .1 .1 .0) (p .ensures .answers) (p .kept .1 .1 .1 .1 .1 .1 .0 ∙ signed-length) (p .kept .1 .1 .1 .1 .1 .1 .1 .0 ∙ cells-length) (length (a .text .now)))
+    let w = subst (λ (t : List ℕ). Written t (a .text .now) (l .last .1 .1 .1 .1 .1 .1 .0) (l .result))
+    (shown-is (a .header .now) _ (sheet-ranges (a .header .now) (a .rates .now) (a .members .now)) 0 (p .result) (o .0) (o .1 .0) (o .1 .1 .0) (o .1 .1 .1 .0) (o .1 .1 .1 .1 .0) (p .ensures .answers) (p .kept .1 .1 .1 .1 .1 .1 .0 ∙ signed-length) (p .kept .1 .1 .1 .1 .1 .1 .1 .0 ∙ cells-length) (p .kept .1 .1 .1 .1 .1 .1 .1 .1 .0 ∙ signed-length) (length (a .text .now)))
     (l .ensures) in
     (w, written-within w)
 
@@ -28,4 +28,4 @@ print-sheets-spec =
     tie.close
     (tie.spec (λ c. search needs) (λ c. search needs) (λ c. search needs)
     (λ c. search needs) (λ c. search needs) (λ c κs. search needs) (λ c. search needs)
-    (λ c. search needs) (λ c κs. search needs) (λ c. search needs) returns)
+    (λ c. search needs) (λ c. search needs) (λ c κs. search needs) (λ c. search needs) returns)
