@@ -1,16 +1,16 @@
 -- The lines of a listing as the pieces that are put one behind the other, and the test of the bounds R(x): as a fact of each
--- (bounded-at, all-bounded), one by one, and as a fact of their sums (sum-most).
-use mathlib.Core.Path.{_≡_, refl, ap, _∙_}
+-- (bounded-at), one by one, and as a fact of their sums (sum-most).
+use mathlib.Core.Path.{_≡_, refl, ap}
 use mathlib.Core.Bool.{Bool, true, false, _&&_}
-use mathlib.Core.List.{List, [], _∷_, _++_}
-use Prim.Native.Nat.{ℕ, zero, suc, _+_, _-_, _*_, _≤_, _<_, zero-le, suc-le-suc}
+use mathlib.Core.List.{List, [], _∷_, _++_, append-assoc}
+use Prim.Native.Nat.{ℕ, zero, suc, _+_, _-_, _*_, _≤_, _<_}
 use native.Mathlib.Numerals.{add-one}
 use native.Mathlib.Omega.{arith}
 use borrow.Author.Tests.{leb-true, le-leb, lt-leb}
 use lib.Dec.{leb}
 use lib.IntN.{ℤ, pos}
 use lib.ListN.{length, getD, take, drop}
-use lib.Seq.{append-snoc, drop-cons, getD-take}
+use lib.Seq.{drop-cons, getD-take}
 use mir.Syntax.{w64}
 use mir.Val.{SFits, toZ, ofZ}
 use mir.Facts.{toZ-ofZ}
@@ -19,16 +19,15 @@ use Rattle.fund.specs.Base.{sum, bytes}
 use Rattle.fund.specs.Limits.{most-bound}
 use Rattle.fund.specs.Refusals.{numberOf}
 use Rattle.fund.specs.Distribution.{distributionBound}
-use Rattle.fund.specs.Listing.{decimal, signedDecimal, joined, cellLine, cellLines, refusedLine}
+use Rattle.fund.specs.Listing.{decimal, joined, cellLine, cellLines, refusedLine}
 use Rattle.text.specs.Writing.{Put}
 use Rattle.text.specs.Shown.{bounded}
-use Rattle.text.specs.Pieces.{cellText}
+use Rattle.text.specs.Pieces.{boundedText, cellText}
 
 pub cell-pieces : (x : ℕ) (f : ℤ) (within : ℕ) (F : ℤ) (bound : ℕ)
-    → cellText x f within F bound
-    ≡ bytes "cell=" ++ ((decimal x ++ (44 ∷ [])) ++ ((signedDecimal f ++ (44 ∷ [])) ++ ((decimal within ++ (44 ∷ [])) ++ ((signedDecimal F ++ (44 ∷ [])) ++ (decimal bound ++ (10 ∷ []))))))
-unfolding cellText joined
-cell-pieces x f within F bound = simp append-snoc
+    → cellText x f within F bound ≡ bytes "cell=" ++ ((decimal x ++ (44 ∷ [])) ++ (boundedText f within 44 ++ boundedText F bound 10))
+unfolding cellText boundedText joined
+cell-pieces x f within F bound = simp append-assoc
 
 -- The code holds f and F as words.
 pub cell-words : {text : List ℕ} {at : ℕ} (x : ℕ) (f : ℤ) (within : ℕ) (F : ℤ) (bound : ℕ) {after : List ℕ} {next : ℕ} → SFits w64 f → SFits w64 F
@@ -38,7 +37,7 @@ cell-words x f within F bound g G p = rw (toZ-ofZ g, toZ-ofZ G) at p
 pub refusal-pieces : (why : Refusal) (place n : ℕ) → n ≡ numberOf why
     → refusedLine why place ≡ bytes "refused=" ++ ((decimal n ++ (44 ∷ [])) ++ (decimal place ++ (10 ∷ [])))
 unfolding refusedLine joined
-refusal-pieces why place n e = rw e (simp append-snoc)
+refusal-pieces why place n e = rw e (simp append-assoc)
 
 -- The bound of the distribution function before x: 2×E, and R of each cell before.
 abbrev pub boundBefore : ℕ → List ℕ → ℕ → ℕ
@@ -68,12 +67,6 @@ unfolding bounded
 bounded-at [] x e = omega arith
 bounded-at (y ∷ R) zero e = leb-true y most-bound (and-left (leb y most-bound) (bounded R) e)
 bounded-at (y ∷ R) (suc x) e = bounded-at R x (and-right (leb y most-bound) (bounded R) e)
-
-pub all-bounded : (R : List ℕ) → ((x : ℕ) → x < length R → getD R x 0 ≤ most-bound) → bounded R ≡ true
-unfolding bounded
-all-bounded [] h = refl
-all-bounded (y ∷ R) h =
-    ap (λ b. b && bounded R) (le-leb y most-bound (h 0 (suc-le-suc zero-le))) ∙ all-bounded R (λ x l. h (suc x) (suc-le-suc l))
 
 pub bounded-step : (R : List ℕ) (x : ℕ) → x < length R → getD R x 0 ≤ most-bound → bounded (drop x R) ≡ bounded (drop (x + 1) R)
 unfolding bounded

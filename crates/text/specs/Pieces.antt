@@ -11,6 +11,10 @@ use Rattle.fund.specs.Limits.{most-horizon, most-truncation}
 use Rattle.fund.specs.Listing.{decimal, signedDecimal, joined, cellLines}
 use Rattle.text.specs.Shown.{bounded}
 
+-- A figure and its bound, and the byte behind them.
+unfoldable pub boundedText : ℤ → ℕ → ℕ → List ℕ
+boundedText z bound end = (signedDecimal z ++ (44 ∷ [])) ++ (decimal bound ++ (end ∷ []))
+
 -- The line of a cell, from its figures.
 unfoldable pub cellText : ℕ → ℤ → ℕ → ℤ → ℕ → List ℕ
 cellText x f within F bound = bytes "cell=" ++ joined (decimal x) (signedDecimal f ∷ decimal within ∷ signedDecimal F ∷ decimal bound ∷ [])

@@ -11,7 +11,7 @@ ghost use Prim.Native.Nat.{_+_, _*_, _<_, _≤_};
 ghost use lib.ListN.{length};
 ghost use Rattle.fund.specs.Listing.{decimal, signedDecimal, joined, cellLines, refusedLine};
 ghost use Rattle.text.specs.Writing.{HasRoom, Put, Written};
-ghost use Rattle.text.specs.Pieces.{cellText, head, premiumLines, foot, acceptedLines, PrintableCells};
+ghost use Rattle.text.specs.Pieces.{boundedText, cellText, head, premiumLines, foot, acceptedLines, PrintableCells};
 ghost use Rattle.text.specs.Shown.{most-cell-line, room, shownAnswer, bounded, printable, listingOf};
 ghost use Rattle.text.specs.Level.{quantileLine, level-room, levelLineOf};
 
@@ -152,6 +152,15 @@ fn put_line(key: &[u8], n: u64, text: &mut [u8], at: usize) -> usize
     put_figure(n, b'\n', text, figure)
 }
 
+// Writes a figure that may be negative, its bound behind a comma, and the byte behind both.
+fn put_bounded(z: i64, bound: u64, end: u8, text: &mut [u8], at: usize) -> usize
+    requires { ⌜ HasRoom (now text) at (boundedText z bound end) ⌝ }
+    ensures { λ next. ⌜ Put (now (text .entry)) at (boundedText z bound end) (now (text .exit)) next ⌝ }
+{
+    let bound_at = put_signed_figure(z, b',', text, at);
+    put_figure(bound, end, text, bound_at)
+}
+
 // Writes the line of a cell: x, f(x) and its bound, F(x) and its bound.
 fn put_cell(x: u64, f: i64, within: u64, sum: i64, bound: u64, text: &mut [u8], at: usize) -> usize
     requires { ⌜ HasRoom (now text) at (cellText x f within sum bound) ⌝ }
@@ -159,10 +168,8 @@ fn put_cell(x: u64, f: i64, within: u64, sum: i64, bound: u64, text: &mut [u8], 
 {
     let x_at = put_key(b"cell=", text, at);
     let f_at = put_figure(x, b',', text, x_at);
-    let within_at = put_signed_figure(f, b',', text, f_at);
-    let sum_at = put_figure(within, b',', text, within_at);
-    let bound_at = put_signed_figure(sum, b',', text, sum_at);
-    put_figure(bound, b'\n', text, bound_at)
+    let sum_at = put_bounded(f, within, b',', text, f_at);
+    put_bounded(sum, bound, b'\n', text, sum_at)
 }
 
 // Writes the lines of so many cells, from x = 0 on. The bound of F(x) is R(0) + .. + R(x) + 2×E: each cell adds its R.
