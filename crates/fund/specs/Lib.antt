@@ -18,6 +18,7 @@ pub mod Sheets
 pub mod Exact
 pub mod Distance
 pub mod Starred
+pub mod Distributions
 pub mod SheetFunds
 pub mod Levels
 pub mod Tariffs

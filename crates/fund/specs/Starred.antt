@@ -1,6 +1,6 @@
 -- Document 01's starred funds: each file with what the program prints for it, and the bounds R(0), R(1), .. that the
 -- document states, whether or not the fund is accepted. Then rows for wrong turns that these funds would not show, rows for rates that are
--- printed for some ages only, rows for the line of the worth, for the line of the frequencies, and for the bound of the distribution function.
+-- printed for some ages only, rows for the line of the worth, and rows for the line of the frequencies.
 use mathlib.Core.List.{List, [], _∷_, _++_, map}
 use Prim.Native.Nat.{ℕ}
 use Prim.Native.String.{String}
@@ -282,21 +282,4 @@ frequencies =
     ∷ refusedAt "frequency=1000,1000,1000" "refused=1,5"
     ∷ refusedAt "frequency=1000," "refused=1,5"
     ∷ refusedAt "frequency=5001,10000000" "refused=1,5"
-    ∷ []
-
--- Document 02, §7: an accepted fund and its figures. The first fund tells the cut counted at each cell, the bound of the last cell alone and F of another place
--- apart, the fund with f(6) = -1 an F that may only rise.
-unfoldable pub listedAt : String → String → List String → List String → List ℕ → StarredRow
-listedAt horizon deductible rows listed bounds = record { file = file horizon "order=12" deductible rows; listing = text listed; bounds = bounds }
-
-unfoldable pub distributions : List StarredRow
-distributions =
-    -- F ends 2 units above 10^12.
-    listedAt "horizon=2" "deductible=0" ("rate=40,120,0" ∷ "member=40,1,1,0" ∷ "member=40,1,1,0" ∷ "end=2" ∷ [])
-    ("truncation=2" ∷ "mean=240000000" ∷ "cell=0,999760014400,6,999760014400,6" ∷ "cell=1,239971201,8,999999985601,10" ∷ "cell=2,14401,9,1000000000002,15" ∷ "premium=240000000" ∷ "within=0" ∷ "gross=1" ∷ [])
-    (2 ∷ 4 ∷ 5 ∷ [])
-    -- One cell.
-    ∷ listedAt "horizon=0" "deductible=1" ("rate=40,100000,100000" ∷ "member=40,1,5,1" ∷ "end=1" ∷ [])
-    ("truncation=1529" ∷ "mean=600000000000" ∷ "cell=0,800000000000,3059,800000000000,3059" ∷ "premium=400000000000" ∷ "within=3059" ∷ "gross=61" ∷ [])
-    (1 ∷ [])
     ∷ []
