@@ -74,8 +74,8 @@ abbrev pub sumBound : FundFile → Received → ℕ → ℕ
 sumBound fund o x = fileDenominator fund * (sum (x + 1) (λ y. getD (o .R) y 0) + 2 * o .figures .truncation)
 
 -- Demand 3, of a fund that is accepted: a fund was read; each f(x) that the host has is within R(x) + 2×E of 10^12 times the
--- exact value at x; up to each x these distances add to at most R(0) + .. + R(x) + 2×E, and F(x) is so near to 10^12 times the exact distribution function
--- at x; and the premium is within its bound of the exact premium; all times document 01's denominator. And the gross premium is
+-- exact value at x; up to each x these distances add to at most R(0) + .. + R(x) + 2×E, and F(x) is within the same bound of 10^12 times the exact
+-- distribution function at x; and the premium is within its bound of the exact premium; all times document 01's denominator. And the gross premium is
 -- never below the exact premium's loaded worth, both times 10^15 and the denominator.
 pub record Close (r : Reading) (o : Received) : Type 0 where
   pub fund : FundFile
