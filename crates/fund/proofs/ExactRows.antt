@@ -7,8 +7,8 @@ use lib.IntN.{ℤ, pos, _*ℤ_}
 use Rattle.fund.specs.Base.{bytes, total, sum, sumℤ, table}
 use Rattle.fund.specs.Lines.{begun, linesFrom, lines}
 use Rattle.fund.specs.Spelling.{digits, isNumber, valueFrom, value, inFirst, fields, allNumbers, numbers, behind, spelled}
-use Rattle.fund.specs.Reading.{FundFile, Reading, read, stopped, between, inRanges, headerLines, headerOf, rowOf, rising, rateInRange, memberInRange, noMember, atEnd, readRows, readHeader, reading}
-use Rattle.fund.specs.Folding.{heldUntil, rateInForce, folded, life, lives}
+use Rattle.fund.specs.Reading.{FundFile, Reading, read, stopped, between, inRanges, headerLines, headerOf, rowOf, rising, rateInRange, livesInAll, memberInRange, noMember, atEnd, readRows, readHeader, reading}
+use Rattle.fund.specs.Folding.{heldUntil, rateInForce, folded, life, point, points, copies, lives}
 use Rattle.fund.specs.Transform.{deathWeight, disabilityWeight, lambda, mean}
 use Rattle.fund.specs.Exact.{factorial, singles, denominator, shifted, one, singlePart, weightAt, convolved, fold, series, replacedPart, power, exponential, exact, exactPremium, after, outcomes, excess}
 use Rattle.fund.specs.Starred.{text}
@@ -41,5 +41,5 @@ stated (read file) r =
     ∷ map (λ (v : Fraction). pos (v .num * 10 ^ (6 * singles (lives file)))) (r .average))
 
 pub every-exact-row : map (λ (r : ExactRow). computed (reading (r .file)) r) exactRows ≡ map (λ (r : ExactRow). stated (reading (r .file)) r) exactRows
-unfolding bytes total sum sumℤ table begun linesFrom lines digits isNumber valueFrom value inFirst fields allNumbers numbers behind spelled between inRanges headerLines headerOf rowOf rising rateInRange memberInRange noMember atEnd readRows readHeader reading heldUntil rateInForce folded life lives deathWeight disabilityWeight lambda mean factorial singles denominator shifted one singlePart weightAt convolved fold series replacedPart power exponential exact exactPremium after outcomes excess text exactRows
+unfolding bytes total sum sumℤ table begun linesFrom lines digits isNumber valueFrom value inFirst fields allNumbers numbers behind spelled between inRanges headerLines headerOf rowOf rising rateInRange livesInAll memberInRange noMember atEnd readRows readHeader reading heldUntil rateInForce folded life point points copies lives deathWeight disabilityWeight lambda mean factorial singles denominator shifted one singlePart weightAt convolved fold series replacedPart power exponential exact exactPremium after outcomes excess text exactRows
 every-exact-row = refl

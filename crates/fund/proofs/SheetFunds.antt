@@ -7,13 +7,13 @@ use Rattle.rounding.specs.Rounding.{near, nearest, up}
 use Rattle.fund.specs.Base.{bytes, total, sum, sumℤ, table, alternate}
 use Rattle.fund.specs.Lines.{begun, linesFrom, lines}
 use Rattle.fund.specs.Spelling.{digits, isNumber, valueFrom, value, inFirst, fields, allNumbers, numbers, behind, spelled}
-use Rattle.fund.specs.Reading.{between, inRanges, headerLines, headerOf, rising, rateInRange, memberInRange, readHeader}
-use Rattle.fund.specs.Folding.{heldUntil, rateInForce, folded, life, lives}
+use Rattle.fund.specs.Reading.{between, inRanges, headerLines, headerOf, rising, rateInRange, livesInAll, memberInRange, readHeader}
+use Rattle.fund.specs.Folding.{heldUntil, rateInForce, folded, life, point, points, copies, lives}
 use Rattle.fund.specs.Transform.{unit, nextRow, row, placed, termOf, rowTerms, singleTerms, deathWeight, disabilityWeight, replacedTerm, replacedTerms, terms, sumD, sumH, D, H, lambda, load, w, truncation, mean}
 use Rattle.fund.specs.Recursion.{t, alternating, multiplied, start, c, startBound, entries, sumR, sumF, nextCell, cells}
 use Rattle.fund.specs.Premium.{sumBelow, boundBelow, premium, within}
 use Rattle.fund.specs.Tariff.{loading, withBound, gross}
-use Rattle.fund.specs.Refusals.{first, unmatched, half, wide, anyShort, short, refuse, at0, firstMember, valued, matched, verdict}
+use Rattle.fund.specs.Refusals.{first, unmatched, half, halfLine, wide, anyShort, short, refuse, at0, firstMember, valued, matched, verdict}
 use Rattle.fund.specs.Quantile.{runningSum}
 use Rattle.fund.specs.Distribution.{distributionBound}
 use Rattle.fund.specs.Answer.{fundTerms, fundStart, fundCells, fundTruncation, fundMean, fundPremium, fundWithin, fundFigures, lineAt, part, refused, lent, accepted, answerOf, answerTo}
@@ -34,7 +34,7 @@ given s =
     }
 
 pub every-sheet : map given sheetFunds ≡ sheetFunds
-unfolding near nearest up bytes total sum sumℤ table alternate begun linesFrom lines digits isNumber valueFrom value inFirst fields allNumbers numbers behind spelled between inRanges headerLines headerOf rising rateInRange memberInRange readHeader heldUntil rateInForce folded life lives unit nextRow row placed termOf rowTerms singleTerms deathWeight disabilityWeight replacedTerm replacedTerms terms sumD sumH D H lambda load w truncation mean t alternating multiplied start c startBound entries sumR sumF nextCell cells sumBelow boundBelow premium within loading withBound gross first unmatched half wide anyShort short refuse at0 firstMember valued matched verdict runningSum distributionBound fundTerms fundStart fundCells fundTruncation fundMean fundPremium fundWithin fundFigures lineAt part refused lent accepted answerOf answerTo digitsWithin decimal signedDecimal joined cellLine cellLines listed refusedLine printed horizonIn listingTo text readSheetRows readSheets headerText sheetFunds
+unfolding near nearest up bytes total sum sumℤ table alternate begun linesFrom lines digits isNumber valueFrom value inFirst fields allNumbers numbers behind spelled between inRanges headerLines headerOf rising rateInRange livesInAll memberInRange readHeader heldUntil rateInForce folded life point points copies lives unit nextRow row placed termOf rowTerms singleTerms deathWeight disabilityWeight replacedTerm replacedTerms terms sumD sumH D H lambda load w truncation mean t alternating multiplied start c startBound entries sumR sumF nextCell cells sumBelow boundBelow premium within loading withBound gross first unmatched half halfLine wide anyShort short refuse at0 firstMember valued matched verdict runningSum distributionBound fundTerms fundStart fundCells fundTruncation fundMean fundPremium fundWithin fundFigures lineAt part refused lent accepted answerOf answerTo digitsWithin decimal signedDecimal joined cellLine cellLines listed refusedLine printed horizonIn listingTo text readSheetRows readSheets headerText sheetFunds
 every-sheet = refl
 
 pub every-row-of-bytes : map (λ (r : RowBytes). record { bytes = r .bytes; row = memberRowOf (r .bytes) }) memberBytes ≡ memberBytes

@@ -14,7 +14,7 @@ use Rattle.fund.specs.declared.SheetRow.{SheetRow}
 use Rattle.fund.specs.declared.SheetRow.the-variants.{Rate as RateRow, Member as MemberRow, NotTaken}
 use Rattle.fund.specs.declared.Taken.{Taken}
 use Rattle.fund.specs.declared.Taken.the-variants.{As, Not}
-use Rattle.fund.specs.Limits.{most-age, most-rate, least-group, most-group, most-amount}
+use Rattle.fund.specs.Limits.{most-age, most-rate, least-group, most-group, most-amount, least-lives, most-lives}
 use Rattle.fund.specs.Base.{if_then_else_}
 
 -- "eight bytes each, least byte first"
@@ -82,17 +82,19 @@ rateJoined (As age) (As q) Not = NotTaken
 rateJoined (As age) Not i = NotTaken
 rateJoined Not q i = NotTaken
 
-unfoldable pub memberJoined : Taken → Taken → Taken → Taken → SheetRow
-memberJoined (As age) (As group) (As d) (As e) = MemberRow (record { age = age; group = group; d = d; e = e })
-memberJoined (As age) (As group) (As d) Not = NotTaken
-memberJoined (As age) (As group) Not e = NotTaken
-memberJoined (As age) Not d e = NotTaken
-memberJoined Not group d e = NotTaken
+unfoldable pub memberJoined : Taken → Taken → Taken → Taken → Taken → SheetRow
+memberJoined (As age) (As group) (As d) (As e) (As lives) = MemberRow (record { age = age; group = group; d = d; e = e; lives = lives })
+memberJoined (As age) (As group) (As d) (As e) Not = NotTaken
+memberJoined (As age) (As group) (As d) Not lives = NotTaken
+memberJoined (As age) (As group) Not e lives = NotTaken
+memberJoined (As age) Not d e lives = NotTaken
+memberJoined Not group d e lives = NotTaken
 
 -- "The rates come as rows of three (age, q, i), the age as above"
 abbrev pub rateTaken : RateFloats → SheetRow
 rateTaken r = rateJoined (numberOf 0 most-age (cellOf (r .age))) (rateIn (cellOf (r .q))) (rateIn (cellOf (r .i)))
 
+-- Document 02, §8, of the lives: "as a fifth cell that may not be blank".
 abbrev pub memberTaken : MemberFloats → SheetRow
 memberTaken r =
     memberJoined
@@ -100,20 +102,21 @@ memberTaken r =
     (numberOf least-group most-group (cellOf (r .group)))
     (amountOf (cellOf (r .d)))
     (amountOf (cellOf (r .e)))
+    (numberOf least-lives most-lives (cellOf (r .lives)))
 
--- "Each row is read as a record of four such floats before it is turned into a member."
+-- "Each row is read as a record of [..] such floats before it is turned into a member": of five since §8.
 abbrev pub rateFloats : List ℕ → RateFloats
 rateFloats row = record { age = floatAt row 0; q = floatAt row 8; i = floatAt row 16 }
 
 abbrev pub memberFloats : List ℕ → MemberFloats
-memberFloats row = record { age = floatAt row 0; group = floatAt row 8; d = floatAt row 16; e = floatAt row 24 }
+memberFloats row = record { age = floatAt row 0; group = floatAt row 8; d = floatAt row 16; e = floatAt row 24; lives = floatAt row 32 }
 
--- The bytes of a row: three cells and four. A row of fewer is cut short.
+-- The bytes of a row: three cells and five. A row of fewer is cut short.
 abbrev pub rate-width : ℕ
 rate-width = 24
 
 abbrev pub member-width : ℕ
-member-width = 32
+member-width = 40
 
 unfoldable pub rateRowOf : List ℕ → SheetRow
 rateRowOf row = if eqb (length row) rate-width then rateTaken (rateFloats row) else NotTaken

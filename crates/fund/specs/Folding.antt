@@ -1,12 +1,14 @@
--- From member rows to lives: the rate in force at an age, and folding.
+-- From member rows to lives: the rate in force at an age, folding, and the copies of a line.
 use mathlib.Core.Bool.{Bool}
-use mathlib.Core.List.{List, [], _∷_, map}
+use mathlib.Core.List.{List, [], _∷_, _++_, map}
 use mathlib.Core.Option.{Option, none, some}
 use Prim.Native.Nat.{ℕ, _+_, _-_}
 use lib.Dec.{eqb, leb}
+use lib.ListN.{replicate}
 use Rattle.fund.specs.declared.Rate.{Rate}
 use Rattle.fund.specs.declared.Member.{Member}
 use Rattle.fund.specs.declared.Life.{Life}
+use Rattle.fund.specs.declared.ModelPoint.{ModelPoint}
 use Rattle.fund.specs.Base.{if_then_else_}
 use Rattle.fund.specs.Reading.{FundFile}
 
@@ -35,8 +37,20 @@ folded (some r) m =
 unfoldable pub life : List Rate → Member → Life
 life rates m = folded (rateInForce rates (m .age)) m
 
+-- A member line: what each of its lives is, and how many there are.
+unfoldable pub point : List Rate → Member → ModelPoint
+point rates m = record { life = life rates m; lives = m .lives }
+
+unfoldable pub points : FundFile → List ModelPoint
+points file = map (point (file .rates)) (file .members)
+
+-- Document 02, §8: "A line is priced exactly as that many copies of itself in that spot, and the exact values count it so."
+unfoldable pub copies : List ModelPoint → List Life
+copies [] = []
+copies (p ∷ ps) = replicate (p .lives) (p .life) ++ copies ps
+
 unfoldable pub lives : FundFile → List Life
-lives file = map (life (file .rates)) (file .members)
+lives file = copies (points file)
 
 -- q + i, and "p = 1,000,000 - q - i", in millionths.
 abbrev pub claim : Life → ℕ

@@ -27,7 +27,7 @@ firstFund level answer =
 abbrev pub passingFund : ℕ → Quantile → LevelRow
 passingFund level answer =
     record {
-      file = file "horizon=2" "order=12" "deductible=0" ("rate=40,120,0" ∷ "member=40,1,1,0" ∷ "member=40,1,1,0" ∷ "end=2" ∷ []);
+      file = file "horizon=2" "order=12" "deductible=0" ("rate=40,120,0" ∷ "member=40,1,1,0,1" ∷ "member=40,1,1,0,1" ∷ "end=2" ∷ []);
       sums = pos 999760014400 ∷ pos 999999985601 ∷ pos 1000000000002 ∷ [];
       level = level;
       quantile = answer;
@@ -37,7 +37,7 @@ passingFund level answer =
 abbrev pub fallingFund : ℕ → Quantile → LevelRow
 fallingFund level answer =
     record {
-      file = file "horizon=6" "order=12" "deductible=2" ("rate=40,1530,1421" ∷ "member=40,1,2,3" ∷ "end=1" ∷ []);
+      file = file "horizon=6" "order=12" "deductible=2" ("rate=40,1530,1421" ∷ "member=40,1,2,3,1" ∷ "end=1" ∷ []);
       sums =
           pos 997049000000
           ∷ pos 997049000000

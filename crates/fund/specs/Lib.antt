@@ -19,6 +19,7 @@ pub mod Exact
 pub mod Distance
 pub mod Starred
 pub mod Distributions
+pub mod SeveralLives
 pub mod SheetFunds
 pub mod Levels
 pub mod Tariffs

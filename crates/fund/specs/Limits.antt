@@ -43,7 +43,7 @@ most-age = 120
 abbrev pub most-rate : ℕ
 most-rate = 1000000
 
--- 0 to 1,000 lines `member=age,group,d,e`: group 1 or 2; d and e 0 to 65,535.
+-- 0 to 1,000 lines `member=age,group,d,e,lives`: group 1 or 2; d and e 0 to 65,535.
 abbrev pub most-members : ℕ
 most-members = 1000
 
@@ -55,6 +55,13 @@ most-group = 2
 
 abbrev pub most-amount : ℕ
 most-amount = 65535
+
+-- Document 02, §8: "lives, 1 to 1,000; lives in all are at most 1,000".
+abbrev pub least-lives : ℕ
+least-lives = 1
+
+abbrev pub most-lives : ℕ
+most-lives = 1000
 
 -- Where pricing stops: 6, 7, 8 and 10.
 abbrev pub half-rate : ℕ
@@ -114,6 +121,8 @@ limits =
       «least_group» = least-group;
       «most_group» = most-group;
       «most_amount» = most-amount;
+      «least_lives» = least-lives;
+      «most_lives» = most-lives;
       half = half-rate;
       «most_load» = most-load;
       «most_truncation» = most-truncation;

@@ -10,8 +10,8 @@ use Rattle.fund.specs.declared.Rate.{Rate}
 use Rattle.fund.specs.declared.Member.{Member}
 use Rattle.fund.specs.declared.Refusal.{Refusal}
 use Rattle.fund.specs.declared.Refusal.the-variants.{Form, Range}
-use Rattle.fund.specs.Limits.{least-edition, most-edition, most-horizon, least-order, most-order, most-frequency, most-deductible, least-worth, most-worth, most-rates, most-age, most-rate, most-members, least-group, most-group, most-amount}
-use Rattle.fund.specs.Base.{bytes}
+use Rattle.fund.specs.Limits.{least-edition, most-edition, most-horizon, least-order, most-order, most-frequency, most-deductible, least-worth, most-worth, most-rates, most-age, most-rate, most-members, least-group, most-group, most-amount, least-lives, most-lives}
+use Rattle.fund.specs.Base.{total, bytes}
 use Rattle.fund.specs.Lines.{Line, lines}
 use Rattle.fund.specs.Spelling.{spelled}
 
@@ -71,7 +71,8 @@ headerOf ns =
       worth = getD ns 7 0;
     }
 
--- The line of a row: `rate=age,q,i`, `member=age,group,d,e`, `end=` a number, or none of these.
+-- The line of a row: `rate=age,q,i`, `member=age,group,d,e,lives`, `end=` a number, or none of these. Document 02, §8: "A member line gains a
+-- last number, lives".
 pub data Row : Type 0 where
   rateRow : Rate → Row
   memberRow : Member → Row
@@ -83,8 +84,8 @@ rowOf line =
     elim (spelled (bytes "rate=") 3 line) [
       | some ns ↦ rateRow (record { age = getD ns 0 0; q = getD ns 1 0; i = getD ns 2 0 })
       | none ↦
-          elim (spelled (bytes "member=") 4 line) [
-            | some ns ↦ memberRow (record { age = getD ns 0 0; group = getD ns 1 0; d = getD ns 2 0; e = getD ns 3 0 })
+          elim (spelled (bytes "member=") 5 line) [
+            | some ns ↦ memberRow (record { age = getD ns 0 0; group = getD ns 1 0; d = getD ns 2 0; e = getD ns 3 0; lives = getD ns 4 0 })
             | none ↦ elim (spelled (bytes "end=") 1 line) [ some ns ↦ endRow (getD ns 0 0) | none ↦ otherRow ]
           ]
     ]
@@ -105,7 +106,12 @@ rateInRange before r =
     && leb (r .i) most-rate
     && leb (r .q + r .i) most-rate
 
--- "age 0 to 120; group 1 or 2; d and e 0 to 65,535", and at most 1,000 lines.
+-- The lives of member lines together.
+unfoldable pub livesInAll : List Member → ℕ
+livesInAll ms = total (λ (m : Member). m .lives) ms
+
+-- "age 0 to 120; group 1 or 2; d and e 0 to 65,535", and at most 1,000 lines. Document 02, §8: "lives, 1 to 1,000; lives in all are at most
+-- 1,000, else range (2) at the line that passes it".
 unfoldable pub memberInRange : List Member → Member → Bool
 memberInRange before m =
     ltb (length before) most-members
@@ -113,6 +119,8 @@ memberInRange before m =
     && between least-group most-group (m .group)
     && leb (m .d) most-amount
     && leb (m .e) most-amount
+    && between least-lives most-lives (m .lives)
+    && leb (livesInAll before + m .lives) most-lives
 
 unfoldable pub noMember : List Member → Bool
 noMember [] = true

@@ -9,6 +9,7 @@ use Rattle.fund.specs.declared.Fund.{Fund}
 use Rattle.fund.specs.declared.Rate.{Rate}
 use Rattle.fund.specs.declared.Member.{Member}
 use Rattle.fund.specs.declared.Life.{Life}
+use Rattle.fund.specs.declared.ModelPoint.{ModelPoint}
 use Rattle.fund.specs.declared.Refusal.{Refusal}
 use Rattle.fund.specs.declared.Refusal.the-variants.{Form, Range, Edition, Deductible, Unmatched, Half, Load, Order, Short, Wide, Cell as CellRefusal}
 use Rattle.fund.specs.declared.Verdict.{Verdict}
@@ -16,7 +17,7 @@ use Rattle.fund.specs.declared.Verdict.the-variants.{Accepted, Refused}
 use Rattle.fund.specs.Limits.{half-rate, most-load, most-truncation, most-bound}
 use Rattle.fund.specs.Base.{if_then_else_}
 use Rattle.fund.specs.Reading.{FundFile, headerLines}
-use Rattle.fund.specs.Folding.{rateInForce, lives, claim, single}
+use Rattle.fund.specs.Folding.{rateInForce, points, lives, claim, single}
 use Rattle.fund.specs.Transform.{load, truncation}
 use Rattle.fund.specs.Recursion.{Cell}
 
@@ -56,6 +57,10 @@ unmatched rates m = elim (rateInForce rates (m .age)) [ none ↦ true | some r �
 -- 6: "group 1, q + i at least 500,000 after folding"
 unfoldable pub half : Life → Bool
 half m = single m && leb half-rate (claim m)
+
+-- The lives of a line are alike, and the place is the line's.
+unfoldable pub halfLine : ModelPoint → Bool
+halfLine p = half (p .life)
 
 -- 10: "some R(x) above 250,000 units"
 unfoldable pub wide : Cell → Bool
@@ -106,7 +111,7 @@ matched file after =
     refuse Edition (at0 (not (eqb (fund .rates) (fund .members))))
     (refuse Deductible (at0 (ltb (suc (fund .horizon)) (fund .deductible)))
     (refuse Unmatched (first (unmatched (file .rates)) (firstMember file) (file .members))
-    (refuse Half (first half (firstMember file) (lives file)) after)))
+    (refuse Half (first halfLine (firstMember file) (points file)) after)))
 
 -- 3 to 10.
 unfoldable pub verdict : FundFile → Lengths → List Cell → Verdict

@@ -57,7 +57,7 @@ unfoldable pub rateText : Rate → List ℕ
 rateText r = bytes "rate=" ++ joined (decimal (r .age)) (decimal (r .q) ∷ decimal (r .i) ∷ [])
 
 unfoldable pub memberText : Member → List ℕ
-memberText m = bytes "member=" ++ joined (decimal (m .age)) (decimal (m .group) ∷ decimal (m .d) ∷ decimal (m .e) ∷ [])
+memberText m = bytes "member=" ++ joined (decimal (m .age)) (decimal (m .group) ∷ decimal (m .d) ∷ decimal (m .e) ∷ decimal (m .lives) ∷ [])
 
 unfoldable pub texts : {A : Type 0} → (A → List ℕ) → List A → List ℕ
 texts f [] = []

@@ -55,7 +55,7 @@ pub record GrossRow : Type 0 where
 -- One member of group 2 whose amount lies beyond the horizon.
 unfoldable pub oneBeyond : String → String → ℕ → GrossRow
 oneBeyond horizon deductible gross =
-    record { file = file horizon "order=1" deductible ("rate=40,1000000,0" ∷ "member=40,2,65535,0" ∷ "end=1" ∷ []); gross = gross }
+    record { file = file horizon "order=1" deductible ("rate=40,1000000,0" ∷ "member=40,2,65535,0,1" ∷ "end=1" ∷ []); gross = gross }
 
 -- By the deductible, where the horizon stands on another step.
 unfoldable pub grossFiles : List GrossRow

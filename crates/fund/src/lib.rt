@@ -31,21 +31,28 @@ pub struct Rate {
     pub i: u64,
 }
 
-// A member line: group 1 or 2, and the amounts at death d and at disability e.
+// A member line: group 1 or 2, the amounts at death d and at disability e, and how many lives the line stands for.
 pub struct Member {
     pub age: u64,
     pub group: u64,
     pub d: u64,
     pub e: u64,
+    pub lives: u64,
 }
 
-// A member with the folded rates in force at its age.
+// One life, with the folded rates in force at its age.
 pub struct Life {
     pub group: u64,
     pub q: u64,
     pub i: u64,
     pub d: u64,
     pub e: u64,
+}
+
+// The member record of the lent table: what each life of a member line is, and how many of them there are.
+pub struct ModelPoint {
+    pub life: Life,
+    pub lives: u64,
 }
 
 // A cell of a sheet: "A cell is either a number or a blank".
@@ -61,12 +68,13 @@ pub struct RateFloats {
     pub i: f64,
 }
 
-// A row of the members' sheet, "a record of four such floats": age, group, and the amounts at death d and at disability e.
+// A row of the members' sheet, a record of five such floats: age, group, the amounts at death d and at disability e, and the lives.
 pub struct MemberFloats {
     pub age: f64,
     pub group: f64,
     pub d: f64,
     pub e: f64,
+    pub lives: f64,
 }
 
 // What a cell is taken as, or that it is not taken.
@@ -136,6 +144,8 @@ pub struct Limits {
     pub least_group: u64,
     pub most_group: u64,
     pub most_amount: u64,
+    pub least_lives: u64,
+    pub most_lives: u64,
     pub half: u64,
     pub most_load: u64,
     pub most_truncation: u64,
@@ -183,6 +193,11 @@ impl Fund {
 
     pub const MOST_AMOUNT: u64 = 65535;
 
+    // The lives of a member line, and of all of them together.
+    pub const LEAST_LIVES: u64 = 1;
+
+    pub const MOST_LIVES: u64 = 1000;
+
     pub const HALF: u64 = 500000;
 
     pub const MOST_LOAD: u64 = 8000000000000;
@@ -215,10 +230,10 @@ impl Fund {
 
     pub const HEADER_LINES: usize = 7;
 
-    // The bytes of a row of either sheet: three cells and four.
+    // The bytes of a row of either sheet: three cells and five.
     pub const RATE_WIDTH: usize = 24;
 
-    pub const MEMBER_WIDTH: usize = 32;
+    pub const MEMBER_WIDTH: usize = 40;
 
     // The header lines of the definition are as many.
     pub fn header_lines() -> usize
@@ -248,6 +263,8 @@ impl Fund {
             least_group: Fund::LEAST_GROUP,
             most_group: Fund::MOST_GROUP,
             most_amount: Fund::MOST_AMOUNT,
+            least_lives: Fund::LEAST_LIVES,
+            most_lives: Fund::MOST_LIVES,
             half: Fund::HALF,
             most_load: Fund::MOST_LOAD,
             most_truncation: Fund::MOST_TRUNCATION,
