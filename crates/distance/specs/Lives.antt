@@ -1,7 +1,7 @@
 -- The lives of a fund in the terms of the expansion: group 1 as its members, group 2 as the weights of its compound Poisson part.
 use mathlib.Core.Path.{_≡_, refl, ap}
 use mathlib.Core.Bool.{true}
-use mathlib.Core.List.{List, [], _∷_, map}
+use mathlib.Core.List.{List, [], _∷_}
 use mathlib.Core.Option.{Option, none, some}
 use Prim.Native.Nat.{ℕ, suc, _-_, _*_}
 use native.Mathlib.Omega.{arith}
@@ -22,6 +22,7 @@ use Rattle.fund.specs.Folding.{rateInForce, folded, life, lives, claim, stay, s
 use Rattle.fund.specs.Transform.{unit, w, lambda}
 use Rattle.fund.specs.Exact.{weightAt}
 use Rattle.laws.specs.Accepted.{All, Limited}
+use Rattle.laws.specs.Copies.{all-lives}
 
 -- a life's share of the truncation figure, in units
 abbrev pub shareOf : ℕ → Life → ℕ
@@ -55,10 +56,10 @@ folded-life none m = record { q-folded = λ h. refl; i-folded = λ h. refl }
 folded-life (some r) m = record { q-folded = fold-rate (m .d) (r .q); i-folded = fold-rate (m .e) (r .i) }
 
 pub all-folded : (file : FundFile) → All FoldedLife (lives file)
-unfolding lives life
-all-folded file = go (file .members)
+unfolding life
+all-folded file = all-lives FoldedLife file (go (file .members))
   where
-    go : (l : List MemberRow) → All FoldedLife (map (life (file .rates)) l)
+    go : (l : List MemberRow) → All (λ m. FoldedLife (life (file .rates) m)) l
     go [] = tt
     go (m ∷ rest) = (folded-life (rateInForce (file .rates) (m .age)) m, go rest)
 

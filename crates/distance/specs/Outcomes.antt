@@ -14,15 +14,11 @@ use Rattle.fund.specs.Base.{if_then_else_, total}
 use Rattle.fund.specs.Folding.{stay, single}
 use Rattle.fund.specs.Exact.{singles, shifted, one, singlePart, Outcome, after, outcomes, excess}
 use Rattle.laws.specs.Accepted.{All, Limited}
+use Rattle.laws.specs.Tables.{total-append}
 
 -- the weighted sum of h of the totals claimed
 abbrev pub expect : (ℕ → ℕ) → List Outcome → ℕ
 expect h os = total (λ (o : Outcome). o .weight * h (o .claimed)) os
-
-total-append : {A : Type 0} (f : A → ℕ) (l k : List A) → total f (l ++ k) ≡ total f l + total f k
-unfolding total
-total-append f [] k = omega arith
-total-append f (a ∷ l) k = let h = total-append f l k in omega arith
 
 after-expect : (h : ℕ → ℕ) (rate amount : ℕ) (os : List Outcome) → expect h (after rate amount os) ≡ rate * expect (λ c. h (amount + c)) os
 unfolding total after

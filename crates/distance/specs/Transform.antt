@@ -5,11 +5,11 @@ use mathlib.Core.Path.{_≡_, refl, sym, _∙_, ap, subst}
 use mathlib.Core.Bool.{Bool, true, false, not, cond, _&&_, _||_}
 use mathlib.Core.List.{List, [], _∷_, _++_}
 use Prim.Native.Nat.{ℕ, zero, suc, _<_, _+_ as _+ⁿ_, _*_ as _*ⁿ_, _≤_ as _≤ⁿ_}
-use native.Mathlib.Nat.{zero-add, add-assoc, zero-mul}
+use native.Mathlib.Nat.{zero-add, zero-mul}
 use native.Mathlib.Omega.{arith}
 use lib.Dec.{T, ltb, leb, eqb, eqb→eq, eqb-refl, nltb→le, T-not, le→leb, lt→ltb}
 use lib.ListN.{getD}
-use lib.IntN.{ℤ, pos, _+ℤ_, +ℤ-idl, +ℤ-idr, +ℤ-assoc}
+use lib.IntN.{ℤ, pos, _+ℤ_, +ℤ-idr}
 use Rattle.algebra.specs.Laws as L
 use Rattle.algebra.specs.Solver.{𝟎, _⊕_, _⊗_, ⊖_, _⊝_, _:=_, ring1, ring3, ring4, ring5}
 use Rattle.algebra.specs.Q.{ℚ, ℚ-ring, zeroQ, _+_, _-_, _*_, _≤_, abs, ≤-trans, ≤-of-eq, abs-add-le, abs-subst}
@@ -30,28 +30,13 @@ use Rattle.fund.specs.Folding.{claim, stay, single}
 use Rattle.fund.specs.Transform.{unit, row, Term, placeOf, placed, termOf, rowTerms, singleTerms, deathWeight, disabilityWeight, replacedTerm, replacedTerms, terms, sumD, sumH, D, H}
 use Rattle.fund.specs.Exact.{weightAt}
 use Rattle.laws.specs.Accepted.{All, Limited}
+use Rattle.laws.specs.Terms.{sumD-append, sumH-append}
 use Rattle.laws.specs.Weights.{deathAt, disabilityAt}
 use Rattle.distance.specs.Errors.{U, unit-pos, alternate-close}
 use Rattle.distance.specs.Lives.{memberOf, members, W}
 use Rattle.distance.specs.Triangle.{placed-close}
 
 -- ---- lists of terms
-pub sumD-append : (k : ℕ) (ts us : List Term) → sumD k (ts ++ us) ≡ sumD k ts +ℤ sumD k us
-unfolding sumD
-sumD-append k [] us = sym (+ℤ-idl (sumD k us))
-sumD-append k (t ∷ ts) us = ap (λ z. here +ℤ z) (sumD-append k ts us) ∙ sym (+ℤ-assoc here (sumD k ts) (sumD k us))
-  where
-    here : ℤ
-    here = if eqb (t .place) k then t .toD else pos 0
-
-pub sumH-append : (k : ℕ) (ts us : List Term) → sumH k (ts ++ us) ≡ sumH k ts +ⁿ sumH k us
-unfolding sumH
-sumH-append k [] us = sym (zero-add (sumH k us))
-sumH-append k (t ∷ ts) us = ap (λ z. here +ⁿ z) (sumH-append k ts us) ∙ sym (add-assoc here (sumH k ts) (sumH k us))
-  where
-    here : ℕ
-    here = if eqb (t .place) k then t .toH else 0
-
 -- what the terms add to D at k is within what they add to H of U y
 abbrev Close : ℕ → List Term → ℚ → Type 0
 Close k ts y = abs (ofℤ (sumD k ts) - U * y) ≤ nat (sumH k ts)

@@ -3,7 +3,7 @@
 -- 1's claims and group 2's part (mean-parts).
 use mathlib.Core.Path.{_≡_, refl, sym, _∙_, ap}
 use mathlib.Core.Bool.{Bool, true, false}
-use mathlib.Core.List.{List, [], _∷_, map}
+use mathlib.Core.List.{List, [], _∷_}
 use mathlib.Core.Option.{Option, none, some}
 use Prim.Native.Nat.{ℕ, zero, suc, _<_, _≤_ as _≤ⁿ_, _+_ as _+ⁿ_, _*_ as _*ⁿ_, _^_}
 use native.Mathlib.Nat.{mul-comm, mul-add, mul-zero, zero-add}
@@ -28,6 +28,7 @@ use Rattle.fund.specs.Folding.{rateInForce, folded, life, lives, single}
 use Rattle.fund.specs.Transform.{unit, deathWeight, disabilityWeight, lambda, mean}
 use Rattle.fund.specs.Exact.{weightAt}
 use Rattle.laws.specs.Accepted.{All}
+use Rattle.laws.specs.Copies.{all-lives}
 use Rattle.laws.specs.Ranges.{MemberOk}
 use Rattle.laws.specs.Weights.{deathAt, disabilityAt, death-none, disability-none}
 use Rattle.distance.specs.Errors.{U, unit-pos}
@@ -127,14 +128,14 @@ abbrev pub Below : ℕ → Life → Type 0
 Below B m = (m .d < B) × (m .e < B)
 
 pub amounts-below : (file : FundFile) → All MemberOk (file .members) → All (Below (suc most-amount)) (lives file)
-unfolding lives life folded
-amounts-below file h = go (file .members) h
+unfolding life folded
+amounts-below file h = all-lives (Below (suc most-amount)) file (go (file .members) h)
   where
     one : (o : Option Rate) (m : MemberRow) → MemberOk m → Below (suc most-amount) (folded o m)
     one none m k = (omega (arith, k .d), omega (arith, k .e))
     one (some r) m k = (omega (arith, k .d), omega (arith, k .e))
 
-    go : (l : List MemberRow) → All MemberOk l → All (Below (suc most-amount)) (map (life (file .rates)) l)
+    go : (l : List MemberRow) → All MemberOk l → All (λ m. Below (suc most-amount) (life (file .rates) m)) l
     go [] h = tt
     go (m ∷ rest) h = (one (rateInForce (file .rates) (m .age)) m (h .0), go rest (h .1))
 

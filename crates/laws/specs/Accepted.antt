@@ -3,21 +3,23 @@ use mathlib.Core.Path.{_≡_, refl, ap}
 use mathlib.Core.Bool.{Bool, true, false, _||_}
 use mathlib.Core.List.{List, [], _∷_, _++_, map}
 use mathlib.Core.Option.{Option, none, some}
-use Prim.Native.Nat.{ℕ, suc, _≤_, _<_}
+use Prim.Native.Nat.{ℕ, zero, suc, _≤_, _<_}
 use native.Mathlib.Omega.{arith}
 use borrow.Author.Tests.{ltb-false, leb-false, lt-leb, eqb-true, not-false}
 use lib.Dec.{eqb, leb}
+use lib.ListN.{replicate}
 use Rattle.fund.specs.declared.Life.{Life}
+use Rattle.fund.specs.declared.ModelPoint.{ModelPoint}
 use Rattle.fund.specs.declared.Refusal.{Refusal}
 use Rattle.fund.specs.declared.Verdict.{Verdict}
 use Rattle.fund.specs.declared.Verdict.the-variants.{Accepted}
 use Rattle.fund.specs.Base.{if_then_else_}
 use Rattle.fund.specs.Limits.{half-rate, most-load, most-truncation, most-bound}
 use Rattle.fund.specs.Reading.{FundFile}
-use Rattle.fund.specs.Folding.{lives, claim, single}
+use Rattle.fund.specs.Folding.{points, copies, lives, claim, single}
 use Rattle.fund.specs.Transform.{load, truncation}
 use Rattle.fund.specs.Recursion.{Cell}
-use Rattle.fund.specs.Refusals.{first, unmatched, half, wide, Lengths, anyShort, short, refuse, at0, valued, matched, verdict}
+use Rattle.fund.specs.Refusals.{first, unmatched, half, halfLine, wide, Lengths, anyShort, short, refuse, at0, valued, matched, verdict}
 
 -- a fact of every element of a list
 abbrev pub All : {A : Type 0} → (A → Type 0) → List A → Type 0
@@ -39,6 +41,16 @@ all-front P (a ∷ l) m h = (h .0, all-front P l m (h .1))
 pub all-of : {A B : Type 0} (P : B → Type 0) (f : A → B) → ((a : A) → P (f a)) → (l : List A) → All P (map f l)
 all-of P f h [] = tt
 all-of P f h (a ∷ l) = (h a, all-of P f h l)
+
+pub all-replicate : {A : Type 0} (P : A → Type 0) (n : ℕ) (a : A) → P a → All P (replicate n a)
+all-replicate P zero a h = tt
+all-replicate P (suc n) a h = (h, all-replicate P n a h)
+
+-- what holds of the life of every line holds of all lives
+pub all-copies : (P : Life → Type 0) (ps : List ModelPoint) → All (λ (p : ModelPoint). P (p .life)) ps → All P (copies ps)
+unfolding copies
+all-copies P [] h = tt
+all-copies P (p ∷ ps) h = all-append P (replicate (p .lives) (p .life)) (copies ps) (all-replicate P (p .lives) (p .life) (h .0)) (all-copies P ps (h .1))
 
 pub or-false : (a b : Bool) → a || b ≡ false → (a ≡ false) × (b ≡ false)
 or-false true b e = let z : _≡_ {A = ℕ} 0 1 = ap (λ b. if b then 0 else 1) e in absurd (omega arith)
@@ -97,10 +109,15 @@ pub not-half : (m : Life) → half m ≡ false → Limited m
 unfolding half
 not-half m e s = leb-false half-rate (claim m) (rw s at e)
 
+pub not-half-line : (p : ModelPoint) → halfLine p ≡ false → Limited (p .life)
+unfolding halfLine
+not-half-line p e = not-half (p .life) e
+
 pub record Accepts (file : FundFile) (n : Lengths) (cells : List Cell) : Type 0 where
   pub editions : file .header .rates ≡ file .header .members
   pub deductible : file .header .deductible ≤ suc (file .header .horizon)
   pub matched : All (λ m. unmatched (file .rates) m ≡ false) (file .members)
+  pub limited-lines : All (λ (p : ModelPoint). Limited (p .life)) (points file)
   pub limited-lives : All Limited (lives file)
   pub load-within : load (file .header .frequency) (lives file) ≤ most-load
   pub truncation-within : truncation (file .header .order) (lives file) ≤ most-truncation
@@ -108,7 +125,7 @@ pub record Accepts (file : FundFile) (n : Lengths) (cells : List Cell) : Type 0 
   pub narrow : All (λ (y : Cell). y .R ≤ most-bound) cells
 
 pub accepts : (file : FundFile) (n : Lengths) (cells : List Cell) → verdict file n cells ≡ Accepted → Accepts file n cells
-unfolding verdict matched valued wide
+unfolding verdict matched valued wide lives
 accepts file n cells e =
     let e3 = refuse-accepted _ _ _ e in
     let e4 = refuse-accepted _ _ _ (e3 .1) in
@@ -118,11 +135,13 @@ accepts file n cells e =
     let e8 = refuse-accepted _ _ _ (e7 .1) in
     let e9 = refuse-accepted _ _ _ (e8 .1) in
     let e10 = refuse-accepted _ _ _ (e9 .1) in
+    let limited = all-map not-half-line (points file) (first-none _ _ _ (e6 .0)) in
     record {
       editions = eqb-true _ _ (not-false (eqb (file .header .rates) (file .header .members)) (at0-none _ (e3 .0)));
       deductible = ltb-false _ _ (at0-none _ (e4 .0));
       matched = first-none _ _ _ (e5 .0);
-      limited-lives = all-map not-half (lives file) (first-none _ _ _ (e6 .0));
+      limited-lines = limited;
+      limited-lives = all-copies Limited (points file) limited;
       load-within = ltb-false _ _ (at0-none _ (e7 .0));
       truncation-within = ltb-false _ _ (at0-none _ (e8 .0));
       long = long-of n (file .header .horizon) (at0-none _ (e9 .0));

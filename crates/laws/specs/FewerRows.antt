@@ -55,7 +55,7 @@ still-in-range rs ss r x k e =
     rw (fits, h1 .1, rises, h3 .1, h4 .1, h5 .1)
 
 -- ---- the rows
-some-member : (ms : List Member) (m : Member) → noMember (ms ++ (m ∷ [])) ≡ false
+pub some-member : (ms : List Member) (m : Member) → noMember (ms ++ (m ∷ [])) ≡ false
 unfolding noMember
 some-member [] m = refl
 some-member (x ∷ ms) m = refl

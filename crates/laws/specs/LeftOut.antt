@@ -82,11 +82,11 @@ module _ (header : Fund) (before after : List Rate) (r : Rate) (members : List M
     pub lives-left : lives whole ≡ lives without
     lives-left = lives-same header (before ++ (r ∷ after)) (before ++ after) members 1 one-more alike
 
-    pub row-left-out : (file′ : List ℕ) (n : Lengths) → reading file′ ≡ read without → SameButPlaces 1 (answer file n) (answer file′ n)
+    pub row-left-out : (file′ : List ℕ) (n : Lengths) → reading file′ ≡ read without → SameButPlaces (λ place. 1 + place) (answer file n) (answer file′ n)
     row-left-out file′ n is′ = same-answers header (before ++ (r ∷ after)) (before ++ after) members 1 one-more alike file file′ n is is′
 
     -- The line of the row is left out of the bytes: the header lines and the rows before stand in front of it.
-    pub line-left-out : (n : Lengths) → SameButPlaces 1 (answer file n) (answer (withoutLine (length headerLines + length before) file) n)
+    pub line-left-out : (n : Lengths) → SameButPlaces (λ place. 1 + place) (answer file n) (answer (withoutLine (length headerLines + length before) file) n)
     line-left-out n =
         row-left-out (withoutLine (length headerLines + length before) file) n
         (read-without file whole (length before) is (omega (arith, length-append before (r ∷ after)))

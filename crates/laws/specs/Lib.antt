@@ -1,6 +1,8 @@
 pub mod Accepted
 pub mod Triangle
 pub mod Tables
+pub mod Terms
+pub mod Copies
 pub mod Cells
 pub mod Ranges
 pub mod SheetRanges
@@ -19,6 +21,7 @@ pub mod InForce
 pub mod Passing
 pub mod SameRates
 pub mod OwnRows
+pub mod WrittenOut
 pub mod Texts
 pub mod FewerRows
 pub mod LeftOut
@@ -32,3 +35,4 @@ pub mod SheetAnswer
 pub mod NoCell
 pub mod SheetRows
 pub mod SheetPrefix
+pub mod WrittenFile

@@ -11,18 +11,19 @@ use lib.Dec.{eqb}
 use Rattle.fund.specs.declared.Rate.{Rate}
 use Rattle.fund.specs.declared.Member.{Member}
 use Rattle.fund.specs.declared.Life.{Life}
+use Rattle.fund.specs.declared.ModelPoint.{ModelPoint}
 use Rattle.fund.specs.declared.Verdict.{Verdict}
 use Rattle.fund.specs.declared.Verdict.the-variants.{Accepted, Refused}
 use Rattle.fund.specs.Base.{if_then_else_}
 use Rattle.fund.specs.Limits.{most-age}
 use Rattle.fund.specs.Reading.{FundFile, Reading, read, stopped, reading}
-use Rattle.fund.specs.Folding.{heldUntil, rateInForce, folded, life, lives}
-use Rattle.fund.specs.Refusals.{first, unmatched, half, Lengths, firstMember, matched, verdict}
+use Rattle.fund.specs.Folding.{heldUntil, rateInForce, life, point, points, copies, lives}
+use Rattle.fund.specs.Refusals.{first, unmatched, halfLine, Lengths, firstMember, matched, verdict}
 use Rattle.fund.specs.Answer.{Answer, refused, accepted, answerOf, answerTo, answer}
 use Rattle.laws.specs.Accepted.{All, all-map}
 use Rattle.laws.specs.InForce.{Below, Rising, held-above, in-force-none}
 use Rattle.laws.specs.Ranges.{MemberOk, read-ranges}
-use Rattle.laws.specs.SameRates.{alike-refl, AlikeFor, same-lives, same-unmatched, verdictFor}
+use Rattle.laws.specs.SameRates.{alike-refl, pointAt, AlikeFor, same-points, same-unmatched, verdictFor}
 
 -- Document 01's search: the row that has the age.
 unfoldable pub ownRow : List Rate → ℕ → Option Rate
@@ -31,15 +32,18 @@ ownRow (r ∷ rs) age = if eqb (r .age) age then some r else ownRow rs age
 
 -- The answer of a call as the definitions give it, with the search of a member's rate left open: all that asks for a rate is here.
 module _ (search : List Rate → ℕ → Option Rate) where
+  abbrev pub pointsBy : FundFile → List ModelPoint
+  pointsBy file = map (λ (m : Member). pointAt (search (file .rates) (m .age)) m) (file .members)
+
   abbrev pub livesBy : FundFile → List Life
-  livesBy file = map (λ (m : Member). folded (search (file .rates) (m .age)) m) (file .members)
+  livesBy file = copies (pointsBy file)
 
   abbrev pub unmatchedBy : List Rate → Member → Bool
   unmatchedBy rates m = elim (search rates (m .age)) [ none ↦ true | some r ↦ false ]
 
   abbrev pub verdictBy : FundFile → Lengths → Verdict
   verdictBy file n =
-      verdictFor (file .header) n (first (unmatchedBy (file .rates)) (firstMember file) (file .members)) (first half (firstMember file) (livesBy file)) (livesBy file)
+      verdictFor (file .header) n (first (unmatchedBy (file .rates)) (firstMember file) (file .members)) (first halfLine (firstMember file) (pointsBy file)) (livesBy file)
 
   abbrev pub fundAnswerBy : List ℕ → Lengths → FundFile → Verdict → Answer
   fundAnswerBy file n fund Accepted = accepted (fund .header) (livesBy fund) n
@@ -51,12 +55,12 @@ module _ (search : List Rate → ℕ → Option Rate) where
 
 -- With the rate in force it is today's answer.
 fund-answer-is : (file : List ℕ) (n : Lengths) (fund : FundFile) (v : Verdict) → answerOf file n fund v ≡ fundAnswerBy rateInForce file n fund v
-unfolding answerOf lives life
+unfolding answerOf lives points point life
 fund-answer-is file n fund Accepted = refl
 fund-answer-is file n fund (Refused why place) = refl
 
 answer-by : (file : List ℕ) (n : Lengths) (r : Reading) → answerTo file n r ≡ answerBy rateInForce file n r
-unfolding answerTo verdict matched unmatched lives life
+unfolding answerTo verdict matched unmatched lives points point life
 answer-by file n (read fund) = fund-answer-is file n fund _
 answer-by file n (stopped why place) = refl
 
@@ -115,19 +119,23 @@ module _ (file : List ℕ) (fund : FundFile) (is : reading file ≡ read fund) w
         go [] k = tt
         go (m ∷ ms) k = (rw (same-rate (fund .rates) (m .age) rise (k .0)) (alike-refl (ownRow (fund .rates) (m .age))), go ms (k .1))
 
+    points-as-before : points fund ≡ pointsBy ownRow fund
+    unfolding points point life
+    points-as-before = same-points (rateInForce (fund .rates)) (ownRow (fund .rates)) (fund .members) alike
+
     pub lives-as-before : lives fund ≡ livesBy ownRow fund
-    unfolding lives life
-    lives-as-before = same-lives (rateInForce (fund .rates)) (ownRow (fund .rates)) (fund .members) alike
+    unfolding lives
+    lives-as-before = ap copies points-as-before
 
     verdict-as-before : (n : Lengths) → verdictBy rateInForce fund n ≡ verdictBy ownRow fund n
-    unfolding lives life
+    unfolding points point life
     verdict-as-before n =
-        ap (λ o. verdictFor (fund .header) n o (first half (firstMember fund) (lives fund)) (lives fund))
+        ap (λ o. verdictFor (fund .header) n o (first halfLine (firstMember fund) (points fund)) (copies (points fund)))
         (same-unmatched (rateInForce (fund .rates)) (ownRow (fund .rates)) (fund .members) alike (firstMember fund))
-        ∙ ap (λ ms. verdictFor (fund .header) n (first (unmatchedBy ownRow (fund .rates)) (firstMember fund) (fund .members)) (first half (firstMember fund) ms) ms) lives-as-before
+        ∙ ap (λ ps. verdictFor (fund .header) n (first (unmatchedBy ownRow (fund .rates)) (firstMember fund) (fund .members)) (first halfLine (firstMember fund) ps) (copies ps)) points-as-before
 
     by-verdict : (n : Lengths) (v : Verdict) → fundAnswerBy rateInForce file n fund v ≡ fundAnswerBy ownRow file n fund v
-    unfolding lives life
+    unfolding lives points point life
     by-verdict n Accepted = ap (λ ms. accepted (fund .header) ms n) lives-as-before
     by-verdict n (Refused why place) = refl
 

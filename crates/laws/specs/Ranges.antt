@@ -14,11 +14,11 @@ use Rattle.fund.specs.declared.Frequencies.{Frequencies}
 use Rattle.fund.specs.declared.Rate.{Rate}
 use Rattle.fund.specs.declared.Member.{Member}
 use Rattle.fund.specs.declared.Refusal.the-variants.{Form, Range}
-use Rattle.fund.specs.Limits.{least-edition, most-edition, most-horizon, least-order, most-order, most-frequency, most-deductible, least-worth, most-worth, most-rates, most-age, most-rate, most-members, least-group, most-group, most-amount}
-use Rattle.fund.specs.Base.{if_then_else_}
+use Rattle.fund.specs.Limits.{least-edition, most-edition, most-horizon, least-order, most-order, most-frequency, most-deductible, least-worth, most-worth, most-rates, most-age, most-rate, most-members, least-group, most-group, most-amount, least-lives, most-lives}
+use Rattle.fund.specs.Base.{if_then_else_, total}
 use Rattle.fund.specs.Lines.{Line, lines}
 use Rattle.fund.specs.Spelling.{value, fields, allNumbers, numbers, behind, spelled}
-use Rattle.fund.specs.Reading.{FundFile, Reading, read, between, NumberRange, inRanges, HeaderLine, headerLines, headerOf, rising, rateInRange, memberInRange, readRows, readHeader, reading, fileRows}
+use Rattle.fund.specs.Reading.{FundFile, Reading, read, between, NumberRange, inRanges, HeaderLine, headerLines, headerOf, rising, rateInRange, livesInAll, memberInRange, readRows, readHeader, reading, fileRows}
 use Rattle.laws.specs.Accepted.{All}
 use Rattle.laws.specs.InForce.{Rising}
 use Rattle.laws.specs.Passing.{never, pass, PassedLine, rateLine, memberLine, endLine, passed-line}
@@ -35,6 +35,8 @@ pub record MemberOk (m : Member) : Type 0 where
   pub group-most : m .group ≤ most-group
   pub d : m .d ≤ most-amount
   pub e : m .e ≤ most-amount
+  pub lives-least : least-lives ≤ m .lives
+  pub lives-most : m .lives ≤ most-lives
 
 pub record RowsOk (rs : List Rate) (ms : List Member) : Type 0 where
   pub rates : All RateOk rs
@@ -42,6 +44,7 @@ pub record RowsOk (rs : List Rate) (ms : List Member) : Type 0 where
   pub members : All MemberOk ms
   pub few-rates : length rs ≤ most-rates
   pub few-members : length ms ≤ most-members
+  pub few-lives : livesInAll ms ≤ most-lives
 
 -- ---- tests
 pub and-true : (a b : Bool) → a && b ≡ true → (a ≡ true) × (b ≡ true)
@@ -84,16 +87,25 @@ rate-ok before r e =
 pub rise-more : (rs : List Rate) (r : Rate) → Rising rs → rateInRange rs r ≡ true → Rising (rs ++ (r ∷ []))
 rise-more rs r k e = rising-more rs r k (above-all rs (r .age) k (rate-ok rs r e .1 .0))
 
-pub member-ok : (before : List Member) (m : Member) → memberInRange before m ≡ true → (length before < most-members) × MemberOk m
+-- one line more
+pub lives-more : (ms : List Member) (m : Member) → livesInAll (ms ++ (m ∷ [])) ≡ livesInAll ms + m .lives
+unfolding livesInAll total
+lives-more [] m = omega arith
+lives-more (l ∷ ms) m = omega (arith, lives-more ms m)
+
+pub member-ok : (before : List Member) (m : Member) → memberInRange before m ≡ true → (length before < most-members) × ((livesInAll before + m .lives ≤ most-lives) × MemberOk m)
 unfolding memberInRange
 member-ok before m e =
-    let h4 = and-true _ (leb (m .e) most-amount) e in
+    let h6 = and-true _ (leb (livesInAll before + m .lives) most-lives) e in
+    let h5 = and-true _ (between least-lives most-lives (m .lives)) (h6 .0) in
+    let h4 = and-true _ (leb (m .e) most-amount) (h5 .0) in
     let h3 = and-true _ (leb (m .d) most-amount) (h4 .0) in
     let h2 = and-true _ (between least-group most-group (m .group)) (h3 .0) in
     let h1 = and-true (ltb (length before) most-members) (leb (m .age) most-age) (h2 .0) in
-    let g = between-true least-group most-group (m .group) (h2 .1) in (
+    let g = between-true least-group most-group (m .group) (h2 .1) in
+    let l = between-true least-lives most-lives (m .lives) (h5 .1) in (
       ltb-true _ _ (h1 .0),
-      record { age = leb-true _ _ (h1 .1); group-least = g .0; group-most = g .1; d = leb-true _ _ (h3 .1); e = leb-true _ _ (h4 .1) },
+      (leb-true _ _ (h6 .1), record { age = leb-true _ _ (h1 .1); group-least = g .0; group-most = g .1; d = leb-true _ _ (h3 .1); e = leb-true _ _ (h4 .1); lives-least = l .0; lives-most = l .1 }),
     )
 
 -- ---- the rows
@@ -111,6 +123,7 @@ more-rates rates members r k e =
       members = k .members;
       few-rates = omega (arith, length-append rates (r ∷ []));
       few-members = k .few-members;
+      few-lives = k .few-lives;
     }
 
 pub more-members : (rates : List Rate) (members : List Member) (m : Member) → RowsOk rates members → memberInRange members m ≡ true → RowsOk rates (members ++ (m ∷ []))
@@ -120,9 +133,10 @@ more-members rates members m k e =
     record {
       rates = k .rates;
       rates-rise = k .rates-rise;
-      members = all-snoc MemberOk members m (k .members) (h .1);
+      members = all-snoc MemberOk members m (k .members) (h .1 .1);
       few-rates = k .few-rates;
       few-members = omega (arith, length-append members (m ∷ []));
+      few-lives = omega (arith, lives-more members m, h .1 .0);
     }
 
 pub rows-ranges : (ls : List Line) (n : ℕ) (header : Fund) (rates : List Rate) (members : List Member) (fund : FundFile) → RowsOk rates members →
@@ -263,7 +277,8 @@ header-ok (a ∷ b ∷ c ∷ d ∷ e ∷ f ∷ g ∷ []) w = absurd (w .1 .1 .1 
 header-ok (a ∷ b ∷ c ∷ d ∷ e ∷ f ∷ g ∷ h ∷ i ∷ vs) w = absurd (w .1 .1 .1 .1 .1 .1 .1 .1)
 
 pub no-rows : RowsOk [] []
-no-rows = record { rates = tt; rates-rise = tt; members = tt; few-rates = omega arith; few-members = omega arith }
+unfolding livesInAll total
+no-rows = record { rates = tt; rates-rise = tt; members = tt; few-rates = omega arith; few-members = omega arith; few-lives = omega arith }
 
 pub text-ranges : (after : ℕ → Fund → List Line → Reading) (text : List ℕ) (fund : FundFile) → ((n : ℕ) (header : Fund) (ls : List Line) → after n header ls ≡ read fund → Reads header fund) →
     readHeader after headerLines 1 [] (lines text) ≡ read fund → FundOk fund

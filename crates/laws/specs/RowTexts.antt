@@ -29,7 +29,7 @@ abbrev pub ShortRate : Rate → Type 0
 ShortRate r = Short (r .age ∷ r .q ∷ r .i ∷ [])
 
 abbrev pub ShortMember : Member → Type 0
-ShortMember m = Short (m .age ∷ m .group ∷ m .d ∷ m .e ∷ [])
+ShortMember m = Short (m .age ∷ m .group ∷ m .d ∷ m .e ∷ m .lives ∷ [])
 
 -- numbers in decimal between commas, without a line feed
 abbrev commas : ℕ → List ℕ → List ℕ
@@ -146,10 +146,10 @@ pub member-first : (m : Member) (at : ℕ) (rest : List ℕ) → ShortMember m �
 unfolding rowOf spelled behind memberText bytes
 member-first m at rest h =
     record {
-      line = lineOf (bytes "member=") (m .age) (m .group ∷ m .d ∷ m .e ∷ []) at;
+      line = lineOf (bytes "member=") (m .age) (m .group ∷ m .d ∷ m .e ∷ m .lives ∷ []) at;
       next = _;
-      lines-are = text-first (bytes "member=") (m .age) (m .group ∷ m .d ∷ m .e ∷ []) rest at (refl, (refl, (refl, (refl, (refl, (refl, (refl, tt))))))) h;
-      row-is = rw (spelled-is (bytes "member=") (m .age) (m .group ∷ m .d ∷ m .e ∷ []) at h, rowOf);
+      lines-are = text-first (bytes "member=") (m .age) (m .group ∷ m .d ∷ m .e ∷ m .lives ∷ []) rest at (refl, (refl, (refl, (refl, (refl, (refl, (refl, tt))))))) h;
+      row-is = rw (spelled-is (bytes "member=") (m .age) (m .group ∷ m .d ∷ m .e ∷ m .lives ∷ []) at h, rowOf);
     }
 
 abbrev pub endText : ℕ → List ℕ

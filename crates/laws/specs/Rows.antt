@@ -8,6 +8,7 @@ use lib.ListN.{length, take, set, replicate, length-append, length-replicate}
 use Rattle.fund.specs.declared.Rate.{Rate}
 use Rattle.fund.specs.declared.Member.{Member}
 use Rattle.fund.specs.declared.Life.{Life}
+use Rattle.fund.specs.declared.ModelPoint.{ModelPoint}
 use Rattle.fund.specs.Answer.{lent}
 
 -- A row whose numbers are all 0.
@@ -15,10 +16,13 @@ abbrev pub blankRate : Rate
 blankRate = record { age = 0; q = 0; i = 0 }
 
 abbrev pub blankMember : Member
-blankMember = record { age = 0; group = 0; d = 0; e = 0 }
+blankMember = record { age = 0; group = 0; d = 0; e = 0; lives = 0 }
 
 abbrev pub blankLife : Life
 blankLife = record { group = 0; q = 0; i = 0; d = 0; e = 0 }
+
+abbrev pub blankPoint : ModelPoint
+blankPoint = record { life = blankLife; lives = 0 }
 
 pub rows-length : {A : Type 0} (blank : A) (n : ℕ) (rows : List A) → length rows ≤ n → length (lent blank n rows) ≡ n
 unfolding lent
@@ -35,7 +39,7 @@ rows-put blank x n rows h =
     let e : n - length rows ≡ suc (n - length (rows ++ (x ∷ []))) = omega (arith, length-append rows (x ∷ [])) in
     rw e (put blank x rows (n - length (rows ++ (x ∷ []))))
 
-front : {A : Type 0} (rows rest : List A) → take (length rows) (rows ++ rest) ≡ rows
+pub front : {A : Type 0} (rows rest : List A) → take (length rows) (rows ++ rest) ≡ rows
 front [] rest = refl
 front (r ∷ rows) rest = ap (λ l. r ∷ l) (front rows rest)
 

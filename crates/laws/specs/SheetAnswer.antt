@@ -19,9 +19,9 @@ use Rattle.fund.specs.declared.Verdict.the-variants.{Accepted, Refused}
 use Rattle.fund.specs.Base.{if_then_else_}
 use Rattle.fund.specs.Lines.{Line, lines}
 use Rattle.fund.specs.Reading.{FundFile, Reading, read, stopped, headerLines, rateInRange, memberInRange}
-use Rattle.fund.specs.Folding.{lives}
+use Rattle.fund.specs.Folding.{points, lives}
 use Rattle.fund.specs.Recursion.{Cell}
-use Rattle.fund.specs.Refusals.{first, unmatched, half, Lengths, refuse, firstMember, valued, matched, verdict}
+use Rattle.fund.specs.Refusals.{first, unmatched, halfLine, Lengths, refuse, firstMember, valued, matched, verdict}
 use Rattle.fund.specs.Answer.{fundCells, Part, empty, namesLine, lineAt, part, Answer, refused, accepted, answerOf, answerTo, answer}
 use Rattle.fund.specs.Sheets.{sheetRows, readSheetRows, sheetReading, fileWith, sheetAnswer}
 use Rattle.laws.specs.Passing.{on-either}
@@ -70,7 +70,7 @@ verdict-behind fund n cells =
     unnamed Edition _ _ refl
     (unnamed Deductible _ _ refl
     (first-behind (unmatched (fund .rates)) (firstMember fund) (fund .members) Unmatched _ (omega arith)
-    (first-behind half (firstMember fund) (lives fund) Half _ (omega arith)
+    (first-behind halfLine (firstMember fund) (points fund) Half _ (omega arith)
     (unnamed Load _ _ refl (unnamed Order _ _ refl (unnamed Short _ _ refl (unnamed Wide _ _ refl tt)))))))
 
 -- ---- the part

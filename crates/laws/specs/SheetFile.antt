@@ -63,7 +63,7 @@ members-alike (m ∷ ms) n header rates members k at h few e =
     ∙ ap (readRows n header rates members) (f .lines-are)
     ∙ member-step n header rates (f .line) (linesFrom (f .next) rest) members m (f .row-is))
 
-rates-alike : (rs : List Rate) (ms : List Member) (n : ℕ) (header : Fund) (rates : List Rate) (at : ℕ) → All ShortRate rs → All ShortMember ms →
+pub rates-alike : (rs : List Rate) (ms : List Member) (n : ℕ) (header : Fund) (rates : List Rate) (at : ℕ) → All ShortRate rs → All ShortMember ms →
     readSheetRows n header rates [] (map RateRow rs ++ map MemberRow ms) ≡ readRows n header rates [] (linesFrom at (texts rateText rs ++ (texts memberText ms ++ endText (length ms))))
 unfolding readSheetRows texts
 rates-alike [] ms n header rates at h k = members-alike ms n header rates [] (length ms) at k (omega arith) (omega arith)
@@ -77,9 +77,9 @@ rates-alike (r ∷ rs) ms n header rates at h k =
     ∙ rate-step n header rates (f .line) (linesFrom (f .next) (texts rateText rs ++ after)) r (f .row-is))
 
 -- ---- the header
-no-rows : sheetRows [] [] ≡ []
+pub empty-sheets : sheetRows [] [] ≡ []
 unfolding sheetRows rowsOf rowCount table
-no-rows = refl
+empty-sheets = refl
 
 -- A header text that is read by itself: its lines are the header lines, and rows are read behind it, of sheets or of a file.
 pub record Alone (header : List ℕ) : Type 0 where
@@ -102,7 +102,7 @@ header-alone header alone e = go (header-outcome headerLines 1 [] (lines header)
     go (inr k) =
         let none-left =
         nothing-left (1 + length headerLines) (k .fund) (k .rest) alone
-        (ap (λ rows. readSheets rows (1 + length headerLines) (k .fund) (k .rest)) (sym no-rows) ∙ sym (passed headerLines 1 [] (lines header) k (readSheets (sheetRows [] []))) ∙ e) in
+        (ap (λ rows. readSheets rows (1 + length headerLines) (k .fund) (k .rest)) (sym empty-sheets) ∙ sym (passed headerLines 1 [] (lines header) k (readSheets (sheetRows [] []))) ∙ e) in
         let front-is : linesFrom 0 header ≡ k .front = k .lines-are ∙ ap (λ m. k .front ++ m) none-left ∙ append-nil (k .front) in
         let one : 1 + length headerLines ≡ suc (length headerLines) = omega arith in
         let zero-at : 0 + length header ≡ length header = omega arith in
@@ -149,4 +149,4 @@ header-first header why place e rates members = go (header-outcome headerLines 1
     go (inr k) =
         passed headerLines 1 [] (lines header) k (readSheets (sheetRows rates members))
         ∙ stops-behind (sheetRows rates members) (1 + length headerLines) (k .fund) (k .rest) why place
-        (ap (λ rows. readSheets rows (1 + length headerLines) (k .fund) (k .rest)) (sym no-rows) ∙ sym (passed headerLines 1 [] (lines header) k (readSheets (sheetRows [] []))) ∙ e)
+        (ap (λ rows. readSheets rows (1 + length headerLines) (k .fund) (k .rest)) (sym empty-sheets) ∙ sym (passed headerLines 1 [] (lines header) k (readSheets (sheetRows [] []))) ∙ e)

@@ -14,7 +14,7 @@ use Rattle.fund.specs.Sheets.{sheetRows, readSheetRows, readSheets, sheetReadin
 use Rattle.laws.specs.Passing.{never, pass, fundSoFar}
 use Rattle.laws.specs.Ranges.{RowsOk, Reads, FundOk, more-rates, more-members, no-rows, text-ranges}
 
-sheet-rows-ranges : (rows : List SheetRow) (n : ℕ) (header : Fund) (rates : List Rate) (members : List Member) (fund : FundFile) → RowsOk rates members →
+pub sheet-rows-ranges : (rows : List SheetRow) (n : ℕ) (header : Fund) (rates : List Rate) (members : List Member) (fund : FundFile) → RowsOk rates members →
     readSheetRows n header rates members rows ≡ read fund → Reads header fund
 unfolding readSheetRows
 sheet-rows-ranges [] n header rates members fund k e = let z : fundSoFar n header rates members ≡ fund = cc in subst (λ f. Reads header f) z (record { header-is = refl; rows = k })

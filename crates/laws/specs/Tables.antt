@@ -1,13 +1,14 @@
--- Laws of lists given by a sequence: table n g is g(0) to g(n-1), downFrom g x is g(x) to g(0).
+-- Laws of lists given by a sequence: table n g is g(0) to g(n-1), downFrom g x is g(x) to g(0). And of sums over lists: over two, and over one
+-- element many times.
 use mathlib.Core.Path.{_≡_, refl, sym, _∙_, ap}
 use mathlib.Core.Logic.{⊎-elim}
 use mathlib.Core.List.{List, [], _∷_, _++_, map, reverse, reverse-cons, map-append}
-use Prim.Native.Nat.{ℕ, zero, suc, _<_}
-use native.Mathlib.Nat.{eq-or-lt-of-le, le-of-suc-le-suc}
+use Prim.Native.Nat.{ℕ, zero, suc, _+_, _*_, _<_}
+use native.Mathlib.Nat.{eq-or-lt-of-le, le-of-suc-le-suc, zero-mul, suc-mul}
 use native.Mathlib.Omega.{arith}
-use lib.ListN.{length, getD, length-append, List·getD-append}
+use lib.ListN.{length, getD, replicate, length-append, List·getD-append}
 use lib.Seq.{getD-at}
-use Rattle.fund.specs.Base.{table}
+use Rattle.fund.specs.Base.{total, table}
 
 pub length-table : {A : Type 0} (n : ℕ) (g : ℕ → A) → length (table n g) ≡ n
 unfolding table
@@ -42,3 +43,14 @@ pub reverse-down : {A : Type 0} (g : ℕ → A) (x : ℕ) → reverse (downFrom 
 unfolding table
 reverse-down g zero = refl
 reverse-down g (suc x) = reverse-cons (g (suc x)) (downFrom g x) ∙ ap (λ l. l ++ (g (suc x) ∷ [])) (reverse-down g x)
+
+-- ---- sums over lists
+pub total-append : {A : Type 0} (f : A → ℕ) (xs ys : List A) → total f (xs ++ ys) ≡ total f xs + total f ys
+unfolding total
+total-append f [] ys = omega arith
+total-append f (x ∷ xs) ys = omega (arith, total-append f xs ys)
+
+pub total-replicate : {A : Type 0} (f : A → ℕ) (n : ℕ) (a : A) → total f (replicate n a) ≡ n * f a
+unfolding total
+total-replicate f zero a = omega (arith, zero-mul (f a))
+total-replicate f (suc n) a = omega (arith, total-replicate f n a, suc-mul n (f a))

@@ -14,7 +14,7 @@ use Rattle.fund.specs.declared.SheetRow.{SheetRow}
 use Rattle.fund.specs.declared.SheetRow.the-variants.{Rate as RateRow, Member as MemberRow, NotTaken}
 use Rattle.fund.specs.declared.Taken.{Taken}
 use Rattle.fund.specs.declared.Taken.the-variants.{As, Not}
-use Rattle.fund.specs.Limits.{most-age, most-rate, least-group, most-group, most-amount}
+use Rattle.fund.specs.Limits.{most-age, most-rate, least-group, most-group, most-amount, least-lives, most-lives}
 use Rattle.fund.specs.Base.{if_then_else_}
 use Rattle.fund.specs.Cells.{orElse, seek, wholeOf, rateOf, atLeast, numberOf, amountOf, rateIn, rateJoined, memberJoined, rateTaken, memberTaken, rateFloats, memberFloats, rate-width, member-width, rateRowOf, memberRowOf}
 use Rattle.fund.specs.Sheets.{rowsOf, sheetRows}
@@ -81,13 +81,14 @@ rate-joined (As age) (As q) Not a b c = tt
 rate-joined (As age) Not i a b c = tt
 rate-joined Not q i a b c = tt
 
-member-joined : (age group d e : Taken) → ShortCell age → ShortCell group → ShortCell d → ShortCell e → ShortRow (memberJoined age group d e)
+member-joined : (age group d e lives : Taken) → ShortCell age → ShortCell group → ShortCell d → ShortCell e → ShortCell lives → ShortRow (memberJoined age group d e lives)
 unfolding memberJoined
-member-joined (As age) (As group) (As d) (As e) a b c f = (a, (b, (c, (f, tt))))
-member-joined (As age) (As group) (As d) Not a b c f = tt
-member-joined (As age) (As group) Not e a b c f = tt
-member-joined (As age) Not d e a b c f = tt
-member-joined Not group d e a b c f = tt
+member-joined (As age) (As group) (As d) (As e) (As lives) a b c f g = (a, (b, (c, (f, (g, tt)))))
+member-joined (As age) (As group) (As d) (As e) Not a b c f g = tt
+member-joined (As age) (As group) (As d) Not lives a b c f g = tt
+member-joined (As age) (As group) Not e lives a b c f g = tt
+member-joined (As age) Not d e lives a b c f g = tt
+member-joined Not group d e lives a b c f g = tt
 
 rate-row-short : (row : List ℕ) → ShortRow (rateRowOf row)
 unfolding rateRowOf
@@ -102,7 +103,9 @@ unfolding memberRowOf
 member-row-short row = go (eqb (length row) member-width)
   where
     go : (b : Bool) → ShortRow (if b then memberTaken (memberFloats row) else NotTaken)
-    go true = member-joined _ _ _ _ (number-short 0 most-age _ (omega arith)) (number-short least-group most-group _ (omega arith)) (amount-short _) (amount-short _)
+    go true =
+        member-joined _ _ _ _ _ (number-short 0 most-age _ (omega arith)) (number-short least-group most-group _ (omega arith)) (amount-short _) (amount-short _)
+        (number-short least-lives most-lives _ (omega arith))
     go false = tt
 
 -- A rate sheet's row is taken as no member, and a member sheet's as no rate.
@@ -123,13 +126,14 @@ joined-rate (As age) (As q) Not = tt
 joined-rate (As age) Not i = tt
 joined-rate Not q i = tt
 
-joined-member : (age group d e : Taken) → NoRate (memberJoined age group d e)
+joined-member : (age group d e lives : Taken) → NoRate (memberJoined age group d e lives)
 unfolding memberJoined
-joined-member (As age) (As group) (As d) (As e) = tt
-joined-member (As age) (As group) (As d) Not = tt
-joined-member (As age) (As group) Not e = tt
-joined-member (As age) Not d e = tt
-joined-member Not group d e = tt
+joined-member (As age) (As group) (As d) (As e) (As lives) = tt
+joined-member (As age) (As group) (As d) (As e) Not = tt
+joined-member (As age) (As group) (As d) Not lives = tt
+joined-member (As age) (As group) Not e lives = tt
+joined-member (As age) Not d e lives = tt
+joined-member Not group d e lives = tt
 
 pub rate-row : (row : List ℕ) → NoMember (rateRowOf row)
 unfolding rateRowOf
@@ -144,7 +148,7 @@ unfolding memberRowOf
 member-row row = go (eqb (length row) member-width)
   where
     go : (b : Bool) → NoRate (if b then memberTaken (memberFloats row) else NotTaken)
-    go true = joined-member _ _ _ _
+    go true = joined-member _ _ _ _ _
     go false = tt
 
 -- ---- sheets

@@ -2,13 +2,14 @@
 -- each of them room for all the terms.
 use mathlib.Core.Bool.{true}
 use mathlib.Core.Path.{_≡_}
-use mathlib.Core.List.{List, [], _∷_}
+use mathlib.Core.List.{List, [], _∷_, _++_}
 use Prim.Native.Nat.{ℕ, _+_, _*_, _^_, _≤_, _<_}
-use lib.IntN.{ℤ, pos, natAbs, _+ℤ_}
+use lib.IntN.{ℤ, pos, natAbs, _+ℤ_, _*ℤ_}
 use lib.ListN.{length, getD, set}
 use Rattle.rounding.specs.Rounding.{near}
 use Rattle.fund.specs.declared.Frequencies.{Frequencies}
 use Rattle.fund.specs.declared.Life.{Life}
+use Rattle.fund.specs.declared.ModelPoint.{ModelPoint}
 use Rattle.fund.specs.Base.{if_then_else_, total}
 use Rattle.fund.specs.Limits.{most-horizon, most-order}
 use Rattle.fund.specs.Folding.{single}
@@ -50,16 +51,29 @@ termsAt X m n l = if placed X m n l then termOf m n l ∷ [] else []
 abbrev pub lifeTerms : ℕ → ℕ → Frequencies → Life → List Term
 lifeTerms X r a m = if single m then singleTerms X m r else replacedTerms X a m
 
--- What a placed number v of row n asks of the cells at its place x.
-pub record TermRoom (d : List ℤ) (h : List ℕ) (x v n : ℕ) : Type 0 where
+-- Terms of c equal lives: each c times.
+unfoldable pub times : ℕ → List Term → List Term
+times c [] = []
+times c (t ∷ ts) = record { place = t .place; toD = pos c *ℤ t .toD; toH = c * t .toH } ∷ times c ts
+
+-- All terms of a line, and of lines.
+abbrev pub pointTerms : ℕ → ℕ → Frequencies → ModelPoint → List Term
+pointTerms X r a p = times (p .lives) (lifeTerms X r a (p .life))
+
+unfoldable pub lineTerms : ℕ → ℕ → Frequencies → List ModelPoint → List Term
+lineTerms X r a [] = []
+lineTerms X r a (p ∷ ps) = pointTerms X r a p ++ lineTerms X r a ps
+
+-- What a placed number v of row n, of c lives, asks of the cells at its place x.
+pub record TermRoom (d : List ℤ) (h : List ℕ) (x v n c : ℕ) : Type 0 where
   pub n-least : 1 ≤ n
   pub n-most : n ≤ most-order
   pub place-most : x ≤ most-horizon
   pub number-most : v ≤ 10 ^ 12
   pub d-long : x < length d
   pub h-long : x < length h
-  pub d-room : natAbs (getD d x (pos 0)) + near (x * v) n ≤ 2 ^ 62
-  pub h-room : getD h x 0 + x ≤ 2 ^ 62
+  pub d-room : natAbs (getD d x (pos 0)) + c * near (x * v) n ≤ 2 ^ 62
+  pub h-room : getD h x 0 + c * x ≤ 2 ^ 62
 
 -- A life of group 1, and a row of its triangle.
 pub record SingleRow (m : Life) (n : ℕ) : Type 0 where

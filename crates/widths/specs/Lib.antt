@@ -5,6 +5,7 @@ pub mod Sums
 pub mod Signed
 pub mod PartBounds
 pub mod AddingLaws
+pub mod Times
 pub mod Triangle
 pub mod Placing
 pub mod Filling

@@ -1,4 +1,4 @@
--- The terms of a life, as the code adds them: the sign of row n, a number that is 0, the term of a row and column if it is
+-- The terms of equal lives, as the code adds them: the sign of row n, a number that is 0, the term of a row and column if it is
 -- placed (`term-room`, `placed-d`, `placed-h`), and the terms of group 2, of which H gains nothing.
 use mathlib.Core.Path.{_≡_, refl, sym, _∙_, ap}
 use mathlib.Core.Bool.{Bool, true, false, _&&_, _||_}
@@ -9,7 +9,7 @@ use native.Mathlib.Numerals.{add-one}
 use native.Mathlib.Omega.{arith}
 use borrow.Author.Tests.{leb-true, lt-ltb, le-leb, lt-leb}
 use lib.Dec.{eqb, leb, ltb}
-use lib.IntN.{ℤ, pos, natAbs, negℤ, _+ℤ_, +ℤ-idr, negℤ-negℤ}
+use lib.IntN.{ℤ, pos, natAbs, negℤ, _+ℤ_, _*ℤ_, +ℤ-idr, *ℤ-zero, negℤ-negℤ}
 use lib.ListN.{getD, set}
 use lib.Seq.{set-getD}
 use Rattle.rounding.specs.Rounding.{near}
@@ -20,10 +20,11 @@ use Rattle.fund.specs.Base.{if_then_else_, total, alternate}
 use Rattle.fund.specs.Folding.{single}
 use Rattle.fund.specs.Transform.{row, placeOf, placed, termOf, rowTerms, singleTerms, deathWeight, disabilityWeight, replacedTerm, replacedTerms}
 use Rattle.laws.specs.Triangle.{v-most}
-use Rattle.widths.specs.Adding.{addD, addH, sizeD, sizeH, Room, TermRoom, SingleRow, termsAt, lifeTerms}
+use Rattle.widths.specs.Adding.{addD, addH, sizeD, sizeH, Room, TermRoom, SingleRow, termsAt, times, lifeTerms}
 use Rattle.whole.specs.Sign.{signed}
 use Rattle.widths.specs.AddingLaws.{addH-append}
 use Rattle.widths.specs.Signed.{natAbs-neg}
+use Rattle.widths.specs.Times.{times-append, sizeD-times, sizeH-times}
 
 -- ---- the sign of a row
 pub alternate-signed : (n s : ℕ) → alternate (suc n) (pos s) ≡ signed (eqb (n % 2) 0) s
@@ -56,23 +57,6 @@ module _ (X : ℕ) (m : Life) (n l : ℕ) where
   pub left-out : placed X m n l ≡ false → termsAt X m n l ≡ []
   left-out e = rw e
 
-  pub left-out-d : placed X m n l ≡ false → (d : List ℤ) → d ≡ addD d (termsAt X m n l)
-  unfolding addD
-  left-out-d e d = rw (left-out e)
-
-  pub left-out-h : placed X m n l ≡ false → (h : List ℕ) → h ≡ addH h (termsAt X m n l)
-  unfolding addH
-  left-out-h e h = rw (left-out e)
-
-  pub placed-d : placed X m n l ≡ true → (d : List ℤ) →
-      addD d (termsAt X m n l) ≡ set d (placeOf m n l) (getD d (placeOf m n l) (pos 0) +ℤ alternate (suc n) (pos (near (placeOf m n l * getD (row m n) l 0) n)))
-  unfolding addD termOf
-  placed-d e d = rw e
-
-  pub placed-h : placed X m n l ≡ true → (h : List ℕ) → addH h (termsAt X m n l) ≡ set h (placeOf m n l) (getD h (placeOf m n l) 0 + placeOf m n l)
-  unfolding addH termOf
-  placed-h e h = rw e
-
   pub placed-within : placed X m n l ≡ true → placeOf m n l ≤ X
   unfolding placed
   placed-within e = leb-true (placeOf m n l) X (first (leb (placeOf m n l) X) (ltb 0 (m .q) || eqb l 0) (ltb 0 (m .i) || eqb l n) e)
@@ -89,19 +73,40 @@ module _ (X : ℕ) (m : Life) (n l : ℕ) where
   unfolding sizeH total termOf
   placed-sizeH e = rw e (N.add-zero _)
 
-  pub term-room : {d : List ℤ} {h : List ℕ} {v : ℕ} → placed X m n l ≡ true → SingleRow m n → v ≡ getD (row m n) l 0 → Room X d h (termsAt X m n l) → TermRoom d h (placeOf m n l) v n
-  term-room {d} {h} {v} e r g o =
-      let x = placed-within e in
-      record {
-        n-least = r .n-least;
-        n-most = r .n-most;
-        place-most = omega (arith, x, o .inD .horizon);
-        number-most = rw g (v-most m (r .life .limited (r .alone)) n l);
-        d-long = omega (arith, x, o .inD .long);
-        h-long = omega (arith, x, o .inH .long);
-        d-room = rw (g, ← placed-sizeD e) (o .inD .room (placeOf m n l) x);
-        h-room = omega (arith, o .inH .room (placeOf m n l) x, placed-sizeH e);
-      }
+  -- of c lives
+  module _ (c : ℕ) where
+    pub left-out-d : placed X m n l ≡ false → (d : List ℤ) → d ≡ addD d (times c (termsAt X m n l))
+    unfolding addD times
+    left-out-d e d = rw (left-out e)
+
+    pub left-out-h : placed X m n l ≡ false → (h : List ℕ) → h ≡ addH h (times c (termsAt X m n l))
+    unfolding addH times
+    left-out-h e h = rw (left-out e)
+
+    pub placed-d : placed X m n l ≡ true → (d : List ℤ) →
+        addD d (times c (termsAt X m n l)) ≡ set d (placeOf m n l) (getD d (placeOf m n l) (pos 0) +ℤ pos c *ℤ alternate (suc n) (pos (near (placeOf m n l * getD (row m n) l 0) n)))
+    unfolding addD times termOf
+    placed-d e d = rw e
+
+    pub placed-h : placed X m n l ≡ true → (h : List ℕ) → addH h (times c (termsAt X m n l)) ≡ set h (placeOf m n l) (getD h (placeOf m n l) 0 + c * placeOf m n l)
+    unfolding addH times termOf
+    placed-h e h = rw e
+
+    pub term-room : {d : List ℤ} {h : List ℕ} {v : ℕ} → placed X m n l ≡ true → SingleRow m n → v ≡ getD (row m n) l 0 → Room X d h (times c (termsAt X m n l)) → TermRoom d h (placeOf m n l) v n c
+    term-room {d} {h} {v} e r g o =
+        let x = placed-within e in
+        let size-d : sizeD (times c (termsAt X m n l)) ≡ c * near (placeOf m n l * getD (row m n) l 0) n = sizeD-times c (termsAt X m n l) ∙ ap (λ s. c * s) (placed-sizeD e) in
+        let size-h : sizeH (times c (termsAt X m n l)) ≡ c * placeOf m n l = sizeH-times c (termsAt X m n l) ∙ ap (λ s. c * s) (placed-sizeH e) in
+        record {
+          n-least = r .n-least;
+          n-most = r .n-most;
+          place-most = omega (arith, x, o .inD .horizon);
+          number-most = rw g (v-most m (r .life .limited (r .alone)) n l);
+          d-long = omega (arith, x, o .inD .long);
+          h-long = omega (arith, x, o .inH .long);
+          d-room = rw (g, ← size-d) (o .inD .room (placeOf m n l) x);
+          h-room = omega (arith, o .inH .room (placeOf m n l) x, size-h);
+        }
 
 -- ---- rows, and rows of rows
 pub row-start : (X : ℕ) (m : Life) (n : ℕ) → rowTerms X m n 0 ≡ []
@@ -134,32 +139,37 @@ module _ (X w k : ℕ) where
   unfolding replacedTerm
   replaced-here h g = rw (lt-ltb 0 k h, le-leb k X g)
 
-  pub replaced-nothing : w ≡ 0 → (d : List ℤ) → d ≡ addD d (replacedTerm X w k)
-  unfolding replacedTerm addD
-  replaced-nothing e d = go (ltb 0 k && leb k X)
-    where
-      go : (b : Bool) → d ≡ addD d (if b then record { place = k; toD = pos (w * k); toH = 0 } ∷ [] else [])
-      go true = add-nothing d k (pos (w * k)) (ap (λ w. pos (w * k)) e ∙ ap pos (N.zero-mul k))
-      go false = refl
-
   pub replaced-size : 0 < k → k ≤ X → sizeD (replacedTerm X w k) ≡ w * k
   unfolding sizeD total
   replaced-size h g = rw (replaced-here h g) (N.add-zero (w * k))
 
-  replaced-h : (h : List ℕ) → h ≡ addH h (replacedTerm X w k)
-  unfolding replacedTerm addH
-  replaced-h h = go (ltb 0 k && leb k X)
-    where
-      go : (b : Bool) → h ≡ addH h (if b then record { place = k; toD = pos (w * k); toH = 0 } ∷ [] else [])
-      go true = sym (ap (set h k) (N.add-zero (getD h k 0)) ∙ set-getD h k 0)
-      go false = refl
+  -- of c lives
+  module _ (c : ℕ) where
+    pub replaced-nothing : w ≡ 0 → (d : List ℤ) → d ≡ addD d (times c (replacedTerm X w k))
+    unfolding replacedTerm addD times
+    replaced-nothing e d = go (ltb 0 k && leb k X)
+      where
+        go : (b : Bool) → d ≡ addD d (times c (if b then record { place = k; toD = pos (w * k); toH = 0 } ∷ [] else []))
+        go true = add-nothing d k (pos c *ℤ pos (w * k)) (ap (λ w. pos c *ℤ pos (w * k)) e ∙ ap (λ z. pos c *ℤ pos z) (N.zero-mul k) ∙ *ℤ-zero (pos c))
+        go false = refl
 
-pub replaced-none : (X : ℕ) (a : Frequencies) (m : Life) (h : List ℕ) → h ≡ addH h (replacedTerms X a m)
+    replaced-h : (h : List ℕ) → h ≡ addH h (times c (replacedTerm X w k))
+    unfolding replacedTerm addH times
+    replaced-h h = go (ltb 0 k && leb k X)
+      where
+        go : (b : Bool) → h ≡ addH h (times c (if b then record { place = k; toD = pos (w * k); toH = 0 } ∷ [] else []))
+        go true = sym (ap (λ z. set h k (getD h k 0 + z)) (N.mul-zero c) ∙ ap (set h k) (N.add-zero (getD h k 0)) ∙ set-getD h k 0)
+        go false = refl
+
+pub replaced-none : (X : ℕ) (a : Frequencies) (m : Life) (c : ℕ) (h : List ℕ) → h ≡ addH h (times c (replacedTerms X a m))
 unfolding replacedTerms
-replaced-none X a m h =
-    replaced-h X (disabilityWeight a m) (m .e) h
-    ∙ ap (λ x. addH x (replacedTerm X (disabilityWeight a m) (m .e))) (replaced-h X (deathWeight a m) (m .d) h)
-    ∙ sym (addH-append h (replacedTerm X (deathWeight a m) (m .d)) (replacedTerm X (disabilityWeight a m) (m .e)))
+replaced-none X a m c h =
+    let one = replacedTerm X (deathWeight a m) (m .d) in
+    let two = replacedTerm X (disabilityWeight a m) (m .e) in
+    replaced-h X (disabilityWeight a m) (m .e) c h
+    ∙ ap (λ x. addH x (times c two)) (replaced-h X (deathWeight a m) (m .d) c h)
+    ∙ sym (addH-append h (times c one) (times c two))
+    ∙ ap (addH h) (sym (times-append c one two))
 
 -- ---- either group
 pub life-single : (X r : ℕ) (a : Frequencies) (m : Life) → single m ≡ true → lifeTerms X r a m ≡ singleTerms X m r

@@ -1,17 +1,10 @@
--- Sums over lists: the sum over two lists, and bounds of the parts are bounds of the sum.
-use mathlib.Core.Path.{_≡_, sym}
-use mathlib.Core.List.{List, [], _∷_, _++_}
+-- Sums over lists: bounds of the parts are bounds of the sum.
+use mathlib.Core.List.{List, [], _∷_}
 use Prim.Native.Nat.{ℕ, _+_, _*_, _≤_}
-use native.Mathlib.Nat as N
 use native.Mathlib.Omega.{arith}
 use lib.ListN.{length}
 use Rattle.fund.specs.Base.{total}
 use Rattle.laws.specs.Accepted.{All}
-
-pub total-append : {A : Type 0} (f : A → ℕ) (xs ys : List A) → total f (xs ++ ys) ≡ total f xs + total f ys
-unfolding total
-total-append f [] ys = sym (N.zero-add (total f ys))
-total-append f (x ∷ xs) ys = let h = total-append f xs ys in omega arith
 
 -- a bound of each part, b times another part and a constant
 pub total-le : {A : Type 0} (P : A → Type 0) (f g : A → ℕ) (b c : ℕ) → ((a : A) → P a → f a ≤ b * (g a + c)) → (l : List A) → All P l → total f l ≤ b * (total g l + c * length l)

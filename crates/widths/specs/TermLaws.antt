@@ -1,4 +1,4 @@
--- The terms of all lives: each of them at a place up to the horizon and 0 at place 0 (`terms-sound`); so cells that were 0 hold D
+-- The terms of all lines: each of them at a place up to the horizon and 0 at place 0 (`lines-sound`); so cells that were 0 hold D
 -- and H after the terms are added (`filled-d`, `filled-h`).
 use mathlib.Core.Path.{_≡_, refl, sym, _∙_, ap, ap₂}
 use mathlib.Core.Bool.{Bool, true, false, _&&_}
@@ -8,17 +8,18 @@ use native.Mathlib.Nat as N
 use native.Mathlib.Omega.{arith}
 use borrow.Author.Tests.{leb-true, ltb-true}
 use lib.Dec.{eqb, leb, ltb, eqb·suc-zero}
-use lib.IntN.{ℤ, pos, natAbs, _+ℤ_, +ℤ-idl}
+use lib.IntN.{ℤ, pos, natAbs, _+ℤ_, _*ℤ_, +ℤ-idl, *ℤ-zero}
 use lib.ListN.{length, getD, take, drop, take-append-drop}
 use lib.Seq.{ext-getD, getD-take, length-take-le}
 use Rattle.fund.specs.declared.Frequencies.{Frequencies}
 use Rattle.fund.specs.declared.Life.{Life}
+use Rattle.fund.specs.declared.ModelPoint.{ModelPoint}
 use Rattle.fund.specs.Base.{if_then_else_, table}
 use Rattle.fund.specs.Folding.{single}
-use Rattle.fund.specs.Transform.{Term, row, placeOf, placed, termOf, rowTerms, singleTerms, replacedTerm, replacedTerms, deathWeight, disabilityWeight, terms, sumD, sumH, D, H}
+use Rattle.fund.specs.Transform.{Term, row, placeOf, placed, termOf, rowTerms, singleTerms, replacedTerm, replacedTerms, deathWeight, disabilityWeight, sumD, sumH, D, H}
 use Rattle.laws.specs.Accepted.{All, all-map}
 use Rattle.laws.specs.Tables.{length-table, getD-table}
-use Rattle.widths.specs.Adding.{addD, addH, sizeD, sizeH, Room, termsAt, lifeTerms, Cleared}
+use Rattle.widths.specs.Adding.{addD, addH, sizeD, sizeH, Room, termsAt, times, lifeTerms, pointTerms, lineTerms, Cleared}
 use Rattle.widths.specs.AddingLaws.{addD-at, addH-at, addD-beyond, addH-beyond, length-addD, length-addH}
 use Rattle.widths.specs.Placing.{placed-within, term-zero}
 
@@ -69,16 +70,33 @@ replaced-sound X w k = go (ltb 0 k) (leb k X) refl refl
     go true false e f = tt
     go false c e f = tt
 
-pub terms-sound : (X r : ℕ) (a : Frequencies) (ms : List Life) → All (Sound X) (terms X r a ms)
-unfolding terms replacedTerms
-terms-sound X r a [] = tt
-terms-sound X r a (m ∷ ms) = all-join (Sound X) (lifeTerms X r a m) (terms X r a ms) (go (single m)) (terms-sound X r a ms)
+life-sound : (X r : ℕ) (a : Frequencies) (m : Life) → All (Sound X) (lifeTerms X r a m)
+unfolding replacedTerms
+life-sound X r a m = go (single m)
   where
     go : (b : Bool) → All (Sound X) (if b then singleTerms X m r else replacedTerms X a m)
     go true = single-sound X m r
     go false =
         all-join (Sound X) (replacedTerm X (deathWeight a m) (m .d)) (replacedTerm X (disabilityWeight a m) (m .e))
         (replaced-sound X (deathWeight a m) (m .d)) (replaced-sound X (disabilityWeight a m) (m .e))
+
+times-sound : (X c : ℕ) (ts : List Term) → All (Sound X) ts → All (Sound X) (times c ts)
+unfolding times
+times-sound X c [] a = tt
+times-sound X c (t ∷ ts) a = (
+  record {
+    within = a .0 .within;
+    no-D = λ z. ap (λ y. pos c *ℤ y) (a .0 .no-D z) ∙ *ℤ-zero (pos c);
+    no-H = λ z. ap (λ y. c * y) (a .0 .no-H z) ∙ N.mul-zero c;
+  },
+  times-sound X c ts (a .1),
+)
+
+pub lines-sound : (X r : ℕ) (a : Frequencies) (ps : List ModelPoint) → All (Sound X) (lineTerms X r a ps)
+unfolding lineTerms
+lines-sound X r a [] = tt
+lines-sound X r a (p ∷ ps) =
+    all-join (Sound X) (pointTerms X r a p) (lineTerms X r a ps) (times-sound X (p .lives) (lifeTerms X r a (p .life)) (life-sound X r a (p .life))) (lines-sound X r a ps)
 
 -- ---- D and H are the sums over the terms at each place, 0 among them
 sumD-zero : (X : ℕ) (ts : List Term) → All (Sound X) ts → sumD 0 ts ≡ pos 0

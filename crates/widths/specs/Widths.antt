@@ -16,7 +16,7 @@ use Rattle.rounding.proofs.Laws.{near-below}
 use Rattle.fund.specs.declared.Frequencies.{Frequencies}
 use Rattle.fund.specs.declared.Life.{Life}
 use Rattle.fund.specs.Base.{if_then_else_, total, sum}
-use Rattle.fund.specs.Limits.{most-horizon, most-members}
+use Rattle.fund.specs.Limits.{most-horizon, most-lives}
 use Rattle.fund.specs.Folding.{claim, stay, single}
 use Rattle.fund.specs.Transform.{unit, row, Term, placeOf, placed, rowTerms, singleTerms, deathWeight, disabilityWeight, replacedTerm, replacedTerms, terms, sumD, D, H, load}
 use Rattle.laws.specs.Accepted.{All}
@@ -153,7 +153,7 @@ lives-H X r a [] = none-H
 lives-H X r a (m ∷ ms) =
     sizeH-append (lifeTerms X r a m) (terms X r a ms) ∙ ap (λ x. sizeH (lifeTerms X r a m) + x) (lives-H X r a ms)
 
-module _ (X r : ℕ) (a : Frequencies) (ms : List Life) (x : X ≤ most-horizon) (o : r ≤ 12) (few : length ms ≤ most-members) (i : All InRange ms) where
+module _ (X r : ℕ) (a : Frequencies) (ms : List Life) (x : X ≤ most-horizon) (o : r ≤ 12) (few : length ms ≤ most-lives) (i : All InRange ms) where
   pub width-D : load a ms ≤ 8000000000000 → sizeD (terms X r a ms) ≤ 400000000000000000
   width-D l =
       omega (
