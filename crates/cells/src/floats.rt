@@ -65,7 +65,7 @@ pub(crate) fn rate_floats(row: &[u8]) -> RateFloats
     }
 }
 
-// Four floats of 32 bytes.
+// Five floats of 40 bytes.
 pub(crate) fn member_floats(row: &[u8]) -> MemberFloats
     requires { do ⌜ member-width ≤ (← ⟦row.len()⟧) ⌝ }
     ensures { λ r. ⌜ r ≡ memberFloats (now (row .entry)) ⌝ }
@@ -75,5 +75,6 @@ pub(crate) fn member_floats(row: &[u8]) -> MemberFloats
         group: float_at(row, 8),
         d: float_at(row, 16),
         e: float_at(row, 24),
+        lives: float_at(row, 32),
     }
 }

@@ -57,6 +57,11 @@ fn member_taken(r: MemberFloats) -> SheetRow
         ),
         number::amount(number::classed(r.d)),
         number::amount(number::classed(r.e)),
+        number::number(
+            Fund::LEAST_LIVES,
+            Fund::MOST_LIVES,
+            number::classed(r.lives),
+        ),
     )
 }
 
@@ -76,8 +81,8 @@ fn rate_joined(age: Taken, q: Taken, i: Taken) -> SheetRow
     SheetRow::Rate(Rate { age, q, i })
 }
 
-fn member_joined(age: Taken, group: Taken, d: Taken, e: Taken) -> SheetRow
-    ensures { λ r. ⌜ r ≡ memberJoined age group d e ⌝ }
+fn member_joined(age: Taken, group: Taken, d: Taken, e: Taken, lives: Taken) -> SheetRow
+    ensures { λ r. ⌜ r ≡ memberJoined age group d e lives ⌝ }
 {
     let Taken::As(age) = age else {
         return SheetRow::NotTaken;
@@ -91,5 +96,14 @@ fn member_joined(age: Taken, group: Taken, d: Taken, e: Taken) -> SheetRow
     let Taken::As(e) = e else {
         return SheetRow::NotTaken;
     };
-    SheetRow::Member(Member { age, group, d, e })
+    let Taken::As(lives) = lives else {
+        return SheetRow::NotTaken;
+    };
+    SheetRow::Member(Member {
+        age,
+        group,
+        d,
+        e,
+        lives,
+    })
 }

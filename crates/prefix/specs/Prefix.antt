@@ -24,7 +24,7 @@ keys-short : KeysShort headerLines
 unfolding headerLines bytes
 keys-short = omega arith
 
--- Reading passes at most the header lines, the rows and the `end=` line: 43,993 bytes are enough.
+-- Reading passes at most the header lines, the rows and the `end=` line: 53,064 bytes are enough.
 reading-enough : (n : ℕ) (file : List ℕ) → bytes-for (length headerLines + most-rates + most-members) ≤ n → reading (take n file) ≡ reading file
 unfolding reading
 reading-enough n file h = header-same fileRows (bytes-for (most-rates + most-members)) file-behind headerLines 1 [] keys-short (lines-cut n file) (omega arith) (omega arith)

@@ -45,7 +45,7 @@ end-same k file (inside e g) h = refl
 other-row : (l : Line) → Unspelled l → rowOf l ≡ otherRow
 unfolding rowOf bytes
 other-row l u =
-    rw (u (bytes "rate=") 3 (omega arith), rowOf) (rw (u (bytes "member=") 4 (omega arith), rowOf) (rw (u (bytes "end=") 1 (omega arith), rowOf)))
+    rw (u (bytes "rate=") 3 (omega arith), rowOf) (rw (u (bytes "member=") 5 (omega arith), rowOf) (rw (u (bytes "end=") 1 (omega arith), rowOf)))
 
 rows-stop : (k : ℕ) (header : Fund) (rates : List Rate) (members : List Member) (l : Line) (ls : List Line) → Unspelled l → readRows k header rates members (l ∷ ls) ≡ stopped Form k
 unfolding readRows

@@ -93,9 +93,9 @@ module _ (key : List ℕ) (count : ℕ) (l : Line) where
       go true = behind-long (behind key (l .text)) refl
       go false = refl
 
--- The longest line is `member=` with four numbers of seven digits, and its line feed.
+-- The longest line is `member=` with five numbers of seven digits, and its line feed.
 abbrev pub most-line : ℕ
-most-line = 39
+most-line = 47
 
 -- A line that is spelled right for no key and no count of a fund file.
 abbrev pub Unspelled : Line → Type 0

@@ -1,4 +1,4 @@
--- Laws of a row line: what its numbers make it, and its range by the counts of the rows before and the least age.
+-- Laws of a row line: what its numbers make it, and its range by the counts of the rows before, the least age and the lives so far.
 use mathlib.Core.Path.{_≡_, refl, sym}
 use mathlib.Core.Bool.{true, false}
 use mathlib.Core.List.{List, [], _∷_, _++_}
@@ -11,11 +11,11 @@ use lib.ListN.{length, take, getD}
 use lib.Seq.{getD-take}
 use Rattle.fund.specs.declared.Rate.{Rate}
 use Rattle.fund.specs.declared.Member.{Member}
-use Rattle.fund.specs.Limits.{most-rates, most-age, most-rate, most-members, least-group, most-group, most-amount}
+use Rattle.fund.specs.Limits.{most-rates, most-age, most-rate, most-members, least-group, most-group, most-amount, least-lives, most-lives}
 use Rattle.fund.specs.Base.{bytes}
 use Rattle.fund.specs.Lines.{Line as FundLine}
 use Rattle.fund.specs.Spelling.{spelled}
-use Rattle.fund.specs.Reading.{rowOf, rateRow, memberRow, endRow, otherRow, between, rising, rateInRange, memberInRange, noMember}
+use Rattle.fund.specs.Reading.{rowOf, rateRow, memberRow, endRow, otherRow, between, rising, rateInRange, livesInAll, memberInRange, noMember}
 use Rattle.laws.specs.Ranges.{and-true}
 use Rattle.reader.specs.Rows.{leastAge, rateFits, memberFits}
 
@@ -28,14 +28,14 @@ module _ (l : FundLine) where
       (rw (getD-take 3 v 0 0 (omega arith), getD-take 3 v 1 0 (omega arith), getD-take 3 v 2 0 (omega arith)))
 
   module _ (f : spelled (bytes "rate=") 3 l ≡ none) where
-    pub row-member : (v : List ℕ) → spelled (bytes "member=") 4 l ≡ some (take 4 v) → rowOf l ≡ memberRow (record { age = getD v 0 0; group = getD v 1 0; d = getD v 2 0; e = getD v 3 0 })
+    pub row-member : (v : List ℕ) → spelled (bytes "member=") 5 l ≡ some (take 5 v) → rowOf l ≡ memberRow (record { age = getD v 0 0; group = getD v 1 0; d = getD v 2 0; e = getD v 3 0; lives = getD v 4 0 })
     unfolding rowOf
     row-member v e =
         rw (f, rowOf)
         (rw (e, rowOf)
-        (rw (getD-take 4 v 0 0 (omega arith), getD-take 4 v 1 0 (omega arith), getD-take 4 v 2 0 (omega arith), getD-take 4 v 3 0 (omega arith))))
+        (rw (getD-take 5 v 0 0 (omega arith), getD-take 5 v 1 0 (omega arith), getD-take 5 v 2 0 (omega arith), getD-take 5 v 3 0 (omega arith), getD-take 5 v 4 0 (omega arith))))
 
-    module _ (g : spelled (bytes "member=") 4 l ≡ none) where
+    module _ (g : spelled (bytes "member=") 5 l ≡ none) where
       pub row-end : (v : List ℕ) → spelled (bytes "end=") 1 l ≡ some (take 1 v) → rowOf l ≡ endRow (getD v 0 0)
       unfolding rowOf
       row-end v e = rw (f, rowOf) (rw (g, rowOf) (rw (e, rowOf) (rw (getD-take 1 v 0 0 (omega arith)))))
@@ -57,12 +57,12 @@ least-last [] r = refl
 least-last (x ∷ []) r = refl
 least-last (x ∷ y ∷ rs) r = least-last (y ∷ rs) r
 
--- The tests by the counts and the least age are the definition's.
+-- The tests by the counts, the least age and the lives are the definition's.
 pub rate-fits : (rs : List Rate) (r : Rate) → rateInRange rs r ≡ rateFits (length rs) (leastAge rs) r
 unfolding rateInRange rateFits
 rate-fits rs r = rw (rising-least rs (r .age))
 
-pub member-fits : (ms : List Member) (m : Member) → memberInRange ms m ≡ memberFits (length ms) m
+pub member-fits : (ms : List Member) (m : Member) → memberInRange ms m ≡ memberFits (length ms) (livesInAll ms) m
 unfolding memberInRange memberFits
 member-fits ms m = refl
 
@@ -76,7 +76,7 @@ unfolding noMember
 some-member [] h = absurd (omega arith)
 some-member (m ∷ ms) h = refl
 
--- What a row that fits says of its place in the table and of its age.
+-- What a row that fits says of its place in the table, of its age and of its lives.
 pub fits-rated : (rated least : ℕ) (r : Rate) → rateFits rated least r ≡ true → (rated < most-rates) × (r .age ≤ most-age)
 unfolding rateFits
 fits-rated rated least r e =
@@ -87,11 +87,13 @@ fits-rated rated least r e =
     let h1 = and-true (ltb rated most-rates) (leb (r .age) most-age) (h2 .0) in
     (ltb-true _ _ (h1 .0), leb-true _ _ (h1 .1))
 
-pub fits-enrolled : (enrolled : ℕ) (m : Member) → memberFits enrolled m ≡ true → enrolled < most-members
+pub fits-enrolled : (enrolled lives : ℕ) (m : Member) → memberFits enrolled lives m ≡ true → (enrolled < most-members) × (lives + m .lives ≤ most-lives)
 unfolding memberFits
-fits-enrolled enrolled m e =
-    let h4 = and-true _ (leb (m .e) most-amount) e in
+fits-enrolled enrolled lives m e =
+    let h6 = and-true _ (leb (lives + m .lives) most-lives) e in
+    let h5 = and-true _ (between least-lives most-lives (m .lives)) (h6 .0) in
+    let h4 = and-true _ (leb (m .e) most-amount) (h5 .0) in
     let h3 = and-true _ (leb (m .d) most-amount) (h4 .0) in
     let h2 = and-true _ (between least-group most-group (m .group)) (h3 .0) in
     let h1 = and-true (ltb enrolled most-members) (leb (m .age) most-age) (h2 .0) in
-    ltb-true _ _ (h1 .0)
+    (ltb-true _ _ (h1 .0), leb-true _ _ (h6 .1))

@@ -11,7 +11,9 @@ use Rattle.fund.specs.declared.Member.{Member}
 use Rattle.fund.specs.declared.Refusal.{Refusal}
 use Rattle.fund.specs.declared.Verdict.the-variants.{Accepted}
 use Rattle.fund.specs.Limits.{most-rates, most-members}
-use Rattle.fund.specs.Reading.{read, stopped, headerLines, fileRows, readRows, reading}
+use Rattle.fund.specs.Base.{total}
+use Rattle.fund.specs.Reading.{read, stopped, headerLines, livesInAll, fileRows, readRows, reading}
+use Rattle.laws.specs.Ranges.{lives-more}
 use Rattle.laws.specs.Rows.{blankRate, blankMember, rows-length, rows-put}
 use Rattle.reader.specs.declared.FileRead.{FileRead}
 use Rattle.reader.specs.declared.header.Header.the-variants.{Whole}
@@ -23,8 +25,8 @@ use Rattle.reader.specs.Rows.{leastAge, rowsFrom, afterRowLine, RowStepp
 use Rattle.reader.specs.Read.{rateTable, memberTable, fileRead}
 use Rattle.reader.proofs.Rows.{least-last}
 
--- The tables hold the rows that are read.
-pub record Tables (rs : List Rate) (ms : List Member) (rates : List Rate) (members : List Member) (rated enrolled least : ℕ) : Type 0 where
+-- The tables hold the rows that are read, and the counts, the least age and the lives are theirs.
+pub record Tables (rs : List Rate) (ms : List Member) (rates : List Rate) (members : List Member) (rated enrolled least lives : ℕ) : Type 0 where
   pub rates-are : rates ≡ rateTable rs
   pub members-are : members ≡ memberTable ms
   pub rated-is : length rs ≡ rated
@@ -32,12 +34,13 @@ pub record Tables (rs : List Rate) (ms : List Member) (rates : List Rate) (membe
   pub few-rates : rated ≤ most-rates
   pub few-members : enrolled ≤ most-members
   pub least-is : leastAge rs ≡ least
+  pub lives-are : livesInAll ms ≡ lives
 
-pub blank : Tables [] [] (rateTable []) (memberTable []) 0 0 0
-unfolding leastAge
-blank = record { rates-are = refl; members-are = refl; rated-is = refl; enrolled-is = refl; few-rates = omega arith; few-members = omega arith; least-is = refl }
+pub blank : Tables [] [] (rateTable []) (memberTable []) 0 0 0 0
+unfolding leastAge livesInAll total
+blank = record { rates-are = refl; members-are = refl; rated-is = refl; enrolled-is = refl; few-rates = omega arith; few-members = omega arith; least-is = refl; lives-are = refl }
 
-module _ (rs : List Rate) (ms : List Member) (rates : List Rate) (members : List Member) (rated enrolled least : ℕ) (t : Tables rs ms rates members rated enrolled least) where
+module _ (rs : List Rate) (ms : List Member) (rates : List Rate) (members : List Member) (rated enrolled least lives : ℕ) (t : Tables rs ms rates members rated enrolled least lives) where
   pub rates-long : length rates ≡ most-rates
   unfolding rateTable
   rates-long = ap length (t .rates-are) ∙ rows-length blankRate most-rates rs (omega (arith, t .rated-is, t .few-rates))
@@ -46,7 +49,7 @@ module _ (rs : List Rate) (ms : List Member) (rates : List Rate) (members : List
   unfolding memberTable
   members-long = ap length (t .members-are) ∙ rows-length blankMember most-members ms (omega (arith, t .enrolled-is, t .few-members))
 
-  pub rate-put : (r : Rate) → rated < most-rates → Tables (rs ++ (r ∷ [])) ms (set rates rated r) members (rated + 1) enrolled (r .age + 1)
+  pub rate-put : (r : Rate) → rated < most-rates → Tables (rs ++ (r ∷ [])) ms (set rates rated r) members (rated + 1) enrolled (r .age + 1) lives
   unfolding rateTable
   rate-put r few =
       record {
@@ -57,9 +60,10 @@ module _ (rs : List Rate) (ms : List Member) (rates : List Rate) (members : List
         few-rates = omega (arith, few);
         few-members = t .few-members;
         least-is = least-last rs r ∙ sym (add-one (r .age));
+        lives-are = t .lives-are;
       }
 
-  pub member-put : (m : Member) → enrolled < most-members → Tables rs (ms ++ (m ∷ [])) rates (set members enrolled m) rated (enrolled + 1) least
+  pub member-put : (m : Member) → enrolled < most-members → Tables rs (ms ++ (m ∷ [])) rates (set members enrolled m) rated (enrolled + 1) least (lives + m .lives)
   unfolding memberTable
   member-put m few =
       record {
@@ -70,6 +74,7 @@ module _ (rs : List Rate) (ms : List Member) (rates : List Rate) (members : List
         few-rates = t .few-rates;
         few-members = omega (arith, few);
         least-is = t .least-is;
+        lives-are = omega (arith, lives-more ms m, t .lives-are);
       }
 
   pub all-read : (fund : Fund) → record { verdict = Accepted; fund = fund; rates = rates; rated = rated; members = members; enrolled = enrolled } ≡ fileRead (read (record { header = fund; rates = rs; members = ms }))
@@ -77,32 +82,32 @@ module _ (rs : List Rate) (ms : List Member) (rates : List Rate) (members : List
   all-read fund = rw (t .rates-are, t .members-are, t .rated-is, t .enrolled-is)
 
 -- What is left to be read stands from a place of the file on.
-pub record RowsSoFar (file : List ℕ) (fund : Fund) (rates : List Rate) (members : List Member) (rated enrolled least at : ℕ) : Type 0 where
+pub record RowsSoFar (file : List ℕ) (fund : Fund) (rates : List Rate) (members : List Member) (rated enrolled least lives at : ℕ) : Type 0 where
   pub rs : List Rate
   pub ms : List Member
-  pub tables : Tables rs ms rates members rated enrolled least
+  pub tables : Tables rs ms rates members rated enrolled least lives
   pub same : reading file ≡ rowsFrom file fund rs ms at
 
-pub start : (file : List ℕ) (fund : Fund) (at : ℕ) → HeaderRead file (Whole fund at) → RowsSoFar file fund (rateTable []) (memberTable []) 0 0 0 at
+pub start : (file : List ℕ) (fund : Fund) (at : ℕ) → HeaderRead file (Whole fund at) → RowsSoFar file fund (rateTable []) (memberTable []) 0 0 0 0 at
 unfolding reading
 start file fund at e =
     let z : suc (length headerLines) ≡ suc (length headerLines + 0 + 0) = omega arith in
     record { rs = []; ms = []; tables = blank; same = e fileRows ∙ ap (λ k. readRows k fund [] [] (linesAt file at)) z }
 
-module _ (file : List ℕ) (fund : Fund) (rates : List Rate) (members : List Member) (rated enrolled least at : ℕ) (s : RowsSoFar file fund rates members rated enrolled least at) where
-  after : (step : RowStep) → RowStepped file at rated enrolled least step → reading file ≡ afterRowLine file fund (s .rs) (s .ms) step
-  after step w = s .same ∙ w .same fund (s .rs) (s .ms) (s .tables .rated-is) (s .tables .enrolled-is) (s .tables .least-is)
+module _ (file : List ℕ) (fund : Fund) (rates : List Rate) (members : List Member) (rated enrolled least lives at : ℕ) (s : RowsSoFar file fund rates members rated enrolled least lives at) where
+  after : (step : RowStep) → RowStepped file at rated enrolled least lives step → reading file ≡ afterRowLine file fund (s .rs) (s .ms) step
+  after step w = s .same ∙ w .same fund (s .rs) (s .ms) (s .tables .rated-is) (s .tables .enrolled-is) (s .tables .least-is) (s .tables .lives-are)
 
-  pub rate-taken : (r : Rate) (next : ℕ) → RowStepped file at rated enrolled least (RateNext r next) → RowsSoFar file fund (set rates rated r) members (rated + 1) enrolled (r .age + 1) next
+  pub rate-taken : (r : Rate) (next : ℕ) → RowStepped file at rated enrolled least lives (RateNext r next) → RowsSoFar file fund (set rates rated r) members (rated + 1) enrolled (r .age + 1) lives next
   rate-taken r next w =
-      record { rs = s .rs ++ (r ∷ []); ms = s .ms; tables = rate-put (s .rs) (s .ms) rates members rated enrolled least (s .tables) r (w .takes .0 .few); same = after _ w }
+      record { rs = s .rs ++ (r ∷ []); ms = s .ms; tables = rate-put (s .rs) (s .ms) rates members rated enrolled least lives (s .tables) r (w .takes .0 .few); same = after _ w }
 
-  pub member-taken : (m : Member) (next : ℕ) → RowStepped file at rated enrolled least (MemberNext m next) → RowsSoFar file fund rates (set members enrolled m) rated (enrolled + 1) least next
+  pub member-taken : (m : Member) (next : ℕ) → RowStepped file at rated enrolled least lives (MemberNext m next) → RowsSoFar file fund rates (set members enrolled m) rated (enrolled + 1) least (lives + m .lives) next
   member-taken m next w =
-      record { rs = s .rs; ms = s .ms ++ (m ∷ []); tables = member-put (s .rs) (s .ms) rates members rated enrolled least (s .tables) m (w .takes .few); same = after _ w }
+      record { rs = s .rs; ms = s .ms ++ (m ∷ []); tables = member-put (s .rs) (s .ms) rates members rated enrolled least lives (s .tables) m (w .takes .0 .few); same = after _ w }
 
-  pub at-end : RowStepped file at rated enrolled least End → record { verdict = Accepted; fund = fund; rates = rates; rated = rated; members = members; enrolled = enrolled } ≡ fileRead (reading file)
-  at-end w = all-read (s .rs) (s .ms) rates members rated enrolled least (s .tables) fund ∙ ap fileRead (sym (after _ w))
+  pub at-end : RowStepped file at rated enrolled least lives End → record { verdict = Accepted; fund = fund; rates = rates; rated = rated; members = members; enrolled = enrolled } ≡ fileRead (reading file)
+  at-end w = all-read (s .rs) (s .ms) rates members rated enrolled least lives (s .tables) fund ∙ ap fileRead (sym (after _ w))
 
-  pub at-stop : (why : Refusal) (place : ℕ) (r : FileRead) → RowStepped file at rated enrolled least (Stopped why place) → r ≡ fileRead (stopped why place) → r ≡ fileRead (reading file)
+  pub at-stop : (why : Refusal) (place : ℕ) (r : FileRead) → RowStepped file at rated enrolled least lives (Stopped why place) → r ≡ fileRead (stopped why place) → r ≡ fileRead (reading file)
   at-stop why place r w e = e ∙ ap fileRead (sym (after _ w))

@@ -8,8 +8,8 @@ use lib.ListN.{length}
 use Rattle.fund.specs.declared.Fund.{Fund}
 use Rattle.fund.specs.declared.Rate.{Rate}
 use Rattle.fund.specs.declared.Member.{Member}
-use Rattle.fund.specs.Limits.{most-rates, most-age, most-rate, most-members, least-group, most-group, most-amount}
-use Rattle.fund.specs.Reading.{Reading, read, stopped, between, headerLines, Row as FundRow, rateRow, memberRow, endRow, otherRow, readRows}
+use Rattle.fund.specs.Limits.{most-rates, most-age, most-rate, most-members, least-group, most-group, most-amount, least-lives, most-lives}
+use Rattle.fund.specs.Reading.{Reading, read, stopped, between, headerLines, Row as FundRow, rateRow, memberRow, endRow, otherRow, livesInAll, readRows}
 use Rattle.reader.specs.declared.row.Row.{Row}
 use Rattle.reader.specs.declared.row.Row.the-variants.{Rate as RateLine, Member as MemberLine, End as EndLine, Other}
 use Rattle.reader.specs.declared.row.RowStep.{RowStep}
@@ -32,7 +32,7 @@ leastAge [] = 0
 leastAge (r ∷ []) = suc (r .age)
 leastAge (r ∷ s ∷ rs) = leastAge (s ∷ rs)
 
--- `rateInRange` and `memberInRange`, from the number of the rows before and the least age.
+-- `rateInRange` and `memberInRange`, from the number of the rows before, the least age and the lives so far.
 unfoldable pub rateFits : ℕ → ℕ → Rate → Bool
 rateFits rated least r =
     ltb rated most-rates
@@ -42,13 +42,15 @@ rateFits rated least r =
     && leb (r .i) most-rate
     && leb (r .q + r .i) most-rate
 
-unfoldable pub memberFits : ℕ → Member → Bool
-memberFits enrolled m =
+unfoldable pub memberFits : ℕ → ℕ → Member → Bool
+memberFits enrolled lives m =
     ltb enrolled most-members
     && leb (m .age) most-age
     && between least-group most-group (m .group)
     && leb (m .d) most-amount
     && leb (m .e) most-amount
+    && between least-lives most-lives (m .lives)
+    && leb (lives + m .lives) most-lives
 
 -- The reading from a place on, behind the rows that are read.
 abbrev pub rowsFrom : List ℕ → Fund → List Rate → List Member → ℕ → Reading
@@ -67,14 +69,14 @@ pub record Taken (file : List ℕ) (at next count most : ℕ) : Type 0 where
   pub inside : next ≤ length file
   pub few : count < most
 
-abbrev pub Takes : List ℕ → ℕ → ℕ → ℕ → RowStep → Type 0
-Takes file at rated enrolled (RateNext r next) = Taken file at next rated most-rates × (r .age ≤ most-age)
-Takes file at rated enrolled (MemberNext m next) = Taken file at next enrolled most-members
-Takes file at rated enrolled End = Unit {0}
-Takes file at rated enrolled (Stopped why place) = Unit {0}
+abbrev pub Takes : List ℕ → ℕ → ℕ → ℕ → ℕ → RowStep → Type 0
+Takes file at rated enrolled lives (RateNext r next) = Taken file at next rated most-rates × (r .age ≤ most-age)
+Takes file at rated enrolled lives (MemberNext m next) = Taken file at next enrolled most-members × (lives + m .lives ≤ most-lives)
+Takes file at rated enrolled lives End = Unit {0}
+Takes file at rated enrolled lives (Stopped why place) = Unit {0}
 
--- The line at a place decides how the file is read, whatever rows of these counts stand before it.
-pub record RowStepped (file : List ℕ) (at rated enrolled least : ℕ) (step : RowStep) : Type 0 where
-  pub takes : Takes file at rated enrolled step
-  pub same : (fund : Fund) (rs : List Rate) (ms : List Member) → length rs ≡ rated → length ms ≡ enrolled → leastAge rs ≡ least →
+-- The line at a place decides how the file is read, whatever rows of these counts and lives stand before it.
+pub record RowStepped (file : List ℕ) (at rated enrolled least lives : ℕ) (step : RowStep) : Type 0 where
+  pub takes : Takes file at rated enrolled lives step
+  pub same : (fund : Fund) (rs : List Rate) (ms : List Member) → length rs ≡ rated → length ms ≡ enrolled → leastAge rs ≡ least → livesInAll ms ≡ lives →
       rowsFrom file fund rs ms at ≡ afterRowLine file fund rs ms step

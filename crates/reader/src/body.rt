@@ -47,6 +47,7 @@ fn no_member() -> Member
         group: 0,
         d: 0,
         e: 0,
+        lives: 0,
     }
 }
 
@@ -81,9 +82,10 @@ pub(crate) fn read_rows(file: &[u8], fund: Fund, start: usize) -> FileRead
     let mut rated: usize = 0;
     let mut enrolled: usize = 0;
     let mut least: u64 = 0;
+    let mut lives: u64 = 0;
     let mut at = start;
     loop {
-        match row::row_step(file, at, rated, enrolled, least) {
+        match row::row_step(file, at, rated, enrolled, least, lives) {
             RowStep::Rate(r, next) => {
                 rates[rated] = r;
                 rated += 1;
@@ -94,6 +96,7 @@ pub(crate) fn read_rows(file: &[u8], fund: Fund, start: usize) -> FileRead
             RowStep::Member(m, next) => {
                 members[enrolled] = m;
                 enrolled += 1;
+                lives += m.lives;
                 at = next;
                 continue;
             }

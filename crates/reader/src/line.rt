@@ -67,7 +67,7 @@ pub(crate) fn next_line(file: &[u8], at: usize) -> Line
 // The numbers of a line `key=..`, where there are just `count`. "A last line without its line feed is form."
 pub(crate) fn spelled(file: &[u8], line: Line, key: &[u8], count: usize) -> Numbers
     requires { ⌜ LineInside (now file) line ⌝ }
-    requires { ⌜ count ≤ 4 ⌝ }
+    requires { ⌜ count ≤ 5 ⌝ }
     ensures { λ r. ⌜ numbersIn count r ≡ spelled (now (key .entry)) count (lineIn (now (file .entry)) line) ⌝ }
 {
     let start = line.start;
@@ -75,7 +75,7 @@ pub(crate) fn spelled(file: &[u8], line: Line, key: &[u8], count: usize) -> Numb
     if line.next <= end {
         return Numbers {
             spelled: false,
-            values: [0u64; 4],
+            values: [0u64; 5],
         };
     }
     let text = &file[start..end];
@@ -85,6 +85,6 @@ pub(crate) fn spelled(file: &[u8], line: Line, key: &[u8], count: usize) -> Numb
     }
     Numbers {
         spelled: false,
-        values: [0u64; 4],
+        values: [0u64; 5],
     }
 }

@@ -7,9 +7,11 @@ use fund::Member;
 use fund::Rate;
 use fund::Refusal;
 ghost use mathlib.Core.Path.{_≡_};
-ghost use Prim.Native.Nat.{_≤_};
-ghost use Rattle.fund.specs.Limits.{most-rates, most-members};
-ghost use Rattle.fund.specs.Reading.{rowOf};
+ghost use mathlib.Core.Bool.{_&&_};
+ghost use Prim.Native.Nat.{_+_, _≤_};
+ghost use lib.Dec.{leb};
+ghost use Rattle.fund.specs.Limits.{most-rates, most-members, least-lives, most-lives};
+ghost use Rattle.fund.specs.Reading.{between, rowOf};
 ghost use Rattle.reader.specs.Lines.{lineIn, LineInside};
 ghost use Rattle.reader.specs.Rows.{rowIn, linePlace, rateFits, memberFits, RowStepped};
 
@@ -41,7 +43,7 @@ pub(crate) fn row_of(file: &[u8], line: Line) -> Row
             i: n[2],
         });
     }
-    let member = line::spelled(file, line, b"member=", 4);
+    let member = line::spelled(file, line, b"member=", 5);
     if member.spelled {
         let n = member.values;
         return Row::Member(Member {
@@ -49,6 +51,7 @@ pub(crate) fn row_of(file: &[u8], line: Line) -> Row
             group: n[1],
             d: n[2],
             e: n[3],
+            lives: n[4],
         });
     }
     let end = line::spelled(file, line, b"end=", 1);
@@ -89,9 +92,19 @@ pub fn rate_in_range(rated: usize, least: u64, r: Rate) -> bool
     r.q + r.i <= Fund::MOST_RATE
 }
 
-// The member row behind `enrolled` others.
-pub fn member_in_range(enrolled: usize, m: Member) -> bool
-    ensures { λ t. ⌜ t ≡ memberFits enrolled m ⌝ }
+// The lives of a member row behind rows of so many: "lives in all are at most 1,000, else range (2) at the line that passes it".
+fn lives_in_range(before: u64, lives: u64) -> bool
+    ensures { λ t. ⌜ t ≡ (between least-lives most-lives lives && leb (before + lives) most-lives) ⌝ }
+{
+    if header::within(Fund::LEAST_LIVES, Fund::MOST_LIVES, lives) {
+        return before <= Fund::MOST_LIVES - lives;
+    }
+    false
+}
+
+// The member row behind `enrolled` others, which stand for so many lives.
+pub fn member_in_range(enrolled: usize, lives: u64, m: Member) -> bool
+    ensures { λ t. ⌜ t ≡ memberFits enrolled lives m ⌝ }
 {
     if Fund::MEMBER_ROWS <= enrolled {
         return false;
@@ -103,16 +116,26 @@ pub fn member_in_range(enrolled: usize, m: Member) -> bool
         if Fund::MOST_AMOUNT < m.d {
             return false;
         }
-        return m.e <= Fund::MOST_AMOUNT;
+        if Fund::MOST_AMOUNT < m.e {
+            return false;
+        }
+        return lives_in_range(lives, m.lives);
     }
     false
 }
 
 // The line at `at`, behind the rows before it. A rate line after a member line breaks the order. `end=`: "the number of
 // member lines; nothing after it."
-pub(crate) fn row_step(file: &[u8], at: usize, rated: usize, enrolled: usize, least: u64) -> RowStep
+pub(crate) fn row_step(
+    file: &[u8],
+    at: usize,
+    rated: usize,
+    enrolled: usize,
+    least: u64,
+    lives: u64,
+) -> RowStep
     requires { ⌜ (rated ≤ most-rates) × (enrolled ≤ most-members) ⌝ }
-    ensures { λ r. ⌜ RowStepped (now (file .entry)) at rated enrolled least r ⌝ }
+    ensures { λ r. ⌜ RowStepped (now (file .entry)) at rated enrolled least lives r ⌝ }
 {
     let here = line_place(rated, enrolled);
     if file.len() <= at {
@@ -131,7 +154,7 @@ pub(crate) fn row_step(file: &[u8], at: usize, rated: usize, enrolled: usize, le
             RowStep::Stopped(Refusal::Range, here)
         }
         Row::Member(m) => {
-            if member_in_range(enrolled, m) {
+            if member_in_range(enrolled, lives, m) {
                 return RowStep::Member(m, l.next);
             }
             RowStep::Stopped(Refusal::Range, here)

@@ -15,7 +15,7 @@ use Rattle.fund.specs.declared.Refusal.the-variants.{Range, Cell as CellRefusal
 use Rattle.fund.specs.declared.SheetRow.{SheetRow}
 use Rattle.fund.specs.declared.SheetRow.the-variants.{Rate as RateRow, Member as MemberRow, NotTaken}
 use Rattle.fund.specs.Base.{table}
-use Rattle.fund.specs.Reading.{stopped, headerLines, rateInRange, memberInRange}
+use Rattle.fund.specs.Reading.{stopped, headerLines, rateInRange, livesInAll, memberInRange}
 use Rattle.fund.specs.Cells.{rate-width, member-width, rateRowOf, memberRowOf}
 use Rattle.fund.specs.Sheets.{rowCount, rowAt, rowsOf, readSheetRows}
 use Rattle.laws.specs.Tables.{length-table, getD-table}
@@ -106,28 +106,28 @@ module _ (rates members : List ℕ) (rated enrolled : ℕ) where
     no-more h = rw (rows-none rate-width rates (omega arith) rated done, rows-none member-width members (omega arith) enrolled h)
 
 -- ---- what a row settles
-module _ (rates members : List ℕ) (rated enrolled least : ℕ) where
-  pub rows-end : rowsLeft rates members rated enrolled ≡ [] → RowStepped rates members rated enrolled least End
+module _ (rates members : List ℕ) (rated enrolled least lives : ℕ) where
+  pub rows-end : rowsLeft rates members rated enrolled ≡ [] → RowStepped rates members rated enrolled least lives End
   unfolding rowsFrom readSheetRows
-  rows-end e = record { takes = tt; same = λ fund rs ms a b c. rw (a, b, e) refl }
+  rows-end e = record { takes = tt; same = λ fund rs ms a b c d. rw (a, b, e) refl }
 
-  pub row-after : (row : SheetRow) → NextOf rates members rated enrolled row → RowStepped rates members rated enrolled least (rowStep rated enrolled least row)
+  pub row-after : (row : SheetRow) → NextOf rates members rated enrolled row → RowStepped rates members rated enrolled least lives (rowStep rated enrolled least lives row)
   unfolding rowsFrom readSheetRows rowStep
   row-after NotTaken k =
       record {
         takes = tt;
-        same = λ fund rs ms a b c. let z : suc (length rs + length ms) ≡ rated + enrolled + 1 = omega arith in rw (a, b, k .first) (ap (stopped CellRefusal) z);
+        same = λ fund rs ms a b c d. let z : suc (length rs + length ms) ≡ rated + enrolled + 1 = omega arith in rw (a, b, k .first) (ap (stopped CellRefusal) z);
       }
   row-after (RateRow r) k = go (rateFits rated least r) refl
     where
       fit : (rs : List Rate) → length rs ≡ rated → leastAge rs ≡ least → rateInRange rs r ≡ rateFits rated least r
       fit rs a c = rw (← a, ← c) (rate-fits rs r)
 
-      go : (b : Bool) → rateFits rated least r ≡ b → RowStepped rates members rated enrolled least (elim b [ true ↦ RateNext r | false ↦ Stopped Range (length headerLines + (rated + enrolled + 1)) ])
+      go : (b : Bool) → rateFits rated least r ≡ b → RowStepped rates members rated enrolled least lives (elim b [ true ↦ RateNext r | false ↦ Stopped Range (length headerLines + (rated + enrolled + 1)) ])
       go true f =
           record {
             takes = fits-rated rated least r f;
-            same = λ fund rs ms a b c.
+            same = λ fund rs ms a b c d.
                 let l : length (rs ++ (r ∷ [])) ≡ suc rated = omega (arith, length-append rs (r ∷ []), a) in
                 let z : suc (linePlace rated enrolled) ≡ linePlace (suc rated) enrolled = omega arith in
                 rw (a, b, k .first, k .behind, l) (rw (fit rs a c ∙ f, readSheetRows) (ap (λ n. readSheetRows n fund (rs ++ (r ∷ [])) ms (rowsLeft rates members (suc rated) enrolled)) z));
@@ -135,28 +135,28 @@ module _ (rates members : List ℕ) (rated enrolled least : ℕ) where
       go false f =
           record {
             takes = tt;
-            same = λ fund rs ms a b c.
+            same = λ fund rs ms a b c d.
                 let z : linePlace rated enrolled ≡ length headerLines + (rated + enrolled + 1) = omega arith in
                 rw (a, b, k .first) (rw (fit rs a c ∙ f, readSheetRows) (ap (stopped Range) z));
           }
-  row-after (MemberRow m) k = go (memberFits enrolled m) refl
+  row-after (MemberRow m) k = go (memberFits enrolled lives m) refl
     where
-      fit : (ms : List Member) → length ms ≡ enrolled → memberInRange ms m ≡ memberFits enrolled m
-      fit ms b = rw (← b) (member-fits ms m)
+      fit : (ms : List Member) → length ms ≡ enrolled → livesInAll ms ≡ lives → memberInRange ms m ≡ memberFits enrolled lives m
+      fit ms b d = rw (← b, ← d) (member-fits ms m)
 
-      go : (b : Bool) → memberFits enrolled m ≡ b → RowStepped rates members rated enrolled least (elim b [ true ↦ MemberNext m | false ↦ Stopped Range (length headerLines + (rated + enrolled + 1)) ])
+      go : (b : Bool) → memberFits enrolled lives m ≡ b → RowStepped rates members rated enrolled least lives (elim b [ true ↦ MemberNext m | false ↦ Stopped Range (length headerLines + (rated + enrolled + 1)) ])
       go true f =
           record {
-            takes = fits-enrolled enrolled m f;
-            same = λ fund rs ms a b c.
+            takes = fits-enrolled enrolled lives m f;
+            same = λ fund rs ms a b c d.
                 let l : length (ms ++ (m ∷ [])) ≡ suc enrolled = omega (arith, length-append ms (m ∷ []), b) in
                 let z : suc (linePlace rated enrolled) ≡ linePlace rated (suc enrolled) = omega arith in
-                rw (a, b, k .first, k .behind, l) (rw (fit ms b ∙ f, readSheetRows) (ap (λ n. readSheetRows n fund rs (ms ++ (m ∷ [])) (rowsLeft rates members rated (suc enrolled))) z));
+                rw (a, b, k .first, k .behind, l) (rw (fit ms b d ∙ f, readSheetRows) (ap (λ n. readSheetRows n fund rs (ms ++ (m ∷ [])) (rowsLeft rates members rated (suc enrolled))) z));
           }
       go false f =
           record {
             takes = tt;
-            same = λ fund rs ms a b c.
+            same = λ fund rs ms a b c d.
                 let z : linePlace rated enrolled ≡ length headerLines + (rated + enrolled + 1) = omega arith in
-                rw (a, b, k .first) (rw (fit ms b ∙ f, readSheetRows) (ap (stopped Range) z));
+                rw (a, b, k .first) (rw (fit ms b d ∙ f, readSheetRows) (ap (stopped Range) z));
           }

@@ -10,8 +10,8 @@ use Rattle.fund.specs.declared.Member.{Member}
 use Rattle.fund.specs.declared.Refusal.the-variants.{Range, Cell as CellRefusal}
 use Rattle.fund.specs.declared.SheetRow.{SheetRow}
 use Rattle.fund.specs.declared.SheetRow.the-variants.{Rate as RateRow, Member as MemberRow, NotTaken}
-use Rattle.fund.specs.Limits.{most-rates, most-age, most-members}
-use Rattle.fund.specs.Reading.{Reading, read, stopped, headerLines}
+use Rattle.fund.specs.Limits.{most-rates, most-age, most-members, most-lives}
+use Rattle.fund.specs.Reading.{Reading, read, stopped, headerLines, livesInAll}
 use Rattle.fund.specs.Cells.{rate-width, member-width, rateRowOf, memberRowOf}
 use Rattle.fund.specs.Sheets.{rowsOf, readSheetRows}
 use Rattle.reader.specs.Rows.{linePlace, leastAge, rateFits, memberFits}
@@ -58,24 +58,24 @@ module _ (rates members : List ℕ) where
   afterRow fund rs ms End = read (record { header = fund; rates = rs; members = ms })
   afterRow fund rs ms (Stopped why place) = stopped why place
 
-  -- The next row decides how the sheets are read, whatever rows of these counts stand before it.
-  abbrev pub After : ℕ → ℕ → ℕ → RowStep → Type 0
-  After rated enrolled least step = (fund : Fund) (rs : List Rate) (ms : List Member) → length rs ≡ rated → length ms ≡ enrolled → leastAge rs ≡ least →
+  -- The next row decides how the sheets are read, whatever rows of these counts and lives stand before it.
+  abbrev pub After : ℕ → ℕ → ℕ → ℕ → RowStep → Type 0
+  After rated enrolled least lives step = (fund : Fund) (rs : List Rate) (ms : List Member) → length rs ≡ rated → length ms ≡ enrolled → leastAge rs ≡ least → livesInAll ms ≡ lives →
       rowsFrom fund rs ms ≡ afterRow fund rs ms step
 
 -- A row that is taken has its place in the table.
-abbrev pub Takes : ℕ → ℕ → RowStep → Type 0
-Takes rated enrolled (RateNext r) = (rated < most-rates) × (r .age ≤ most-age)
-Takes rated enrolled (MemberNext m) = enrolled < most-members
-Takes rated enrolled End = Unit {0}
-Takes rated enrolled (Stopped why place) = Unit {0}
+abbrev pub Takes : ℕ → ℕ → ℕ → RowStep → Type 0
+Takes rated enrolled lives (RateNext r) = (rated < most-rates) × (r .age ≤ most-age)
+Takes rated enrolled lives (MemberNext m) = (enrolled < most-members) × (lives + m .lives ≤ most-lives)
+Takes rated enrolled lives End = Unit {0}
+Takes rated enrolled lives (Stopped why place) = Unit {0}
 
-pub record RowStepped (rates members : List ℕ) (rated enrolled least : ℕ) (step : RowStep) : Type 0 where
-  pub takes : Takes rated enrolled step
-  pub same : After rates members rated enrolled least step
+pub record RowStepped (rates members : List ℕ) (rated enrolled least lives : ℕ) (step : RowStep) : Type 0 where
+  pub takes : Takes rated enrolled lives step
+  pub same : After rates members rated enrolled least lives step
 
 -- What a row gives behind so many others.
-unfoldable pub rowStep : ℕ → ℕ → ℕ → SheetRow → RowStep
-rowStep rated enrolled least NotTaken = Stopped CellRefusal (rated + enrolled + 1)
-rowStep rated enrolled least (RateRow r) = elim (rateFits rated least r) [ true ↦ RateNext r | false ↦ Stopped Range (length headerLines + (rated + enrolled + 1)) ]
-rowStep rated enrolled least (MemberRow m) = elim (memberFits enrolled m) [ true ↦ MemberNext m | false ↦ Stopped Range (length headerLines + (rated + enrolled + 1)) ]
+unfoldable pub rowStep : ℕ → ℕ → ℕ → ℕ → SheetRow → RowStep
+rowStep rated enrolled least lives NotTaken = Stopped CellRefusal (rated + enrolled + 1)
+rowStep rated enrolled least lives (RateRow r) = elim (rateFits rated least r) [ true ↦ RateNext r | false ↦ Stopped Range (length headerLines + (rated + enrolled + 1)) ]
+rowStep rated enrolled least lives (MemberRow m) = elim (memberFits enrolled lives m) [ true ↦ MemberNext m | false ↦ Stopped Range (length headerLines + (rated + enrolled + 1)) ]

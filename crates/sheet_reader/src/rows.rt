@@ -57,9 +57,9 @@ fn next_row(rates: &[u8], members: &[u8], rated: usize, enrolled: usize) -> Next
 }
 
 // A row behind so many others: a cell that is not taken has the row's place, counted from 1, and range the line that the row has in a file.
-fn step_of(row: SheetRow, rated: usize, enrolled: usize, least: u64) -> RowStep
+fn step_of(row: SheetRow, rated: usize, enrolled: usize, least: u64, lives: u64) -> RowStep
     requires { ⌜ (rated ≤ most-rates) × (enrolled ≤ most-members) ⌝ }
-    ensures { λ r. ⌜ r ≡ rowStep rated enrolled least row ⌝ }
+    ensures { λ r. ⌜ r ≡ rowStep rated enrolled least lives row ⌝ }
 {
     let place = rated as u64 + enrolled as u64 + 1;
     let line = Fund::HEADER_LINES as u64 + place;
@@ -72,7 +72,7 @@ fn step_of(row: SheetRow, rated: usize, enrolled: usize, least: u64) -> RowStep
             RowStep::Stopped(Refusal::Range, line)
         }
         SheetRow::Member(m) => {
-            if reader::member_in_range(enrolled, m) {
+            if reader::member_in_range(enrolled, lives, m) {
                 return RowStep::Member(m);
             }
             RowStep::Stopped(Refusal::Range, line)
@@ -80,13 +80,20 @@ fn step_of(row: SheetRow, rated: usize, enrolled: usize, least: u64) -> RowStep
     }
 }
 
-fn row_step(rates: &[u8], members: &[u8], rated: usize, enrolled: usize, least: u64) -> RowStep
+fn row_step(
+    rates: &[u8],
+    members: &[u8],
+    rated: usize,
+    enrolled: usize,
+    least: u64,
+    lives: u64,
+) -> RowStep
     requires { ⌜ (rated ≤ most-rates) × (enrolled ≤ most-members) ⌝ }
-    ensures { λ r. ⌜ RowStepped (now (rates .entry)) (now (members .entry)) rated enrolled least r ⌝ }
+    ensures { λ r. ⌜ RowStepped (now (rates .entry)) (now (members .entry)) rated enrolled least lives r ⌝ }
 {
     match next_row(rates, members, rated, enrolled) {
         NextRow::End => RowStep::End,
-        NextRow::Row(row) => step_of(row, rated, enrolled, least),
+        NextRow::Row(row) => step_of(row, rated, enrolled, least, lives),
     }
 }
 
@@ -100,8 +107,9 @@ pub(crate) fn read_rows(fund: Fund, rates: &[u8], members: &[u8]) -> FileRead
     let mut rated: usize = 0;
     let mut enrolled: usize = 0;
     let mut least: u64 = 0;
+    let mut lives: u64 = 0;
     loop {
-        match row_step(rates, members, rated, enrolled, least) {
+        match row_step(rates, members, rated, enrolled, least, lives) {
             RowStep::Rate(r) => {
                 rate_rows[rated] = r;
                 rated += 1;
@@ -111,6 +119,7 @@ pub(crate) fn read_rows(fund: Fund, rates: &[u8], members: &[u8]) -> FileRead
             RowStep::Member(m) => {
                 member_rows[enrolled] = m;
                 enrolled += 1;
+                lives += m.lives;
                 continue;
             }
             RowStep::End => {

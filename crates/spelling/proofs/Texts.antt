@@ -60,16 +60,16 @@ pub numbers-some : (count : ℕ) (r : Numbers) → r .spelled ≡ true → numbe
 unfolding numbersIn
 numbers-some count r e = rw e
 
-pub few-numbers : (count : ℕ) (s : List ℕ) → count ≤ 4 → fewNumbers count s ≡ numbers count s
+pub few-numbers : (count : ℕ) (s : List ℕ) → count ≤ 5 → fewNumbers count s ≡ numbers count s
 unfolding fewNumbers
-few-numbers count s h = rw (le-leb count 4 h)
+few-numbers count s h = rw (le-leb count 5 h)
 
-pub many-numbers : (count : ℕ) (s : List ℕ) → 4 < count → fewNumbers count s ≡ none
+pub many-numbers : (count : ℕ) (s : List ℕ) → 5 < count → fewNumbers count s ≡ none
 unfolding fewNumbers
-many-numbers count s h = rw (lt-leb count 4 h)
+many-numbers count s h = rw (lt-leb count 5 h)
 
 -- A text that is not spelled so has blank numbers.
-pub no-numbers : (count : ℕ) (text : List ℕ) (r : Numbers) → r ≡ record { spelled = false; values = replicate 4 0 } → fewNumbers count text ≡ none → NumbersOf count text r
+pub no-numbers : (count : ℕ) (text : List ℕ) (r : Numbers) → r ≡ record { spelled = false; values = replicate 5 0 } → fewNumbers count text ≡ none → NumbersOf count text r
 unfolding numbersIn
 no-numbers count text r e n = rw e (record { numbers-are = sym n; behind = refl; blank = λ s. refl })
 

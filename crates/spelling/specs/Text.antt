@@ -29,12 +29,12 @@ readNumber text = if isNumber text then Value (value text) else Misspelled
 unfoldable pub numbersIn : ℕ → Numbers → Option (List ℕ)
 numbersIn count r = if r .spelled then some (take count (r .values)) else none
 
--- Just `count` numbers between commas, where these are at most four.
+-- Just `count` numbers between commas, where these are at most five.
 unfoldable pub fewNumbers : ℕ → List ℕ → Option (List ℕ)
-fewNumbers count text = if leb count 4 then numbers count text else none
+fewNumbers count text = if leb count 5 then numbers count text else none
 
 -- The numbers of the text, and zeros behind them; zeros where it is not spelled so.
 pub record NumbersOf (count : ℕ) (text : List ℕ) (r : Numbers) : Type 0 where
   pub numbers-are : numbersIn count r ≡ fewNumbers count text
-  pub behind : drop count (r .values) ≡ drop count (replicate 4 0)
-  pub blank : r .spelled ≡ false → r .values ≡ replicate 4 0
+  pub behind : drop count (r .values) ≡ drop count (replicate 5 0)
+  pub blank : r .spelled ≡ false → r .values ≡ replicate 5 0

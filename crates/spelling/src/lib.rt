@@ -19,7 +19,7 @@ enum Number {
 // The numbers of a text, where it is spelled so.
 pub struct Numbers {
     pub spelled: bool,
-    pub values: [u64; 4],
+    pub values: [u64; 5],
 }
 
 // The place of the first byte `b` from `from` on; where there is none, the length, or `from` if that is larger.
@@ -88,10 +88,10 @@ fn number_of(text: &[u8]) -> Number
 
 // Just `count` numbers between commas.
 fn collect_numbers(text: &[u8], count: usize) -> Numbers
-    requires { ⌜ count ≤ 4 ⌝ }
-    ensures { λ r. ⌜ (numbersIn count r ≡ numbers count (now (text .entry))) × (drop count (r .values) ≡ drop count (replicate 4 0)) ⌝ }
+    requires { ⌜ count ≤ 5 ⌝ }
+    ensures { λ r. ⌜ (numbersIn count r ≡ numbers count (now (text .entry))) × (drop count (r .values) ≡ drop count (replicate 5 0)) ⌝ }
 {
-    let mut values = [0u64; 4];
+    let mut values = [0u64; 5];
     let mut k: usize = 0;
     let mut at: usize = 0;
     while k < count {
@@ -119,19 +119,19 @@ fn collect_numbers(text: &[u8], count: usize) -> Numbers
 }
 
 fn no_numbers() -> Numbers
-    ensures { λ r. ⌜ r ≡ record { spelled = false; values = replicate 4 0 } ⌝ }
+    ensures { λ r. ⌜ r ≡ record { spelled = false; values = replicate 5 0 } ⌝ }
 {
     Numbers {
         spelled: false,
-        values: [0u64; 4],
+        values: [0u64; 5],
     }
 }
 
-// Just `count` numbers between commas, up to four: with a larger count no text is spelled so. What is no number of the text is 0.
+// Just `count` numbers between commas, up to five: with a larger count no text is spelled so. What is no number of the text is 0.
 pub fn numbers_of(text: &[u8], count: usize) -> Numbers
     ensures { λ r. ⌜ NumbersOf count (now (text .entry)) r ⌝ }
 {
-    if 4 < count {
+    if 5 < count {
         return no_numbers();
     }
     let collected = collect_numbers(text, count);

@@ -42,11 +42,36 @@ enum-told-4 c = search needs
 
 returns-4 : tie.Need-returns-4
 unfolding memberJoined
-returns-4 c = cc
+returns-4 c =
+    let d = c .before .before .before in
+    let group = d .before .before .before in
+    let age = group .before .before .before in
+    rw (age .age .given .1, group .group .given .1, d .d .given .1, c .enum-told4 .given .1)
+
+enum-known-lives : tie.Need-enum-known-lives
+enum-known-lives c = search needs
+
+enum-told-5 : tie.Need-enum-told-5
+enum-told-5 c = search needs
 
 returns-5 : tie.Need-returns-5
 unfolding memberJoined
-returns-5 c = cc
+returns-5 c =
+    let e = c .before .before .before in
+    let d = e .before .before .before in
+    let group = d .before .before .before in
+    let age = group .before .before .before in
+    rw (age .age .given .1, group .group .given .1, d .d .given .1, e .e .given .1, c .enum-told5 .given .1)
+
+returns-6 : tie.Need-returns-6
+unfolding memberJoined
+returns-6 c =
+    let lives = c .before in
+    let e = lives .before .before .before in
+    let d = e .before .before .before in
+    let group = d .before .before .before in
+    let age = group .before .before .before in
+    rw (age .age .given .1, group .group .given .1, d .d .given .1, e .e .given .1, lives .lives .given .1)
 
 pub member-joined-spec : {M : Type 1} → statement M
 member-joined-spec =
@@ -64,4 +89,7 @@ member-joined-spec =
     enum-known-e
     enum-told-4
     returns-4
-    returns-5)
+    enum-known-lives
+    enum-told-5
+    returns-5
+    returns-6)

@@ -5,14 +5,14 @@ use Rattle.fund.specs.declared.SheetCell.{SheetCell}
 use Rattle.fund.specs.declared.Taken.{Taken}
 use Rattle.fund.specs.declared.SheetRow.{SheetRow}
 use Rattle.fund.specs.declared.MemberFloats.{MemberFloats}
-use Rattle.fund.specs.Limits.{most-age, least-group, most-group}
+use Rattle.fund.specs.Limits.{most-age, least-group, most-group, least-lives, most-lives}
 use Rattle.fund.specs.Cells.{cellOf, numberOf, amountOf, memberJoined, memberTaken}
 use Rattle.cells.proofs.member_taken.Statement.{statement}
 use Rattle.cells.proofs.member_taken.Tie as tie
 
-all : {A G D E : SheetCell} {a g d e : Taken} {t : SheetRow} (r : MemberFloats) → A ≡ cellOf (r .age) → a ≡ numberOf 0 most-age A → G ≡ cellOf (r .group) → g ≡ numberOf least-group most-group G
-    → D ≡ cellOf (r .d) → d ≡ amountOf D → E ≡ cellOf (r .e) → e ≡ amountOf E → t ≡ memberJoined a g d e → t ≡ memberTaken r
-all r age-cell age group-cell group d-cell d e-cell e joined = cc
+all : {A G D E L : SheetCell} {a g d e l : Taken} {t : SheetRow} (r : MemberFloats) → A ≡ cellOf (r .age) → a ≡ numberOf 0 most-age A → G ≡ cellOf (r .group) → g ≡ numberOf least-group most-group G
+    → D ≡ cellOf (r .d) → d ≡ amountOf D → E ≡ cellOf (r .e) → e ≡ amountOf E → L ≡ cellOf (r .lives) → l ≡ numberOf least-lives most-lives L → t ≡ memberJoined a g d e l → t ≡ memberTaken r
+all r age-cell age group-cell group d-cell d e-cell e lives-cell lives joined = cc
 
 classed-requires : tie.Need-classed-requires
 classed-requires c κs = search needs
@@ -38,12 +38,19 @@ classed-requires-4 c κs = search needs
 amount-requires-2 : tie.Need-amount-requires-2
 amount-requires-2 c κs = search needs
 
+classed-requires-5 : tie.Need-classed-requires-5
+classed-requires-5 c κs = search needs
+
+number-requires-3 : tie.Need-number-requires-3
+number-requires-3 c κs = search needs
+
 member-joined-requires : tie.Need-member-joined-requires
 member-joined-requires c κs = search needs
 
 returns : tie.Need-returns
 returns c =
-    let e = c .before in
+    let lives = c .before in
+    let e = lives .before .before in
     let d = e .before .before in
     let group = d .before .before in
     let age = group .before .before in
@@ -56,6 +63,8 @@ returns c =
     (d .amount .ensures)
     (e .before .classed4 .ensures)
     (e .amount2 .ensures)
+    (lives .before .classed5 .ensures)
+    (lives .number3 .ensures)
     (c .member-joined .ensures)
 
 pub member-taken-spec : {M : Type 1} → statement M
@@ -70,5 +79,7 @@ member-taken-spec =
     amount-requires
     classed-requires-4
     amount-requires-2
+    classed-requires-5
+    number-requires-3
     member-joined-requires
     returns)

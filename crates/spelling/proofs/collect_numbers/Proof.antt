@@ -14,7 +14,7 @@ use Rattle.spelling.proofs.collect_numbers.Statement.{statement}
 use Rattle.spelling.proofs.collect_numbers.Tie as tie
 
 abbrev Inv-loop : tie.InvT-loop
-Inv-loop text count values₀ k₀ at₀ values k at = (k ≤ count) × (at ≤ length text) × (length values ≡ 4) × (numbers count text ≡ collected (take k values) (count - k) (drop at text)) × (drop count values ≡ drop count (replicate 4 0))
+Inv-loop text count values₀ k₀ at₀ values k at = (k ≤ count) × (at ≤ length text) × (length values ≡ 5) × (numbers count text ≡ collected (take k values) (count - k) (drop at text)) × (drop count values ≡ drop count (replicate 5 0))
 
 abbrev μ-loop : tie.MeasureT-loop
 μ-loop text count values₀ k₀ at₀ values k at = count - k

@@ -1,4 +1,4 @@
--- A count above four is refused; what is collected is the answer where it is spelled so.
+-- A count above five is refused; what is collected is the answer where it is spelled so.
 use mathlib.Core.Path.{sym, _∙_}
 use mathlib.Core.Bool.{true≢false}
 use borrow.Author.Needs.{needs}

@@ -15,6 +15,9 @@ float-at-requires-3 c κs = search needs
 float-at-requires-4 : tie.Need-float-at-requires-4
 float-at-requires-4 c κs = search needs
 
+float-at-requires-5 : tie.Need-float-at-requires-5
+float-at-requires-5 c κs = search needs
+
 returns : tie.Need-returns
 returns c = cc
 
@@ -26,4 +29,5 @@ member-floats-spec =
     float-at-requires-2
     float-at-requires-3
     float-at-requires-4
+    float-at-requires-5
     returns)

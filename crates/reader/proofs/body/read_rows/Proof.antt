@@ -10,10 +10,10 @@ use Rattle.reader.proofs.body.read_rows.Statement.{statement}
 use Rattle.reader.proofs.body.read_rows.Tie as tie
 
 abbrev Inv-loop : tie.InvT-loop
-Inv-loop file fund start rates₀ members₀ rated₀ enrolled₀ least₀ at₀ rates members rated enrolled least at = RowsSoFar file fund rates members rated enrolled least at
+Inv-loop file fund start rates₀ members₀ rated₀ enrolled₀ least₀ lives₀ at₀ rates members rated enrolled least lives at = RowsSoFar file fund rates members rated enrolled least lives at
 
 abbrev μ-loop : tie.MeasureT-loop
-μ-loop file fund start rates₀ members₀ rated₀ enrolled₀ least₀ at₀ rates members rated enrolled least at = length file - at
+μ-loop file fund start rates₀ members₀ rated₀ enrolled₀ least₀ lives₀ at₀ rates members rated enrolled least lives at = length file - at
 
 no-rate-requires : tie.Need-no-rate-requires Inv-loop μ-loop
 no-rate-requires c κs = search needs
@@ -40,7 +40,7 @@ array-set-from-rates : tie.Need-array-set-from-rates Inv-loop μ-loop
 array-set-from-rates c =
     let l = c .before .before .before .before .loop in
     let w = rw (c .before .r .given .1) at (c .before .before .before .row-step .ensures) in
-    omega (arith, w .takes .0 .few, rates-long _ _ _ _ _ _ _ (l .inv .tables))
+    omega (arith, w .takes .0 .few, rates-long _ _ _ _ _ _ _ _ (l .inv .tables))
 
 add-rated : tie.Need-add-rated Inv-loop μ-loop
 add-rated c = omega (arith, c .before .before .before .before .loop .inv .tables .few-rates)
@@ -58,7 +58,7 @@ loop-less c =
 loop-again : tie.Need-loop-again Inv-loop μ-loop
 loop-again c =
     let w = rw (c .before .before .r .given .1) at (c .before .before .before .before .row-step .ensures) in
-    rate-taken _ _ _ _ _ _ _ _ (c .before .before .before .before .before .loop .inv) _ _ w
+    rate-taken _ _ _ _ _ _ _ _ _ (c .before .before .before .before .before .loop .inv) _ _ w
 
 enum-known-m : tie.Need-enum-known-m Inv-loop μ-loop
 enum-known-m c = search needs
@@ -70,20 +70,25 @@ array-set-from-members : tie.Need-array-set-from-members Inv-loop μ-loop
 array-set-from-members c =
     let l = c .before .before .before .before .loop in
     let w = rw (c .before .m .given .1) at (c .before .before .before .row-step .ensures) in
-    omega (arith, w .takes .few, members-long _ _ _ _ _ _ _ (l .inv .tables))
+    omega (arith, w .takes .0 .few, members-long _ _ _ _ _ _ _ _ (l .inv .tables))
 
 add-enrolled : tie.Need-add-enrolled Inv-loop μ-loop
 add-enrolled c = omega (arith, c .before .before .before .before .loop .inv .tables .few-members)
 
+add-lives : tie.Need-add-lives Inv-loop μ-loop
+add-lives c =
+    let w = rw (c .before .before .m .given .1) at (c .before .before .before .before .row-step .ensures) in
+    omega (arith, w .takes .1)
+
 loop-less-2 : tie.Need-loop-less-2 Inv-loop μ-loop
 loop-less-2 c =
-    let w = rw (c .before .m .given .1) at (c .before .before .before .row-step .ensures) in
-    omega (arith, w .takes .later, w .takes .inside)
+    let w = rw (c .before .before .m .given .1) at (c .before .before .before .before .row-step .ensures) in
+    omega (arith, w .takes .0 .later, w .takes .0 .inside)
 
 loop-again-2 : tie.Need-loop-again-2 Inv-loop μ-loop
 loop-again-2 c =
-    let w = rw (c .before .m .given .1) at (c .before .before .before .row-step .ensures) in
-    member-taken _ _ _ _ _ _ _ _ (c .before .before .before .before .loop .inv) _ _ w
+    let w = rw (c .before .before .m .given .1) at (c .before .before .before .before .row-step .ensures) in
+    member-taken _ _ _ _ _ _ _ _ _ (c .before .before .before .before .before .loop .inv) _ _ w
 
 enum-told : tie.Need-enum-told Inv-loop μ-loop
 enum-told c = search needs
@@ -91,7 +96,7 @@ enum-told c = search needs
 returns : tie.Need-returns Inv-loop μ-loop
 returns c =
     let w = rw (c .enum-told .given .1) at (c .before .before .row-step .ensures) in
-    at-end _ _ _ _ _ _ _ _ (c .before .before .before .loop .inv) w
+    at-end _ _ _ _ _ _ _ _ _ (c .before .before .before .loop .inv) w
 
 enum-known-why : tie.Need-enum-known-why Inv-loop μ-loop
 enum-known-why c = search needs
@@ -102,7 +107,7 @@ without-rows-requires c κs = search needs
 returns-2 : tie.Need-returns-2 Inv-loop μ-loop
 returns-2 c =
     let w = rw (c .before .before .why .given .1) at (c .before .before .before .before .row-step .ensures) in
-    at-stop _ _ _ _ _ _ _ _ (c .before .before .before .before .before .loop .inv) _ _ _ w (c .without-rows .ensures)
+    at-stop _ _ _ _ _ _ _ _ _ (c .before .before .before .before .before .loop .inv) _ _ _ w (c .without-rows .ensures)
 
 pub read-rows-spec : {M : Type 1} → statement M
 read-rows-spec =
@@ -125,6 +130,7 @@ read-rows-spec =
     mul-members
     array-set-from-members
     add-enrolled
+    add-lives
     loop-less-2
     loop-again-2
     enum-told

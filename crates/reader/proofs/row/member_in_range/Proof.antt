@@ -35,17 +35,34 @@ returns-3 c =
 returns-4 : tie.Need-returns-4
 unfolding memberFits
 returns-4 c =
-    let a = c .before .before .before .before .before .before .before .before .args in
+    let a = c .before .before .before .before .before .before .before .before .before .args in
     rw (
       lt-ltb (a .enrolled) most-members (omega arith),
       le-leb (a .m .age) most-age (omega arith),
-      sym (c .before .before .before .before .within .ensures) ∙ c .before .before .before .if3 .taken,
+      sym (c .before .before .before .before .before .within .ensures) ∙ c .before .before .before .before .if3 .taken,
       le-leb (a .m .d) most-amount (omega arith),
+      lt-leb (a .m .e) most-amount (omega arith),
     )
+
+lives-in-range-requires : tie.Need-lives-in-range-requires
+lives-in-range-requires c κs = search needs
 
 returns-5 : tie.Need-returns-5
 unfolding memberFits
 returns-5 c =
+    let a = c .before .before .before .before .before .before .before .before .before .before .args in
+    rw (
+      lt-ltb (a .enrolled) most-members (omega arith),
+      le-leb (a .m .age) most-age (omega arith),
+      sym (c .before .before .before .before .before .before .within .ensures) ∙ c .before .before .before .before .before .if3 .taken,
+      le-leb (a .m .d) most-amount (omega arith),
+      le-leb (a .m .e) most-amount (omega arith),
+    )
+    (c .lives-in-range .ensures)
+
+returns-6 : tie.Need-returns-6
+unfolding memberFits
+returns-6 c =
     let a = c .before .before .before .before .before .args in
     rw (
       lt-ltb (a .enrolled) most-members (omega arith),
@@ -55,4 +72,4 @@ returns-5 c =
 
 pub member-in-range-spec : {M : Type 1} → statement M
 member-in-range-spec =
-    tie.close (tie.spec returns returns-2 within-requires returns-3 returns-4 returns-5)
+    tie.close (tie.spec returns returns-2 within-requires returns-3 returns-4 lives-in-range-requires returns-5 returns-6)

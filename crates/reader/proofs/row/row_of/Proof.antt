@@ -45,11 +45,14 @@ array-read-t35 c = search needs
 array-read-t38 : tie.Need-array-read-t38
 array-read-t38 c = search needs
 
+array-read-t41 : tie.Need-array-read-t41
+array-read-t41 c = search needs
+
 returns-2 : tie.Need-returns-2
 unfolding bytes
 returns-2 c =
     let l = lineIn (c .before .before .before .before .before .before .before .before .args .file .now) (c .before .before .before .before .before .before .before .before .args .line) in
-    sym (row-member l (sym (c .before .before .before .before .before .spelled .ensures) ∙ numbers-none 3 _ (c .before .before .before .before .if1 .left)) (c .before .before .spelled2 .result .values) (sym (c .before .before .spelled2 .ensures) ∙ numbers-some 4 _ (c .before .if2 .taken)))
+    sym (row-member l (sym (c .before .before .before .before .before .spelled .ensures) ∙ numbers-none 3 _ (c .before .before .before .before .if1 .left)) (c .before .before .spelled2 .result .values) (sym (c .before .before .spelled2 .ensures) ∙ numbers-some 5 _ (c .before .if2 .taken)))
 
 slice-aggregate-spelled-3 : tie.Need-slice-aggregate-spelled-3
 slice-aggregate-spelled-3 c = search needs
@@ -57,20 +60,20 @@ slice-aggregate-spelled-3 c = search needs
 spelled-requires-3 : tie.Need-spelled-requires-3
 spelled-requires-3 c κs = search needs
 
-array-read-t44 : tie.Need-array-read-t44
-array-read-t44 c = search needs
+array-read-t47 : tie.Need-array-read-t47
+array-read-t47 c = search needs
 
 returns-3 : tie.Need-returns-3
 unfolding bytes
 returns-3 c =
     let l = lineIn (c .before .before .before .before .before .before .before .before .before .before .before .args .file .now) (c .before .before .before .before .before .before .before .before .before .before .before .args .line) in
-    sym (row-end l (sym (c .before .before .before .before .before .before .before .before .spelled .ensures) ∙ numbers-none 3 _ (c .before .before .before .before .before .before .before .if1 .left)) (sym (c .before .before .before .before .before .spelled2 .ensures) ∙ numbers-none 4 _ (c .before .before .before .before .if2 .left)) (c .before .before .spelled3 .result .values) (sym (c .before .before .spelled3 .ensures) ∙ numbers-some 1 _ (c .before .if3 .taken)))
+    sym (row-end l (sym (c .before .before .before .before .before .before .before .before .spelled .ensures) ∙ numbers-none 3 _ (c .before .before .before .before .before .before .before .if1 .left)) (sym (c .before .before .before .before .before .spelled2 .ensures) ∙ numbers-none 5 _ (c .before .before .before .before .if2 .left)) (c .before .before .spelled3 .result .values) (sym (c .before .before .spelled3 .ensures) ∙ numbers-some 1 _ (c .before .if3 .taken)))
 
 returns-4 : tie.Need-returns-4
 unfolding bytes
 returns-4 c =
     let l = lineIn (c .before .before .before .before .before .before .before .before .before .before .args .file .now) (c .before .before .before .before .before .before .before .before .before .before .args .line) in
-    sym (row-other l (sym (c .before .before .before .before .before .before .before .spelled .ensures) ∙ numbers-none 3 _ (c .before .before .before .before .before .before .if1 .left)) (sym (c .before .before .before .before .spelled2 .ensures) ∙ numbers-none 4 _ (c .before .before .before .if2 .left)) (sym (c .before .spelled3 .ensures) ∙ numbers-none 1 _ (c .if3 .left)))
+    sym (row-other l (sym (c .before .before .before .before .before .before .before .spelled .ensures) ∙ numbers-none 3 _ (c .before .before .before .before .before .before .if1 .left)) (sym (c .before .before .before .before .spelled2 .ensures) ∙ numbers-none 5 _ (c .before .before .before .if2 .left)) (sym (c .before .spelled3 .ensures) ∙ numbers-none 1 _ (c .if3 .left)))
 
 pub row-of-spec : {M : Type 1} → statement M
 row-of-spec =
@@ -88,9 +91,10 @@ row-of-spec =
     array-read-t32
     array-read-t35
     array-read-t38
+    array-read-t41
     returns-2
     slice-aggregate-spelled-3
     spelled-requires-3
-    array-read-t44
+    array-read-t47
     returns-3
     returns-4)

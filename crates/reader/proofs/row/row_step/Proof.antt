@@ -14,7 +14,7 @@ line-place-requires c κs = search needs
 returns : tie.Need-returns
 returns c =
     let a = c .before .before .before .args in
-    step-missing (a .file .now) (a .at) (a .rated) (a .enrolled) (a .least) _ (c .before .line-place .ensures) (c .if1 .taken)
+    step-missing (a .file .now) (a .at) (a .rated) (a .enrolled) (a .least) (a .lives) _ (c .before .line-place .ensures) (c .if1 .taken)
 
 next-line-requires : tie.Need-next-line-requires
 next-line-requires c κs = search needs
@@ -33,7 +33,7 @@ returns-2 c =
     let n = c .before .before .before .before .before in
     let a = n .before .before .before .before .args in
     let o = sym (c .before .before .before .before .row-of .ensures) ∙ ap rowIn (c .before .before .r .given .1) in
-    step-order (a .file .now) (a .at) (a .rated) (a .enrolled) (a .least) _ (n .before .before .line-place .ensures) _ (n .next-line .ensures) _ o (c .if2 .taken)
+    step-order (a .file .now) (a .at) (a .rated) (a .enrolled) (a .least) (a .lives) _ (n .before .before .line-place .ensures) _ (n .next-line .ensures) _ o (c .if2 .taken)
 
 rate-in-range-requires : tie.Need-rate-in-range-requires
 rate-in-range-requires c κs = search needs
@@ -43,7 +43,7 @@ returns-3 c =
     let n = c .before .before .before .before .before .before .before in
     let a = n .before .before .before .before .args in
     let o = sym (c .before .before .before .before .before .before .row-of .ensures) ∙ ap rowIn (c .before .before .before .before .r .given .1) in
-    step-rate (a .file .now) (a .at) (a .rated) (a .enrolled) (a .least) _ (n .before .before .line-place .ensures) _ (n .next-line .ensures) _ o (omega (arith, c .before .before .if2 .left)) (sym (c .before .rate-in-range .ensures) ∙ c .if3 .taken)
+    step-rate (a .file .now) (a .at) (a .rated) (a .enrolled) (a .least) (a .lives) _ (n .before .before .line-place .ensures) _ (n .next-line .ensures) _ o (omega (arith, c .before .before .if2 .left)) (sym (c .before .rate-in-range .ensures) ∙ c .if3 .taken)
 
 enum-known-m : tie.Need-enum-known-m
 enum-known-m c = search needs
@@ -56,7 +56,7 @@ returns-4 c =
     let n = c .before .before .before .before .before .before in
     let a = n .before .before .before .before .args in
     let o = sym (c .before .before .before .before .before .row-of .ensures) ∙ ap rowIn (c .before .before .before .m .given .1) in
-    step-member (a .file .now) (a .at) (a .rated) (a .enrolled) (a .least) _ (n .before .before .line-place .ensures) _ (n .next-line .ensures) _ o (sym (c .before .member-in-range .ensures) ∙ c .if4 .taken)
+    step-member (a .file .now) (a .at) (a .rated) (a .enrolled) (a .least) (a .lives) _ (n .before .before .line-place .ensures) _ (n .next-line .ensures) _ o (sym (c .before .member-in-range .ensures) ∙ c .if4 .taken)
 
 enum-known-k : tie.Need-enum-known-k
 enum-known-k c = search needs
@@ -66,11 +66,11 @@ returns-5 c =
     let n = c .before .before .before .before .before in
     let a = n .before .before .before .before .args in
     let o = sym (c .before .before .before .before .row-of .ensures) ∙ ap rowIn (c .before .before .k .given .1) in
-    step-count (a .file .now) (a .at) (a .rated) (a .enrolled) (a .least) _ (n .before .before .line-place .ensures) _ (n .next-line .ensures) _ o (c .if5 .taken)
+    step-count (a .file .now) (a .at) (a .rated) (a .enrolled) (a .least) (a .lives) _ (n .before .before .line-place .ensures) _ (n .next-line .ensures) _ o (c .if5 .taken)
 
-add-t28 : tie.Need-add-t28
+add-t29 : tie.Need-add-t29
 unfolding headerLines
-add-t28 c =
+add-t29 c =
     let p = c .before .before .before .before .before .before .before .before .before in
     omega (arith, p .line-place .ensures, p .before .before .pre .0, p .before .before .pre .1)
 
@@ -79,35 +79,35 @@ returns-6 c =
     let n = c .before .before .before .before .before .before .before in
     let a = n .before .before .before .before .args in
     let o = sym (c .before .before .before .before .before .before .row-of .ensures) ∙ ap rowIn (c .before .before .before .before .k .given .1) in
-    step-more (a .file .now) (a .at) (a .rated) (a .enrolled) (a .least) _ (n .before .before .line-place .ensures) _ (n .next-line .ensures) _ o (c .before .before .if5 .left) (c .if6 .taken)
+    step-more (a .file .now) (a .at) (a .rated) (a .enrolled) (a .least) (a .lives) _ (n .before .before .line-place .ensures) _ (n .next-line .ensures) _ o (c .before .before .if5 .left) (c .if6 .taken)
 
 returns-7 : tie.Need-returns-7
 returns-7 c =
     let n = c .before .before .before in
     let a = n .before .before .before .before .args in
     let o = sym (c .before .before .row-of .ensures) ∙ ap rowIn (c .enum-told .given .1) in
-    step-other (a .file .now) (a .at) (a .rated) (a .enrolled) (a .least) _ (n .before .before .line-place .ensures) _ (n .next-line .ensures) o
+    step-other (a .file .now) (a .at) (a .rated) (a .enrolled) (a .least) (a .lives) _ (n .before .before .line-place .ensures) _ (n .next-line .ensures) o
 
 returns-8 : tie.Need-returns-8
 returns-8 c =
     let n = c .before .before .before .before .before .before .before in
     let a = n .before .before .before .before .args in
     let o = sym (c .before .before .before .before .before .before .row-of .ensures) ∙ ap rowIn (c .before .before .before .before .r .given .1) in
-    step-rate-out (a .file .now) (a .at) (a .rated) (a .enrolled) (a .least) _ (n .before .before .line-place .ensures) _ (n .next-line .ensures) _ o (omega (arith, c .before .before .if2 .left)) (sym (c .before .rate-in-range .ensures) ∙ c .if3 .left)
+    step-rate-out (a .file .now) (a .at) (a .rated) (a .enrolled) (a .least) (a .lives) _ (n .before .before .line-place .ensures) _ (n .next-line .ensures) _ o (omega (arith, c .before .before .if2 .left)) (sym (c .before .rate-in-range .ensures) ∙ c .if3 .left)
 
 returns-9 : tie.Need-returns-9
 returns-9 c =
     let n = c .before .before .before .before .before .before in
     let a = n .before .before .before .before .args in
     let o = sym (c .before .before .before .before .before .row-of .ensures) ∙ ap rowIn (c .before .before .before .m .given .1) in
-    step-member-out (a .file .now) (a .at) (a .rated) (a .enrolled) (a .least) _ (n .before .before .line-place .ensures) _ (n .next-line .ensures) _ o (sym (c .before .member-in-range .ensures) ∙ c .if4 .left)
+    step-member-out (a .file .now) (a .at) (a .rated) (a .enrolled) (a .least) (a .lives) _ (n .before .before .line-place .ensures) _ (n .next-line .ensures) _ o (sym (c .before .member-in-range .ensures) ∙ c .if4 .left)
 
 returns-10 : tie.Need-returns-10
 returns-10 c =
     let n = c .before .before .before .before .before .before .before in
     let a = n .before .before .before .before .args in
     let o = sym (c .before .before .before .before .before .before .row-of .ensures) ∙ ap rowIn (c .before .before .before .before .k .given .1) in
-    step-end (a .file .now) (a .at) (a .rated) (a .enrolled) (a .least) _ (n .before .before .line-place .ensures) _ (n .next-line .ensures) _ o (c .before .before .if5 .left) (c .if6 .left)
+    step-end (a .file .now) (a .at) (a .rated) (a .enrolled) (a .least) (a .lives) _ (n .before .before .line-place .ensures) _ (n .next-line .ensures) _ o (c .before .before .if5 .left) (c .if6 .left)
 
 pub row-step-spec : {M : Type 1} → statement M
 row-step-spec =
@@ -127,7 +127,7 @@ row-step-spec =
     returns-4
     enum-known-k
     returns-5
-    add-t28
+    add-t29
     returns-6
     returns-7
     returns-8

@@ -10,10 +10,10 @@ use Rattle.sheet_reader.proofs.rows.read_rows.Statement.{statement}
 use Rattle.sheet_reader.proofs.rows.read_rows.Tie as tie
 
 abbrev Inv-loop : tie.InvT-loop
-Inv-loop fund rates members rate-rows₀ member-rows₀ rated₀ enrolled₀ least₀ rate-rows member-rows rated enrolled least = RowsSoFar rates members fund rate-rows member-rows rated enrolled least
+Inv-loop fund rates members rate-rows₀ member-rows₀ rated₀ enrolled₀ least₀ lives₀ rate-rows member-rows rated enrolled least lives = RowsSoFar rates members fund rate-rows member-rows rated enrolled least lives
 
 abbrev μ-loop : tie.MeasureT-loop
-μ-loop fund rates members rate-rows₀ member-rows₀ rated₀ enrolled₀ least₀ rate-rows member-rows rated enrolled least = most-rates + most-members - (rated + enrolled)
+μ-loop fund rates members rate-rows₀ member-rows₀ rated₀ enrolled₀ least₀ lives₀ rate-rows member-rows rated enrolled least lives = most-rates + most-members - (rated + enrolled)
 
 without-rows-requires : tie.Need-without-rows-requires Inv-loop μ-loop
 without-rows-requires c κs = search needs
@@ -35,7 +35,7 @@ array-set-from-rate-rows : tie.Need-array-set-from-rate-rows Inv-loop μ-loop
 array-set-from-rate-rows c =
     let l = c .before .before .before .before .loop in
     let w = rw (c .before .r .given .1) at (c .before .before .before .row-step .ensures) in
-    omega (arith, w .takes .0, rates-long _ _ _ _ _ _ _ (l .inv .tables))
+    omega (arith, w .takes .0, rates-long _ _ _ _ _ _ _ _ (l .inv .tables))
 
 add-rated : tie.Need-add-rated Inv-loop μ-loop
 add-rated c = omega (arith, c .before .before .before .before .loop .inv .tables .few-rates)
@@ -53,7 +53,7 @@ loop-less c =
 loop-again : tie.Need-loop-again Inv-loop μ-loop
 loop-again c =
     let w = rw (c .before .before .r .given .1) at (c .before .before .before .before .row-step .ensures) in
-    rate-taken _ _ _ _ _ _ _ _ (c .before .before .before .before .before .loop .inv) _ w
+    rate-taken _ _ _ _ _ _ _ _ _ (c .before .before .before .before .before .loop .inv) _ w
 
 enum-known-m : tie.Need-enum-known-m Inv-loop μ-loop
 enum-known-m c = search needs
@@ -65,20 +65,25 @@ array-set-from-member-rows : tie.Need-array-set-from-member-rows Inv-loop μ-loo
 array-set-from-member-rows c =
     let l = c .before .before .before .before .loop in
     let w = rw (c .before .m .given .1) at (c .before .before .before .row-step .ensures) in
-    omega (arith, w .takes, members-long _ _ _ _ _ _ _ (l .inv .tables))
+    omega (arith, w .takes .0, members-long _ _ _ _ _ _ _ _ (l .inv .tables))
 
 add-enrolled : tie.Need-add-enrolled Inv-loop μ-loop
 add-enrolled c = omega (arith, c .before .before .before .before .loop .inv .tables .few-members)
 
+add-lives : tie.Need-add-lives Inv-loop μ-loop
+add-lives c =
+    let w = rw (c .before .before .m .given .1) at (c .before .before .before .before .row-step .ensures) in
+    omega (arith, w .takes .1)
+
 loop-less-2 : tie.Need-loop-less-2 Inv-loop μ-loop
 loop-less-2 c =
-    let w = rw (c .before .m .given .1) at (c .before .before .before .row-step .ensures) in
-    omega (arith, w .takes)
+    let w = rw (c .before .before .m .given .1) at (c .before .before .before .before .row-step .ensures) in
+    omega (arith, w .takes .0)
 
 loop-again-2 : tie.Need-loop-again-2 Inv-loop μ-loop
 loop-again-2 c =
-    let w = rw (c .before .m .given .1) at (c .before .before .before .row-step .ensures) in
-    member-taken _ _ _ _ _ _ _ _ (c .before .before .before .before .loop .inv) _ w
+    let w = rw (c .before .before .m .given .1) at (c .before .before .before .before .row-step .ensures) in
+    member-taken _ _ _ _ _ _ _ _ _ (c .before .before .before .before .before .loop .inv) _ w
 
 enum-told : tie.Need-enum-told Inv-loop μ-loop
 enum-told c = search needs
@@ -86,7 +91,7 @@ enum-told c = search needs
 returns : tie.Need-returns Inv-loop μ-loop
 returns c =
     let w = rw (c .enum-told .given .1) at (c .before .before .row-step .ensures) in
-    at-end _ _ _ _ _ _ _ _ (c .before .before .before .loop .inv) w
+    at-end _ _ _ _ _ _ _ _ _ (c .before .before .before .loop .inv) w
 
 enum-known-why : tie.Need-enum-known-why Inv-loop μ-loop
 enum-known-why c = search needs
@@ -97,7 +102,7 @@ without-rows-requires-2 c κs = search needs
 returns-2 : tie.Need-returns-2 Inv-loop μ-loop
 returns-2 c =
     let w = rw (c .before .before .why .given .1) at (c .before .before .before .before .row-step .ensures) in
-    at-stop _ _ _ _ _ _ _ _ (c .before .before .before .before .before .loop .inv) _ _ _ w (c .without-rows2 .ensures)
+    at-stop _ _ _ _ _ _ _ _ _ (c .before .before .before .before .before .loop .inv) _ _ _ w (c .without-rows2 .ensures)
 
 pub read-rows-spec : {M : Type 1} → statement M
 read-rows-spec =
@@ -119,6 +124,7 @@ read-rows-spec =
     mul-member-rows
     array-set-from-member-rows
     add-enrolled
+    add-lives
     loop-less-2
     loop-again-2
     enum-told
