@@ -2,3 +2,4 @@ mod Deriving
 mod Calls
 mod Tested
 mod AsFile
+mod AsWrittenOut

@@ -2,3 +2,4 @@ pub mod Demands
 pub mod Listing
 pub mod Calls
 pub mod Sheets
+pub mod WrittenOut

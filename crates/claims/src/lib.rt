@@ -12,8 +12,9 @@ ghost use Rattle.valuation.specs.Valued.{lengths};
 ghost use Rattle.claims.specs.Demands.{Demands};
 ghost use Rattle.claims.specs.Listing.{Prints, PrintsLevel, PrintsRead};
 ghost use Rattle.claims.specs.Calls.{handed, priced, hosted};
+ghost use Rattle.claims.specs.WrittenOut.{PricedWrittenOut};
 
-// Demands 1, 2 and 3 of the pricing call, and what its answer at the level says.
+// Demands 1, 2 and 3 of the pricing call, what its answer at the level says, and that a file is priced as the file with its member lines written out.
 pub fn claimed_price(
     file: &[u8],
     level: u64,
@@ -24,6 +25,9 @@ pub fn claimed_price(
     sums: &mut [i64],
 ) -> Priced
     ensures { λ p. ⌜ Demands (now (file .entry)) (reading (now (file .entry))) level
+        (lengths (now (transform .entry)) (now (h .entry)) (now (f .entry)) (now (r .entry)) (now (sums .entry)))
+        (priced (now (file .entry)) p (now (transform .exit)) (now (h .exit)) (now (f .exit)) (now (r .exit)) (now (sums .exit))) ⌝ }
+    ensures { λ p. ⌜ PricedWrittenOut (now (file .entry)) level
         (lengths (now (transform .entry)) (now (h .entry)) (now (f .entry)) (now (r .entry)) (now (sums .entry)))
         (priced (now (file .entry)) p (now (transform .exit)) (now (h .exit)) (now (f .exit)) (now (r .exit)) (now (sums .exit))) ⌝ }
 {
@@ -49,6 +53,9 @@ pub fn claimed_host(
     result: &mut [u64; miguepo::FIELDS],
 )
     ensures { λ _. ⌜ Demands (now (file .entry)) (reading (now (file .entry))) level
+        (lengths (now (transform .entry)) (now (h .entry)) (now (f .entry)) (now (r .entry)) (now (sums .entry)))
+        (hosted (now (file .entry)) (now (result .exit)) (now (transform .exit)) (now (h .exit)) (now (f .exit)) (now (r .exit)) (now (sums .exit))) ⌝ }
+    ensures { λ _. ⌜ PricedWrittenOut (now (file .entry)) level
         (lengths (now (transform .entry)) (now (h .entry)) (now (f .entry)) (now (r .entry)) (now (sums .entry)))
         (hosted (now (file .entry)) (now (result .exit)) (now (transform .exit)) (now (h .exit)) (now (f .exit)) (now (r .exit)) (now (sums .exit))) ⌝ }
 {

@@ -128,11 +128,11 @@ pub fn claimed_rate_in_range(rated: usize, least: u64, r: Rate) -> bool
     reader::rate_in_range(rated, least, r)
 }
 
-// Whether a member row is in range behind so many others.
-pub fn claimed_member_in_range(enrolled: usize, m: Member) -> bool
-    ensures { λ t. ⌜ t ≡ memberFits enrolled m ⌝ }
+// Whether a member row is in range behind so many others with so many lives.
+pub fn claimed_member_in_range(enrolled: usize, lives: u64, m: Member) -> bool
+    ensures { λ t. ⌜ t ≡ memberFits enrolled lives m ⌝ }
 {
-    reader::member_in_range(enrolled, m)
+    reader::member_in_range(enrolled, lives, m)
 }
 
 // A row of the rates' sheet, from its bytes.

@@ -1,9 +1,9 @@
 // The calls that the pricing call is made of, each a public call of its own: what it gives is its definition's, for every input.
 use fund::Figures;
 use fund::Fund;
-use fund::Life;
 use fund::Limits;
 use fund::Member;
+use fund::ModelPoint;
 use fund::Quantile;
 use fund::Rate;
 use fund::Verdict;
@@ -89,7 +89,7 @@ pub fn claimed_part(file: &[u8], verdict: Verdict) -> Part
     reader::part_of(file, verdict)
 }
 
-// Refusals 3 to 6, or the lives.
+// Refusals 3 to 6, or the model points.
 pub fn claimed_match(
     fund: Fund,
     rates: [Rate; Fund::RATE_ROWS],
@@ -102,11 +102,11 @@ pub fn claimed_match(
     matching::matched(fund, rates, rated, members, enrolled)
 }
 
-// The load, the truncation figure, the mean and the start of the first n lives, or that something is outside its ranges.
-pub fn claimed_totals(fund: Fund, lives: [Life; Fund::MEMBER_ROWS], n: usize) -> Totals
-    ensures { λ t. ⌜ TotalsFor fund n (take n lives) t ⌝ }
+// The load, the truncation figure, the mean and the start of the first n model points, or that something is outside its ranges.
+pub fn claimed_totals(fund: Fund, points: [ModelPoint; Fund::MEMBER_ROWS], n: usize) -> Totals
+    ensures { λ t. ⌜ TotalsFor fund n (take n points) t ⌝ }
 {
-    totals::first_totals(fund, lives, n)
+    totals::first_totals(fund, points, n)
 }
 
 // The ranges and refusals 7, 8 and 9, from the totals and the lengths of the slices.
@@ -127,7 +127,7 @@ pub fn claimed_tests(
 // Refusals 7 to 10, or the figures and the cells.
 pub fn claimed_value(
     fund: Fund,
-    lives: [Life; Fund::MEMBER_ROWS],
+    points: [ModelPoint; Fund::MEMBER_ROWS],
     n: usize,
     transform: &mut [i64],
     h: &mut [u64],
@@ -136,9 +136,9 @@ pub fn claimed_value(
     sums: &mut [i64],
 ) -> Valued
     ensures { λ v. ⌜ leftOf v (now (transform .exit)) (now (h .exit)) (now (f .exit)) (now (r .exit)) (now (sums .exit)) ≡
-        valuation fund n (take n lives) (lengths (now (transform .entry)) (now (h .entry)) (now (f .entry)) (now (r .entry)) (now (sums .entry))) ⌝ }
+        valuation fund n (take n points) (lengths (now (transform .entry)) (now (h .entry)) (now (f .entry)) (now (r .entry)) (now (sums .entry))) ⌝ }
 {
-    valuation::value(fund, lives, n, transform, h, f, r, sums)
+    valuation::value(fund, points, n, transform, h, f, r, sums)
 }
 
 // A refusal with zeros in all slices.

@@ -13,11 +13,11 @@ use Rattle.fund.specs.declared.Member.{Member}
 use Rattle.fund.specs.declared.Refusal.the-variants.{Range, Edition, Deductible}
 use Rattle.fund.specs.declared.Verdict.the-variants.{Refused}
 use Rattle.fund.specs.Limits.{half-rate, most-rates, most-members}
-use Rattle.fund.specs.Folding.{lives}
+use Rattle.fund.specs.Folding.{points}
 use Rattle.fund.specs.Refusals.{refuse, at0, firstMember, matched}
 use Rattle.matching.specs.declared.table.Matched.{Matched}
-use Rattle.matching.specs.Matching.{withLives, fileOf, matching, matchedTables}
-use Rattle.matching.specs.Lives.{byMember}
+use Rattle.matching.specs.Matching.{withPoints, fileOf, matching, matchedTables}
+use Rattle.matching.specs.Points.{byMember}
 
 -- 6 without the sum.
 pub half-rest : (q i : ℕ) → q < half-rate → leb (half-rate - q) i ≡ leb half-rate (q + i)
@@ -37,12 +37,12 @@ above-rest deductible horizon l = go (ltb (suc horizon) deductible) refl
 
 -- 3 and 4, and the counts.
 module _ (fund : Fund) (rates : List Rate) (rated : ℕ) (members : List Member) (enrolled : ℕ) (r : Matched) where
-  pub beyond-rates : most-rates < rated → r ≡ withLives [] (Refused Range 0) → r ≡ matchedTables fund rates rated members enrolled
+  pub beyond-rates : most-rates < rated → r ≡ withPoints [] (Refused Range 0) → r ≡ matchedTables fund rates rated members enrolled
   unfolding matchedTables
   beyond-rates h e = e ∙ sym (rw (lt-leb rated most-rates h))
 
   module _ (few-rates : rated ≤ most-rates) where
-    pub beyond-members : most-members < enrolled → r ≡ withLives [] (Refused Range 0) → r ≡ matchedTables fund rates rated members enrolled
+    pub beyond-members : most-members < enrolled → r ≡ withPoints [] (Refused Range 0) → r ≡ matchedTables fund rates rated members enrolled
     unfolding matchedTables
     beyond-members h e = e ∙ sym (rw (le-leb rated most-rates few-rates, lt-leb enrolled most-members h))
 
@@ -51,15 +51,15 @@ module _ (fund : Fund) (rates : List Rate) (rated : ℕ) (members : List Member)
       unfolding matchedTables
       fits = rw (le-leb rated most-rates few-rates, le-leb enrolled most-members few-members)
 
-      pub three : (fund .rates ≡ fund .members → ⊥) → r ≡ withLives [] (Refused Edition 0) → r ≡ matchedTables fund rates rated members enrolled
-      unfolding matching matched refuse at0 withLives
+      pub three : (fund .rates ≡ fund .members → ⊥) → r ≡ withPoints [] (Refused Edition 0) → r ≡ matchedTables fund rates rated members enrolled
+      unfolding matching matched refuse at0 withPoints
       three d e = e ∙ sym (fits ∙ rw (ne-eqb _ _ d))
 
       module _ (same : fund .rates ≡ fund .members) where
-        pub four : ltb (suc (fund .horizon)) (fund .deductible) ≡ true → r ≡ withLives [] (Refused Deductible 0) → r ≡ matchedTables fund rates rated members enrolled
-        unfolding matching matched refuse at0 withLives
+        pub four : ltb (suc (fund .horizon)) (fund .deductible) ≡ true → r ≡ withPoints [] (Refused Deductible 0) → r ≡ matchedTables fund rates rated members enrolled
+        unfolding matching matched refuse at0 withPoints
         four d e = e ∙ sym (fits ∙ rw (eq-eqb _ _ same, d))
 
         pub then-members : (line : ℕ) → ltb (suc (fund .horizon)) (fund .deductible) ≡ false → line ≡ firstMember (fileOf fund rates rated members enrolled) → r ≡ byMember (take rated rates) (take enrolled members) line → r ≡ matchedTables fund rates rated members enrolled
-        unfolding matching matched refuse at0 lives byMember
+        unfolding matching matched refuse at0 points byMember
         then-members line d z e = e ∙ ap (byMember (take rated rates) (take enrolled members)) z ∙ sym (fits ∙ rw (eq-eqb _ _ same, d))

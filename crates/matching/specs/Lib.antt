@@ -1,2 +1,2 @@
 pub mod Matching
-pub mod Lives
+pub mod Points

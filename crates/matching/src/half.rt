@@ -19,7 +19,7 @@ fn is_half(m: Life) -> bool
     Fund::HALF - m.q <= m.i
 }
 
-// The place of the first such life, 0 where there is none: `known` is that of the lives before m, and m stands at `place`.
+// The place of the first such line, 0 where there is none: `known` is that of the lines before, and a line of lives m stands at `place`.
 pub(crate) fn first_place(known: u64, m: Life, place: u64) -> u64
     ensures { λ r. ⌜ r ≡ (if eqb known 0 then (if half m then place else 0) else known) ⌝ }
 {

@@ -1,6 +1,6 @@
-// Members matched with the rates in force at their ages: the refusals 3 to 6, and the life of each member.
+// Members matched with the rates in force at their ages: the refusals 3 to 6, and the model point of each member line.
 mod half;
-mod lives;
+mod points;
 mod table;
 
 use fund::Fund;
@@ -34,18 +34,18 @@ pub fn matched(
     ensures { λ r. ⌜ r ≡ matchedTables fund rates rated members enrolled ⌝ }
 {
     if Fund::RATE_ROWS < rated {
-        return table::without_lives(Refusal::Range, 0);
+        return table::without_points(Refusal::Range, 0);
     }
     if Fund::MEMBER_ROWS < enrolled {
-        return table::without_lives(Refusal::Range, 0);
+        return table::without_points(Refusal::Range, 0);
     }
     if fund.rates != fund.members {
-        return table::without_lives(Refusal::Edition, 0);
+        return table::without_points(Refusal::Edition, 0);
     }
     if is_above(fund.deductible, fund.horizon) {
-        return table::without_lives(Refusal::Deductible, 0);
+        return table::without_points(Refusal::Deductible, 0);
     }
     // the header lines and the rate lines stand before the first member
     let line = Fund::HEADER_LINES as u64 + rated as u64 + 1;
-    lives::by_member(rates, rated, members, enrolled, line)
+    points::by_member(rates, rated, members, enrolled, line)
 }

@@ -1,29 +1,29 @@
 -- The fund that is read and matched, from either source (from-ranges): where reading stops, so does the call (stop-answers); the horizon (horizon-read); the tables are matched as the file that
--- was read (read-matched); and what 3 to 6 answer of it, with its lives (matched-verdict, matched-lives).
+-- was read (read-matched); and what 3 to 6 answer of it, with its model points (matched-verdict, matched-points).
 use mathlib.Core.Path.{_≡_, refl, sym, _∙_, ap, ap₂}
 use mathlib.Core.List.{List, []}
 use Prim.Native.Nat.{ℕ, _≤_}
 use native.Mathlib.Omega.{arith}
 use borrow.Author.Tests.{le-leb}
-use lib.ListN.{length, take, length-map, length-take}
+use lib.ListN.{length, take, length-map}
 use Rattle.fund.specs.declared.Fund.{Fund}
-use Rattle.fund.specs.declared.Life.{Life}
+use Rattle.fund.specs.declared.ModelPoint.{ModelPoint}
 use Rattle.fund.specs.declared.Refusal.{Refusal}
 use Rattle.fund.specs.declared.Verdict.{Verdict}
 use Rattle.fund.specs.declared.Verdict.the-variants.{Accepted, Refused}
 use Rattle.fund.specs.Limits.{most-rates, most-members}
 use Rattle.fund.specs.Reading.{FundFile, Reading, read, stopped}
-use Rattle.fund.specs.Folding.{life, lives}
+use Rattle.fund.specs.Folding.{point, points}
 use Rattle.fund.specs.Refusals.{Lengths, matched}
 use Rattle.fund.specs.Answer.{Answer, refused, answerTo}
 use Rattle.fund.specs.Listing.{horizonIn}
 use Rattle.laws.specs.Ranges.{FundOk, read-ranges}
 use Rattle.laws.specs.SheetRanges.{sheet-ranges}
-use Rattle.laws.specs.Rows.{blankRate, blankMember, blankLife, rows-back}
+use Rattle.laws.specs.Rows.{blankRate, blankMember, blankPoint, rows-back}
 use Rattle.reader.specs.declared.FileRead.{FileRead}
 use Rattle.reader.specs.Read.{rateTable, memberTable, fileRead}
 use Rattle.matching.specs.declared.table.Matched.{Matched}
-use Rattle.matching.specs.Matching.{lifeTable, withLives, matching, matchedTables}
+use Rattle.matching.specs.Matching.{pointTable, withPoints, matching, matchedTables}
 use Rattle.pricing.specs.Joining.{answer-stopped}
 use Rattle.pricing.specs.declared.Source.{Source}
 use Rattle.pricing.specs.declared.Source.the-variants.{File, Sheets}
@@ -98,26 +98,23 @@ module _ (r : Reading) (found : FileRead) (e : found ≡ fileRead r) where
   read-matched inside m k v = matched-fund inside m k v r refl
 
 -- ---- what 3 to 6 answered
-verdict-with : (ms : List Life) (v : Verdict) → withLives ms v .verdict ≡ v
-unfolding withLives
-verdict-with ms Accepted = refl
-verdict-with ms (Refused why place) = refl
+verdict-with : (ps : List ModelPoint) (v : Verdict) → withPoints ps v .verdict ≡ v
+unfolding withPoints
+verdict-with ps Accepted = refl
+verdict-with ps (Refused why place) = refl
 
 module _ (r : Reading) (fund : Fund) (m : Matched) (enrolled : ℕ) (k : MatchedFund r fund m enrolled) where
   pub matched-verdict : m .verdict ≡ matched (k .of) Accepted
   unfolding matching
-  matched-verdict = ap (λ (x : Matched). x .verdict) (k .matched) ∙ verdict-with (lives (k .of)) (matched (k .of) Accepted)
+  matched-verdict = ap (λ (x : Matched). x .verdict) (k .matched) ∙ verdict-with (points (k .of)) (matched (k .of) Accepted)
 
   pub few-enrolled : enrolled ≤ most-members
   few-enrolled = omega (arith, k .members, k .ok .rows .few-members)
 
-  pub few-lives : length (take enrolled (m .lives)) ≤ most-members
-  few-lives = omega (arith, length-take enrolled (m .lives), few-enrolled)
-
-  pub matched-lives : m .verdict ≡ Accepted → take enrolled (m .lives) ≡ lives (k .of)
-  unfolding matching withLives lifeTable lives
-  matched-lives v =
+  pub matched-points : m .verdict ≡ Accepted → take enrolled (m .points) ≡ points (k .of)
+  unfolding matching withPoints pointTable points
+  matched-points v =
       let w : matched (k .of) Accepted ≡ Accepted = sym matched-verdict ∙ v in
-      let t : m ≡ withLives (lives (k .of)) Accepted = k .matched ∙ ap (withLives (lives (k .of))) w in
-      let n : enrolled ≡ length (lives (k .of)) = k .members ∙ sym (length-map (k .of .members) (life (k .of .rates))) in
-      ap₂ (λ (c : ℕ) (x : Matched). take c (x .lives)) n t ∙ rows-back blankLife most-members (lives (k .of))
+      let t : m ≡ withPoints (points (k .of)) Accepted = k .matched ∙ ap (withPoints (points (k .of))) w in
+      let n : enrolled ≡ length (points (k .of)) = k .members ∙ sym (length-map (k .of .members) (point (k .of .rates))) in
+      ap₂ (λ (c : ℕ) (x : Matched). take c (x .points)) n t ∙ rows-back blankPoint most-members (points (k .of))

@@ -4,22 +4,22 @@ use mathlib.Core.List.{List, []}
 use Prim.Native.Nat.{ℕ, _≤_}
 use borrow.Author.Tests.{ltb-false}
 use Rattle.fund.specs.declared.Fund.{Fund}
-use Rattle.fund.specs.declared.Life.{Life}
+use Rattle.fund.specs.declared.ModelPoint.{ModelPoint}
 use Rattle.fund.specs.declared.Refusal.{Refusal}
 use Rattle.fund.specs.declared.Verdict.{Verdict}
 use Rattle.fund.specs.declared.Verdict.the-variants.{Accepted, Refused}
 use Rattle.fund.specs.Limits.{most-members}
 use Rattle.fund.specs.Reading.{FundFile, Reading, read}
-use Rattle.fund.specs.Folding.{lives}
+use Rattle.fund.specs.Folding.{points, copies, lives}
 use Rattle.fund.specs.Refusals.{Lengths, matched, valued}
 use Rattle.fund.specs.Answer.{Answer, part, refused, accepted, fundCells, answerOf, answerTo}
-use Rattle.laws.specs.Accepted.{All, refuse-accepted, at0-none}
+use Rattle.laws.specs.Accepted.{refuse-accepted, at0-none}
 use Rattle.laws.specs.Ranges.{FundOk}
-use Rattle.widths.specs.Lives.{InRange}
+use Rattle.totals.specs.Table.{Points}
 use Rattle.totals.specs.Inside.{HeaderIn}
 use Rattle.valuation.specs.Valued.{outcome, valuation}
 use Rattle.valuation.proofs.ValuedInside.{valuation-inside}
-use Rattle.pricing.specs.Joining.{lives-in, answer-matched, answer-valued}
+use Rattle.pricing.specs.Joining.{points-in, answer-matched, answer-valued}
 use Rattle.pricing.specs.Priced.{lined}
 
 -- With its line, what a refusal or a valuation leaves is the answer of a verdict.
@@ -36,9 +36,9 @@ module _ (text : List ℕ) (n : Lengths) (r : Reading) (fund : FundFile) (is : r
   pub matched-answers : (v : Verdict) (why : Refusal) (place : ℕ) (a : Answer) → v ≡ matched fund Accepted → v ≡ Refused why place → a ≡ refused [] n (Refused why place) → lined text a ≡ answerTo text n r
   matched-answers v why place a e w k = ap (lined text) k ∙ lined-refused text n why place ∙ sym (answer-matched text n r fund is why place (sym e ∙ w))
 
-  module _ (ok : FundOk fund) (ms : List Life) (m : matched fund Accepted ≡ Accepted) (same : ms ≡ lives fund) where
-    in-range : All InRange ms
-    in-range = subst (λ (ls : List Life). All InRange ls) (sym same) (lives-in fund ok m)
+  module _ (ok : FundOk fund) (ps : List ModelPoint) (m : matched fund Accepted ≡ Accepted) (same : ps ≡ points fund) where
+    in-range : Points ps
+    in-range = subst (λ (qs : List ModelPoint). Points qs) (sym same) (points-in fund ok m)
 
     header-in : HeaderIn (fund .header)
     unfolding matched
@@ -48,12 +48,13 @@ module _ (text : List ℕ) (n : Lengths) (r : Reading) (fund : FundFile) (is : r
         let e4 = refuse-accepted _ _ _ (e3 .1) in
         record { horizon = h .horizon; order = h .order-most; frequency = h .frequency; deductible = ltb-false _ _ (at0-none _ (e4 .0)); worth-least = h .worth-least; worth-most = h .worth-most }
 
-    pub valued-answers : (a : Answer) (header : Fund) (count : ℕ) → header ≡ fund .header → count ≤ most-members → a ≡ valuation header count ms n → lined text a ≡ answerTo text n r
+    pub valued-answers : (a : Answer) (header : Fund) (count : ℕ) → header ≡ fund .header → count ≤ most-members → a ≡ valuation header count ps n → lined text a ≡ answerTo text n r
+    unfolding lives
     valued-answers a header count e few k =
         ap (lined text)
         (k
-        ∙ ap (λ x. valuation x count ms n) e
-        ∙ valuation-inside (fund .header) count ms n few header-in in-range
-        ∙ ap (λ (ls : List Life). outcome (fund .header) ls n (valued (fund .header) ls n (fundCells (fund .header) ls))) same)
+        ∙ ap (λ x. valuation x count ps n) e
+        ∙ valuation-inside (fund .header) count ps n few header-in in-range
+        ∙ ap (λ (qs : List ModelPoint). outcome (fund .header) (copies qs) n (valued (fund .header) (copies qs) n (fundCells (fund .header) (copies qs)))) same)
         ∙ lined-outcome text n fund (valued (fund .header) (lives fund) n (fundCells (fund .header) (lives fund)))
         ∙ sym (answer-valued text n r fund is m)

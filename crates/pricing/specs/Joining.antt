@@ -1,4 +1,4 @@
--- What joins the steps of a pricing call: a fund that is read and matched has lives in their ranges (lives-in); refusals 3 to 6
+-- What joins the steps of a pricing call: a fund that is read and matched has model points in their ranges (points-in); refusals 3 to 6
 -- come before what follows them (matched-first); the answer of a call from the answers of its steps (answer-stopped,
 -- answer-matched, answer-valued); and its answer at the level, by the definitions (told-horizon, quantile-is).
 use mathlib.Core.Path.{_≡_, refl, _∙_, ap}
@@ -11,6 +11,7 @@ use lib.Dec.{eqb}
 use lib.IntN.{ℤ}
 use Rattle.fund.specs.declared.Rate.{Rate}
 use Rattle.fund.specs.declared.Member.{Member}
+use Rattle.fund.specs.declared.ModelPoint.{ModelPoint}
 use Rattle.fund.specs.declared.Refusal.{Refusal}
 use Rattle.fund.specs.declared.Refusal.the-variants.{Edition, Deductible, Unmatched, Half}
 use Rattle.fund.specs.declared.Verdict.{Verdict}
@@ -18,19 +19,21 @@ use Rattle.fund.specs.declared.Verdict.the-variants.{Accepted, Refused}
 use Rattle.fund.specs.Base.{if_then_else_}
 use Rattle.fund.specs.Limits.{most-rate}
 use Rattle.fund.specs.Reading.{FundFile, Reading, read, stopped}
-use Rattle.fund.specs.Folding.{rateInForce, folded, life, lives}
+use Rattle.fund.specs.Folding.{rateInForce, folded, life, point, points, lives}
 use Rattle.fund.specs.Refusals.{Lengths, refuse, valued, matched, verdict}
 use Rattle.fund.specs.Quantile.{quantileOf}
 use Rattle.fund.specs.Answer.{Answer, refused, fundCells, answerOf, answerTo}
 use Rattle.fund.specs.Listing.{horizonIn}
-use Rattle.laws.specs.Accepted.{All, Limited, not-half, all-map, refuse-accepted, first-none}
+use Rattle.laws.specs.Accepted.{All, Limited, not-half-line, all-map, refuse-accepted, first-none}
+use Rattle.laws.specs.Copies.{lives-points}
 use Rattle.laws.specs.InForce.{in-force-all}
 use Rattle.laws.specs.Ranges.{RateOk, MemberOk, FundOk}
 use Rattle.widths.specs.Lives.{InRange}
+use Rattle.totals.specs.Table.{PointIn, Points}
 use Rattle.pricing.specs.declared.Priced.{Priced}
 use Rattle.pricing.specs.Priced.{left, horizonWith, Answers}
 
--- ---- lives in their ranges
+-- ---- model points in their ranges
 folded-in : (o : Option Rate) (m : Member) → ((r : Rate) → o ≡ some r → RateOk r) → MemberOk m → Limited (folded o m) → InRange (folded o m)
 unfolding folded
 folded-in none m k ok c =
@@ -62,20 +65,25 @@ folded-in (some r) m k ok c =
     both false true = let s = k r refl in omega (arith, s .q)
     both false false = let s = k r refl in omega (arith, s .both)
 
-members-in : (rates : List Rate) (ms : List Member) → All RateOk rates → All MemberOk ms → All Limited (map (life rates) ms) → All InRange (map (life rates) ms)
-unfolding life
+members-in : (rates : List Rate) (ms : List Member) → All RateOk rates → All MemberOk ms → All (λ (p : ModelPoint). Limited (p .life)) (map (point rates) ms) → All PointIn (map (point rates) ms)
+unfolding point life
 members-in rates [] k ok c = tt
-members-in rates (m ∷ ms) k ok c =
-    (folded-in (rateInForce rates (m .age)) m (λ r e. in-force-all RateOk rates (m .age) r k e) (ok .0) (c .0), members-in rates ms k (ok .1) (c .1))
+members-in rates (m ∷ ms) k ok c = (
+  record { life-in = folded-in (rateInForce rates (m .age)) m (λ r e. in-force-all RateOk rates (m .age) r k e) (ok .0) (c .0); lives-most = ok .0 .lives-most },
+  members-in rates ms k (ok .1) (c .1),
+)
 
-pub lives-in : (file : FundFile) → FundOk file → matched file Accepted ≡ Accepted → All InRange (lives file)
-unfolding matched lives
-lives-in file ok e =
+pub points-in : (file : FundFile) → FundOk file → matched file Accepted ≡ Accepted → Points (points file)
+unfolding matched points
+points-in file ok e =
     let e3 = refuse-accepted _ _ _ e in
     let e4 = refuse-accepted _ _ _ (e3 .1) in
     let e5 = refuse-accepted _ _ _ (e4 .1) in
     let e6 = refuse-accepted _ _ _ (e5 .1) in
-    members-in (file .rates) (file .members) (ok .rows .rates) (ok .rows .members) (all-map not-half (lives file) (first-none _ _ _ (e6 .0)))
+    record {
+      few = rw (lives-points file) (ok .rows .few-lives);
+      in-range = members-in (file .rates) (file .members) (ok .rows .rates) (ok .rows .members) (all-map not-half-line (points file) (first-none _ _ _ (e6 .0)));
+    }
 
 -- ---- refusals 3 to 6, then the rest
 abbrev pub thenVerdict : Verdict → Verdict → Verdict

@@ -70,7 +70,7 @@ abbrev pub readingFrom : Source → List ℕ → List ℕ → List ℕ → Readi
 readingFrom File text rates members = reading text
 readingFrom Sheets text rates members = sheetReading text rates members
 
--- Reading gave a fund, in its ranges, whose header and members these are, and whose refusals 3 to 6 and lives were found.
+-- Reading gave a fund, in its ranges, whose header and members these are, and whose refusals 3 to 6 and model points were found.
 pub record MatchedFund (r : Reading) (fund : Fund) (m : Matched) (enrolled : ℕ) : Type 0 where
   pub of : FundFile
   pub is : r ≡ read of

@@ -71,7 +71,7 @@ fn told(file: &[u8], level: u64, horizon: u64, value: Valued, sums: &[i64]) -> P
     }
 }
 
-// Where 3 to 6 stop, their refusal, and else the valuation of the lives.
+// Where 3 to 6 stop, their refusal, and else the valuation of the model points.
 fn valued(
     fund: Fund,
     matched: Matched,
@@ -93,8 +93,8 @@ fn valued(
             refuse(stop, transform, h, f, r, sums)
         }
         Verdict::Accepted => {
-            let lives = matched.lives;
-            valuation::value(fund, lives, enrolled, transform, h, f, r, sums)
+            let points = matched.points;
+            valuation::value(fund, points, enrolled, transform, h, f, r, sums)
         }
     }
 }

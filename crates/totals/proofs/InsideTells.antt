@@ -7,13 +7,16 @@ use lib.Dec.{leb, ltb, eqb}
 use Rattle.fund.specs.declared.Frequencies.{Frequencies}
 use Rattle.fund.specs.declared.Fund.{Fund}
 use Rattle.fund.specs.declared.Life.{Life}
+use Rattle.fund.specs.declared.ModelPoint.{ModelPoint}
 use Rattle.fund.specs.Folding.{claim, single}
-use Rattle.fund.specs.Limits.{most-members, half-rate}
+use Rattle.fund.specs.Limits.{most-members, most-lives, half-rate}
 use Rattle.laws.specs.Accepted.{All, Limited}
+use Rattle.laws.specs.Copies.{livesOf}
 use Rattle.laws.specs.Ranges.{FrequenciesOk}
 use Rattle.laws.specs.Tells.{Tells, tells-as, tells-le, tells-lt, tells-eq}
 use Rattle.widths.specs.Lives.{InRange}
-use Rattle.totals.specs.Inside.{HeaderIn, frequenciesInside, headerInside, foldedRate, lifeInside, allInside, inside}
+use Rattle.totals.specs.Inside.{HeaderIn, frequenciesInside, headerInside, foldedRate, lifeInside, pointInside, allInside, inside}
+use Rattle.totals.specs.Table.{PointIn, Points}
 
 tells-and : {P Q : Type 0} (a b : Bool) → Tells a P → Tells b Q → Tells (a && b) (P × Q)
 tells-and true b p q = record { yes = λ e. (p .yes refl, q .yes e); no = λ h. q .no (h .1) }
@@ -66,11 +69,18 @@ life-tells m =
     })
     (λ h. (h .group-least, (h .group-most, (h .rates, (h .limited, (h .death, (h .disability, (h .no-death, h .no-disability))))))))
 
-all-tells : (ms : List Life) → Tells (allInside ms) (All InRange ms)
+point-tells : (p : ModelPoint) → Tells (pointInside p) (PointIn p)
+unfolding pointInside
+point-tells p = tells-as (tells-and _ _ (life-tells (p .life)) (le _ _)) (λ h. record { life-in = h .0; lives-most = h .1 }) (λ h. (h .life-in, h .lives-most))
+
+all-tells : (ps : List ModelPoint) → Tells (allInside ps) (All PointIn ps)
 unfolding allInside
 all-tells [] = record { yes = λ e. tt; no = λ h. refl }
-all-tells (m ∷ ms) = tells-and (lifeInside m) (allInside ms) (life-tells m) (all-tells ms)
+all-tells (p ∷ ps) = tells-and (pointInside p) (allInside ps) (point-tells p) (all-tells ps)
 
-pub inside-tells : (fund : Fund) (count : ℕ) (ms : List Life) → Tells (inside fund count ms) ((count ≤ most-members) × (HeaderIn fund × All InRange ms))
+points-tell : (ps : List ModelPoint) → Tells (leb (livesOf ps) most-lives && allInside ps) (Points ps)
+points-tell ps = tells-as (tells-and _ (allInside ps) (le (livesOf ps) most-lives) (all-tells ps)) (λ h. record { few = h .0; in-range = h .1 }) (λ h. (h .few, h .in-range))
+
+pub inside-tells : (fund : Fund) (count : ℕ) (ps : List ModelPoint) → Tells (inside fund count ps) ((count ≤ most-members) × (HeaderIn fund × Points ps))
 unfolding inside
-inside-tells fund count ms = tells-and (leb count most-members) _ (le count most-members) (tells-and (headerInside fund) (allInside ms) (header-tells fund) (all-tells ms))
+inside-tells fund count ps = tells-and (leb count most-members) _ (le count most-members) (tells-and (headerInside fund) _ (header-tells fund) (points-tell ps))

@@ -1,8 +1,10 @@
-pub mod LifeElement
-mod LifeSums
+pub mod PointElement
+mod PointSums
+mod Caps
 mod Terms
+mod Multiplying
 mod TableTotals
 mod TableCalls
-pub mod FirstLives
+pub mod FirstPoints
 pub mod InsideTells
 pub mod Testing

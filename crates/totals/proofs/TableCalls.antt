@@ -19,28 +19,28 @@ use denote.Slice.{sliceVal, ShrSlice, shr-slice-copy}
 use denote.Steps.{nothing}
 use denote.Triple.Clauses.{Clauses, AtExit}
 use denote.Triple.Statement.{Triple}
-use Rattle.fund.specs.declared.Life.{Life}
-use Rattle.fund.proofs.Life as L
+use Rattle.fund.specs.declared.ModelPoint.{ModelPoint}
+use Rattle.fund.proofs.ModelPoint as L
 use Rattle.walks.specs.Walks.{Stated, tokens, calls-for}
 use Rattle.walks.specs.WalkForm.{walkEnded}
-use Rattle.totals.proofs.LifeElement.{life}
+use Rattle.totals.proofs.PointElement.{point}
 
-module _ {M : Type 1} (𝓤 : URA M) (H : Heap 𝓤) (A : Atoms 𝓤) (W : Given 𝓤 H A) (κ : Lft) (q : Share) (members : RefT (List Life)) (R X : RattleType) (c : Clauses 𝓤 (walkEnded life R X)) (x : X .Denot) (u : Val) where
+module _ {M : Type 1} (𝓤 : URA M) (H : Heap 𝓤) (A : Atoms 𝓤) (W : Given 𝓤 H A) (κ : Lft) (q : Share) (points : RefT (List ModelPoint)) (R X : RattleType) (c : Clauses 𝓤 (walkEnded point R X)) (x : X .Denot) (u : Val) where
   abbrev v : Val
-  v = sliceVal (members .ptr) (length (members .now))
+  v = sliceVal (points .ptr) (length (points .now))
 
   abbrev lent : Item 𝓤
-  lent = ‵ (ShrSlice (named 0) κ L.the-row .own members (v ∷ []))
+  lent = ‵ (ShrSlice (named 0) κ L.the-row .own points (v ∷ []))
 
-  abbrev to : c (κ, tt) (members, (x, tt)) .ghost → Stated W (walkEnded life R X) c .Ghost
-  to g = (((κ, tt), (q, tt), tt, (members, (x, tt)), (v ∷ [], (u ∷ [], tt))), g)
+  abbrev to : c (κ, tt) (points, (x, tt)) .ghost → Stated W (walkEnded point R X) c .Ghost
+  to g = (((κ, tt), (q, tt), tt, (points, (x, tt)), (v ∷ [], (u ∷ [], tt))), g)
 
   module _ {Γ : List (Item 𝓤)} {E : Env 𝓤 H} {C : Calls 𝓤 H} {f : Name} {xs : List Operand} {Λ : Loops 𝓤 H} {p : Post 𝓤 H} {d : Place} {rest : Body} where
-    pub calls-walk : (g : c (κ, tt) (members, (x, tt)) .ghost) → FmC 𝓤 H (W .laws) C → Triple 𝓤 (C f) (Stated W (walkEnded life R X) c) → ent 𝓤 (emp 𝓤) (c (κ, tt) (members, (x, tt)) .requires g)
-        → (φ : R .Denot → Type 0) → ((r : R .Denot) (e : AtExit (walkEnded life R X) (κ, tt)) → ent 𝓤 (c (κ, tt) (members, (x, tt)) .ensures g r e) (fact 𝓤 (φ r))) → Makes 𝓤 H A X (Is X) → Is X x (u ∷ [])
+    pub calls-walk : (g : c (κ, tt) (points, (x, tt)) .ghost) → FmC 𝓤 H (W .laws) C → Triple 𝓤 (C f) (Stated W (walkEnded point R X) c) → ent 𝓤 (emp 𝓤) (c (κ, tt) (points, (x, tt)) .requires g)
+        → (φ : R .Denot → Type 0) → ((r : R .Denot) (e : AtExit (walkEnded point R X) (κ, tt)) → ent 𝓤 (c (κ, tt) (points, (x, tt)) .ensures g r e) (fact 𝓤 (φ r))) → Makes 𝓤 H A X (Is X) → Is X x (u ∷ [])
         → ((i : Item 𝓤) → Opds (Go {0}) W (i ∷ lent ∷ Γ) E xs (v ∷ u ∷ []))
-        → ((w : Val) (r : R .Denot) → φ r → Is R r (w ∷ []) → Seq (Go {0}) W (‵ (R .own r (w ∷ [])) ∷ tokens W (walkEnded life R X) c (to g) ∷ lent ∷ Γ) (lands C Λ E d w rest p))
-        → Seq (Go {0}) W (tokens W (walkEnded life R X) c (to g) ∷ lent ∷ Γ) (runs C Λ E (seq (call f xs d) rest) p)
+        → ((w : Val) (r : R .Denot) → φ r → Is R r (w ∷ []) → Seq (Go {0}) W (‵ (R .own r (w ∷ [])) ∷ tokens W (walkEnded point R X) c (to g) ∷ lent ∷ Γ) (lands C Λ E d w rest p))
+        → Seq (Go {0}) W (tokens W (walkEnded point R X) c (to g) ∷ lent ∷ Γ) (runs C Λ E (seq (call f xs d) rest) p)
     calls-walk g fm met requires φ says makes is os k =
-        move ! (1 ∷ []) $ use1 W (lent ⊛ lent) (shr-slice-copy 𝓤 H A W (named 0) κ L.the-row .twice members _) $ split ! $ nothing ! $ use0 W (‵ (X .own x (u ∷ []))) (makes x _ is) $ fjoin ! $ move ! (1 ∷ 0 ∷ []) $ fjoin ! $ move ! (2 ∷ 0 ∷ []) $
-        calls-for W (walkEnded life R X) c (to g) ! fm met requires φ says (os _) k
+        move ! (1 ∷ []) $ use1 W (lent ⊛ lent) (shr-slice-copy 𝓤 H A W (named 0) κ L.the-row .twice points _) $ split ! $ nothing ! $ use0 W (‵ (X .own x (u ∷ []))) (makes x _ is) $ fjoin ! $ move ! (1 ∷ 0 ∷ []) $ fjoin ! $ move ! (2 ∷ 0 ∷ []) $
+        calls-for W (walkEnded point R X) c (to g) ! fm met requires φ says (os _) k

@@ -8,14 +8,17 @@ use lib.ListN.{length}
 use Rattle.fund.specs.declared.Frequencies.{Frequencies}
 use Rattle.fund.specs.declared.Fund.{Fund}
 use Rattle.fund.specs.declared.Life.{Life}
+use Rattle.fund.specs.declared.ModelPoint.{ModelPoint}
 use Rattle.fund.specs.Base.{total}
-use Rattle.fund.specs.Limits.{most-load, most-truncation, most-members}
+use Rattle.fund.specs.Folding.{copies}
+use Rattle.fund.specs.Limits.{most-load, most-truncation, most-members, most-lives}
 use Rattle.fund.specs.Transform.{lambda, load, truncation, mean}
 use Rattle.fund.specs.Recursion.{multiplied, alternating, start, startBound}
 use Rattle.totals.specs.declared.start.Product.{Product}
-use Rattle.totals.specs.Table.{Members, most-lambda, most-mean}
+use Rattle.totals.specs.Table.{PointIn, Points, Members, most-lambda, most-mean}
 use Rattle.totals.specs.Start.{Multiplied}
 use Rattle.laws.specs.Accepted.{All}
+use Rattle.laws.specs.Copies.{livesOf}
 use Rattle.laws.specs.Ranges.{FrequenciesOk}
 use Rattle.laws.specs.Weights.{most-weight}
 use Rattle.widths.specs.Lives.{InRange}
@@ -39,7 +42,7 @@ module _ (fund : Fund) (ms : List Life) (lam all figure m : ℕ) (l : StartSum) 
   unfolding start alternating
   cell-is =
       made .cell-is
-      ∙ sym (product .product (l .negative))
+      ∙ sym (product .size-is .product (l .negative))
       ∙ ap (λ f. multiplied f ms) (sums-of .is .sum-is)
       ∙ ap (λ k. start (min k most-load) ms) lam-is
 
@@ -58,31 +61,31 @@ module _ (fund : Fund) (ms : List Life) (lam all figure m : ℕ) (l : StartSum) 
   sums-up = record { inside-is = made .inside-is; load-is = load-is; truncation-is = made .truncation-is ∙ figure-is; mean-is = made .mean-is ∙ m-is; cell-is = cell-is; bound-is = bound-is; bound-within = bound-within }
 
 pub made-asks : (ms : List Life) → Members ms → (lam : ℕ) (l : StartSum) → StartSums lam l → (p : Product) → Multiplied ms (l .size) p → (p .size ≤ 200000000000000000) × (l .bound ≤ 64000) × (p .singles ≤ 1000)
-made-asks ms n lam l sums-of p product = (omega (arith, product .size-within, sums-of .size-within), sums-of .bound-within, omega (arith, product .count-within, n .few))
+made-asks ms n lam l sums-of p product = (omega (arith, product .size-is .within, sums-of .size-within), sums-of .bound-within, omega (arith, product .count-within, n .few))
 
 -- ---- inside or not
-module _ (fund : Fund) (ms : List Life) (b r : Bool) (header : Tells b ((length ms ≤ 1000) × HeaderIn fund)) (lives : Tells r ((b ≡ true) × All InRange ms)) where
-  pub inside : r ≡ true → Members ms × HeaderIn fund
-  inside e = let l = lives .yes e in let h = header .yes (l .0) in (record { few = h .0; in-range = l .1 }, h .1)
+module _ (fund : Fund) (ps : List ModelPoint) (k : ℕ) (b r : Bool) (count : k ≡ min (livesOf ps) (most-lives + 1)) (header : Tells b ((k ≤ most-lives) × HeaderIn fund)) (lines : Tells r ((b ≡ true) × All PointIn ps)) where
+  pub inside : r ≡ true → Points ps × HeaderIn fund
+  inside e = let l = lines .yes e in let h = header .yes (l .0) in (record { few = omega (arith, count, h .0); in-range = l .1 }, h .1)
 
-  pub outside : r ≡ false → Members ms × HeaderIn fund → ⊥
-  outside e m = true≢false (sym (lives .no (header .no (m .0 .few, m .1), m .0 .in-range)) ∙ e)
+  pub outside : r ≡ false → Points ps × HeaderIn fund → ⊥
+  outside e m = true≢false (sym (lines .no (header .no (omega (arith, count, m .0 .few), m .1), m .0 .in-range)) ∙ e)
 
 not-inside : (t : Totals) → t ≡ noTotals → t .inside ≡ false
 not-inside t e = ap (λ (x : Totals). x .inside) e
 
-pub totalled-inside : (fund : Fund) (ms : List Life) (t : Totals) → Members ms × HeaderIn fund → LivesTotals fund ms t → TableTotals fund ms t
-totalled-inside fund ms t m s = record { tells = record { yes = λ e. m; no = λ _. s .inside-is }; sums = λ e. s; outside = λ g. absurd (true≢false (sym (s .inside-is) ∙ g)) }
+pub totalled-inside : (fund : Fund) (ps : List ModelPoint) (t : Totals) → Points ps × HeaderIn fund → LivesTotals fund (copies ps) t → TableTotals fund ps t
+totalled-inside fund ps t m s = record { tells = record { yes = λ e. m; no = λ _. s .inside-is }; sums = λ e. s; outside = λ g. absurd (true≢false (sym (s .inside-is) ∙ g)) }
 
-pub totalled-outside : (fund : Fund) (ms : List Life) (t : Totals) → (Members ms × HeaderIn fund → ⊥) → t ≡ noTotals → TableTotals fund ms t
-totalled-outside fund ms t out e =
+pub totalled-outside : (fund : Fund) (ps : List ModelPoint) (t : Totals) → (Points ps × HeaderIn fund → ⊥) → t ≡ noTotals → TableTotals fund ps t
+totalled-outside fund ps t out e =
     record { tells = record { yes = λ g. absurd (true≢false (sym g ∙ not-inside t e)); no = λ m. absurd (out m) }; sums = λ g. absurd (true≢false (sym g ∙ not-inside t e)); outside = λ _. e }
 
--- ---- the totals of a table are those of its first lives
-pub totals-first : (fund : Fund) (count : ℕ) (ms : List Life) (t : Totals) → count ≤ most-members → TableTotals fund ms t → TotalsFor fund count ms t
-totals-first fund count ms t l s =
+-- ---- the totals of a table are those of its first lines
+pub totals-first : (fund : Fund) (count : ℕ) (ps : List ModelPoint) (t : Totals) → count ≤ most-members → TableTotals fund ps t → TotalsFor fund count ps t
+totals-first fund count ps t l s =
     record { tells = record { yes = λ e. let m = s .tells .yes e in (l, m .0, m .1); no = λ h. s .tells .no (h .1, h .2) }; sums = s .sums; outside = s .outside }
 
-pub totals-none : (fund : Fund) (count : ℕ) (ms : List Life) (t : Totals) → most-members < count → t ≡ noTotals → TotalsFor fund count ms t
-totals-none fund count ms t l e =
+pub totals-none : (fund : Fund) (count : ℕ) (ps : List ModelPoint) (t : Totals) → most-members < count → t ≡ noTotals → TotalsFor fund count ps t
+totals-none fund count ps t l e =
     record { tells = record { yes = λ i. absurd (true≢false (sym i ∙ not-inside t e)); no = λ h. absurd (omega (arith, h .0, l)) }; sums = λ i. absurd (true≢false (sym i ∙ not-inside t e)); outside = λ _. e }

@@ -1,4 +1,4 @@
--- The ranges that reading and refusal 6 leave: of a header, of a life, and of a table with its count.
+-- The ranges that reading and refusal 6 leave: of a header, of a life, of a member line, and of a table with its count.
 use mathlib.Core.Bool.{Bool, true, not, _&&_, _||_}
 use mathlib.Core.List.{List, [], _∷_}
 use Prim.Native.Nat.{ℕ, suc, _≤_}
@@ -6,8 +6,10 @@ use lib.Dec.{leb, ltb, eqb}
 use Rattle.fund.specs.declared.Frequencies.{Frequencies}
 use Rattle.fund.specs.declared.Fund.{Fund}
 use Rattle.fund.specs.declared.Life.{Life}
+use Rattle.fund.specs.declared.ModelPoint.{ModelPoint}
 use Rattle.fund.specs.Folding.{claim, single}
-use Rattle.fund.specs.Limits.{most-horizon, most-order, most-frequency, least-worth, most-worth, most-members, least-group, most-group, most-rate, half-rate, most-amount}
+use Rattle.fund.specs.Limits.{most-horizon, most-order, most-frequency, least-worth, most-worth, most-members, most-lives, least-group, most-group, most-rate, half-rate, most-amount}
+use Rattle.laws.specs.Copies.{livesOf}
 use Rattle.laws.specs.Ranges.{FrequenciesOk}
 
 -- The header's figures that the valuation uses are in their ranges.
@@ -37,10 +39,13 @@ lifeInside m =
     leb least-group (m .group) && (leb (m .group) most-group && (leb (claim m) most-rate && ((not (single m) || ltb (claim m) half-rate)
     && (leb (m .d) most-amount && (leb (m .e) most-amount && (foldedRate (m .q) (m .d) && foldedRate (m .i) (m .e)))))))
 
-unfoldable pub allInside : List Life → Bool
-allInside [] = true
-allInside (m ∷ ms) = lifeInside m && allInside ms
+unfoldable pub pointInside : ModelPoint → Bool
+pointInside p = lifeInside (p .life) && leb (p .lives) most-lives
 
--- A header, and lives that are `count` of a table.
-unfoldable pub inside : Fund → ℕ → List Life → Bool
-inside fund count ms = leb count most-members && (headerInside fund && allInside ms)
+unfoldable pub allInside : List ModelPoint → Bool
+allInside [] = true
+allInside (p ∷ ps) = pointInside p && allInside ps
+
+-- A header, and member lines that are `count` of a table.
+unfoldable pub inside : Fund → ℕ → List ModelPoint → Bool
+inside fund count ps = leb count most-members && (headerInside fund && (leb (livesOf ps) most-lives && allInside ps))

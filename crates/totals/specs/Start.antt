@@ -4,12 +4,12 @@ use mathlib.Core.Bool.{Bool}
 use mathlib.Core.List.{List}
 use Prim.Native.Nat.{ℕ, zero, suc, _+_, _*_, _^_, _≤_}
 use lib.IntN.{pos}
-use lib.ListN.{length}
-use Rattle.rounding.specs.Rounding.{near, up}
+use lib.ListN.{length, replicate}
+use Rattle.rounding.specs.Rounding.{up}
 use Rattle.fund.specs.declared.Life.{Life}
+use Rattle.fund.specs.declared.ModelPoint.{ModelPoint}
 use Rattle.fund.specs.Base.{if_then_else_, sum, sumℤ, total, alternate}
-use Rattle.fund.specs.Folding.{stay, single}
-use Rattle.fund.specs.Limits.{most-rate}
+use Rattle.fund.specs.Folding.{single}
 use Rattle.fund.specs.Recursion.{t, c, multiplied}
 use Rattle.whole.specs.Sign.{signed}
 use Rattle.totals.specs.declared.start.Product.{Product}
@@ -40,14 +40,17 @@ pub record TermsTo (lambda n : ℕ) (s : Sums) : Type 0 where
 abbrev pub countOne : Life → ℕ
 countOne m = if single m then 1 else 0
 
--- one life more
-pub record Times (m : Life) (p r : Product) : Type 0 where
-  pub size-is : r .size ≡ (if single m then near (p .size * stay m) most-rate else p .size)
-  pub count-is : r .singles ≡ p .singles + countOne m
+-- A magnitude with p of lives: the sign of what is multiplied does not matter.
+pub record SizeWith (ms : List Life) (size r : ℕ) : Type 0 where
+  pub product : (s : Bool) → multiplied (signed s size) ms ≡ signed s r
+  pub within : r ≤ size
 
--- The sign of what is multiplied does not matter.
+-- one line more: its lives, one after the other
+pub record Times (p : ModelPoint) (before r : Product) : Type 0 where
+  pub size-is : SizeWith (replicate (p .lives) (p .life)) (before .size) (r .size)
+  pub count-is : r .singles ≡ before .singles + p .lives * countOne (p .life)
+
 pub record Multiplied (ms : List Life) (size : ℕ) (p : Product) : Type 0 where
-  pub product : (s : Bool) → multiplied (signed s size) ms ≡ signed s (p .size)
+  pub size-is : SizeWith ms size (p .size)
   pub count : total countOne ms ≡ p .singles
-  pub size-within : p .size ≤ size
   pub count-within : p .singles ≤ length ms

@@ -1,4 +1,4 @@
--- What a table of lives adds up to.
+-- What a table of member lines adds up to.
 use mathlib.Core.Path.{_≡_}
 use mathlib.Core.Bool.{true, false}
 use mathlib.Core.List.{List}
@@ -8,7 +8,9 @@ use lib.ListN.{length}
 use Rattle.whole.specs.Sign.{signed}
 use Rattle.fund.specs.declared.Fund.{Fund}
 use Rattle.fund.specs.declared.Life.{Life}
+use Rattle.fund.specs.declared.ModelPoint.{ModelPoint}
 use Rattle.fund.specs.Base.{sum, sumℤ, alternate}
+use Rattle.fund.specs.Folding.{copies}
 use Rattle.fund.specs.Limits.{most-load, most-truncation, most-members}
 use Rattle.fund.specs.Transform.{lambda, load, truncation, mean}
 use Rattle.fund.specs.Recursion.{t, c, start, startBound}
@@ -16,7 +18,7 @@ use Rattle.laws.specs.Tells.{Tells}
 use Rattle.totals.specs.declared.start.Product.{Product}
 use Rattle.totals.specs.declared.Totals.{Totals}
 use Rattle.totals.specs.declared.StartSum.{StartSum}
-use Rattle.totals.specs.Table.{Members, most-mean}
+use Rattle.totals.specs.Table.{Points, most-mean}
 use Rattle.totals.specs.Inside.{HeaderIn}
 use Rattle.totals.specs.Start.{most-t}
 
@@ -54,13 +56,13 @@ pub record LivesTotals (fund : Fund) (ms : List Life) (r : Totals) : Type 0 wher
   pub bound-is : r .bound ≡ startBound (startLambda fund ms) ms
   pub bound-within : r .bound ≤ 691 + length ms
 
-pub record TableTotals (fund : Fund) (ms : List Life) (r : Totals) : Type 0 where
-  pub tells : Tells (r .inside) (Members ms × HeaderIn fund)
-  pub sums : r .inside ≡ true → LivesTotals fund ms r
+pub record TableTotals (fund : Fund) (ps : List ModelPoint) (r : Totals) : Type 0 where
+  pub tells : Tells (r .inside) (Points ps × HeaderIn fund)
+  pub sums : r .inside ≡ true → LivesTotals fund (copies ps) r
   pub outside : r .inside ≡ false → r ≡ noTotals
 
--- The totals of the first n lives of a table.
-pub record TotalsFor (fund : Fund) (n : ℕ) (ms : List Life) (t : Totals) : Type 0 where
-  pub tells : Tells (t .inside) ((n ≤ most-members) × Members ms × HeaderIn fund)
-  pub sums : t .inside ≡ true → LivesTotals fund ms t
+-- The totals of the first n lines of a table.
+pub record TotalsFor (fund : Fund) (n : ℕ) (ps : List ModelPoint) (t : Totals) : Type 0 where
+  pub tells : Tells (t .inside) ((n ≤ most-members) × Points ps × HeaderIn fund)
+  pub sums : t .inside ≡ true → LivesTotals fund (copies ps) t
   pub outside : t .inside ≡ false → t ≡ noTotals

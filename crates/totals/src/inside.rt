@@ -1,16 +1,19 @@
-// Whether a header and the lives of a table are in the ranges that reading and refusal 6 leave.
+// Whether a header and the member lines of a table are in the ranges that reading and refusal 6 leave.
 use fund::Frequencies;
 use fund::Fund;
 use fund::Life;
+use fund::ModelPoint;
 ghost use mathlib.Core.Path.{_≡_};
 ghost use mathlib.Core.Bool.{true};
-ghost use Prim.Native.Nat.{_≤_};
-ghost use Rattle.fund.specs.Limits.{most-members};
+ghost use Prim.Native.Nat.{min, _+_, _≤_};
+ghost use Rattle.fund.specs.Limits.{most-lives};
 ghost use Rattle.laws.specs.Accepted.{All, Limited};
+ghost use Rattle.laws.specs.Copies.{livesOf};
 ghost use Rattle.laws.specs.Ranges.{FrequenciesOk};
 ghost use Rattle.widths.specs.Lives.{InRange};
 ghost use Rattle.laws.specs.Tells.{Tells};
 ghost use Rattle.totals.specs.Inside.{HeaderIn};
+ghost use Rattle.totals.specs.Table.{PointIn};
 
 fn frequencies_inside(ab: Frequencies) -> bool
     ensures { λ r. ⌜ Tells r (FrequenciesOk ab) ⌝ }
@@ -42,11 +45,36 @@ fn header_inside(fund: Fund) -> bool
     fund.deductible <= fund.horizon + 1
 }
 
-// Whether a table of n lives is not too long, and the header in its ranges.
-pub(crate) fn headed(fund: Fund, n: usize) -> bool
-    ensures { λ r. ⌜ Tells r ((n ≤ most-members) × HeaderIn fund) ⌝ }
+// The lives so far with those of one line more, up to `most`: no sum wraps, whatever the line says.
+fn lives_step(lives: u64, p: ModelPoint, most: u64) -> u64
+    ensures { λ r. ⌜ r ≡ min (lives + p .lives) most ⌝ }
 {
-    if Fund::MOST_MEMBERS < n as u64 {
+    if lives < most {
+        if p.lives <= most - lives {
+            return lives + p.lives;
+        }
+    }
+    most
+}
+
+// The lives in all, up to `most`.
+pub(crate) fn lives_in_all(points: &[ModelPoint], most: u64) -> u64
+    ensures { λ r. ⌜ r ≡ min (livesOf (now (points .entry))) most ⌝ }
+{
+    let mut lives: u64 = 0;
+    let mut k: usize = 0;
+    while k < points.len() {
+        lives = lives_step(lives, points[k], most);
+        k += 1;
+    }
+    lives
+}
+
+// Whether the lives in all are not too many, and the header is in its ranges.
+pub(crate) fn headed(fund: Fund, lives: u64) -> bool
+    ensures { λ r. ⌜ Tells r ((lives ≤ most-lives) × HeaderIn fund) ⌝ }
+{
+    if Fund::MOST_LIVES < lives {
         return false;
     }
     header_inside(fund)
@@ -106,24 +134,33 @@ fn life_inside(m: Life) -> bool
     is_folded(m.i, m.e)
 }
 
-// Whether all lives so far are in range, and one more.
-fn inside_step(inside: bool, m: Life) -> bool
-    ensures { λ r. ⌜ Tells r ((inside ≡ true) × InRange m) ⌝ }
+fn point_inside(p: ModelPoint) -> bool
+    ensures { λ r. ⌜ Tells r (PointIn p) ⌝ }
+{
+    if Fund::MOST_LIVES < p.lives {
+        return false;
+    }
+    life_inside(p.life)
+}
+
+// Whether all lines so far are in range, and one more.
+fn inside_step(inside: bool, p: ModelPoint) -> bool
+    ensures { λ r. ⌜ Tells r ((inside ≡ true) × PointIn p) ⌝ }
 {
     if inside {
-        return life_inside(m);
+        return point_inside(p);
     }
     false
 }
 
-// Whether the header and all lives are in their ranges, where `header` says whether the header is.
-pub(crate) fn all_inside(members: &[Life], header: bool) -> bool
-    ensures { λ r. ⌜ Tells r ((header ≡ true) × All InRange (now (members .entry))) ⌝ }
+// Whether the header and all lines are in their ranges, where `header` says whether the header is.
+pub(crate) fn all_inside(points: &[ModelPoint], header: bool) -> bool
+    ensures { λ r. ⌜ Tells r ((header ≡ true) × All PointIn (now (points .entry))) ⌝ }
 {
     let mut inside = header;
     let mut k: usize = 0;
-    while k < members.len() {
-        inside = inside_step(inside, members[k]);
+    while k < points.len() {
+        inside = inside_step(inside, points[k]);
         k += 1;
     }
     inside

@@ -1,15 +1,18 @@
 // The start of document 01's recursion: the sums of t and c, and the product with p of each group 1 member.
 use fund::Fund;
 use fund::Life;
+use fund::ModelPoint;
 use rounding::UNIT;
 use whole::Sums;
 ghost use mathlib.Core.Path.{_≡_};
-ghost use Prim.Native.Nat.{_+_, _*_, _^_, _<_, _≤_};
-ghost use Rattle.fund.specs.Limits.{most-load, most-rate, most-members};
+ghost use mathlib.Core.Bool.{true};
+ghost use Prim.Native.Nat.{_*_, _^_, _<_, _≤_};
+ghost use lib.ListN.{replicate};
+ghost use Rattle.fund.specs.Folding.{copies, claim, stay, single};
+ghost use Rattle.fund.specs.Limits.{most-load, most-rate, most-lives};
 ghost use Rattle.rounding.specs.Rounding.{near};
-ghost use Rattle.widths.specs.Lives.{InRange};
-ghost use Rattle.totals.specs.Table.{Members};
-ghost use Rattle.totals.specs.Start.{most-t, most-c, nextC, TermsTo, Times, Multiplied};
+ghost use Rattle.totals.specs.Table.{PointIn, Points};
+ghost use Rattle.totals.specs.Start.{most-t, most-c, nextC, TermsTo, SizeWith, Times, Multiplied};
 
 // The alternating sum of t(n) and the sum of c(n), n to 63.
 pub(crate) fn terms(lambda: u64) -> Sums
@@ -61,37 +64,53 @@ pub(crate) struct Product {
     pub(crate) singles: u64,
 }
 
-fn times(p: Product, stay: u64) -> Product
-    requires { ⌜ (p .size ≤ 200 * most-t) × (p .singles ≤ most-members) × (stay ≤ most-rate) ⌝ }
-    ensures { λ r. ⌜ (r .size ≡ near (p .size * stay) most-rate) × (r .singles ≡ p .singles + 1) ⌝ }
+// A magnitude times p of a member, to the nearest.
+fn times(size: u64, m: Life) -> u64
+    requires { ⌜ (claim m ≤ most-rate) × (size ≤ 200 * most-t) ⌝ }
+    ensures { λ r. ⌜ r ≡ near (size * stay m) most-rate ⌝ }
 {
-    Product {
-        size: rounding::nearest_per_million(p.size, stay),
-        singles: p.singles + 1,
-    }
+    let stay = Fund::MOST_RATE - m.q - m.i;
+    rounding::nearest_per_million(size, stay)
 }
 
-// The product with one life more.
-fn product_step(p: Product, m: Life) -> Product
-    requires { ⌜ InRange m × (p .size ≤ 200 * most-t) × (p .singles ≤ most-members) ⌝ }
-    ensures { λ r. ⌜ Times m p r ⌝ }
+// The same as many times as a group 1 line has lives, to the nearest each time.
+fn repeated(size: u64, m: Life, lives: u64) -> u64
+    requires { ⌜ (single m ≡ true) × (claim m ≤ most-rate) × (size ≤ 200 * most-t) ⌝ }
+    ensures { λ r. ⌜ SizeWith (replicate lives m) size r ⌝ }
 {
-    if m.group == 1 {
-        return times(p, Fund::MOST_RATE - m.q - m.i);
+    let mut product = size;
+    let mut left = lives;
+    while 0 < left {
+        product = times(product, m);
+        left -= 1;
     }
-    p
+    product
+}
+
+// The product with one line more.
+fn product_step(product: Product, p: ModelPoint) -> Product
+    requires { ⌜ PointIn p × (product .size ≤ 200 * most-t) × (product .singles ≤ most-lives) ⌝ }
+    ensures { λ r. ⌜ Times p product r ⌝ }
+{
+    if p.life.group == 1 {
+        return Product {
+            size: repeated(product.size, p.life, p.lives),
+            singles: product.singles + p.lives,
+        };
+    }
+    product
 }
 
 // A magnitude times p of each group 1 member, in file order.
-pub(crate) fn multiplied(members: &[Life], size: u64) -> Product
-    requires { ⌜ Members (now members) × (size ≤ 200 * most-t) ⌝ }
-    ensures { λ r. ⌜ Multiplied (now (members .entry)) size r ⌝ }
+pub(crate) fn multiplied(points: &[ModelPoint], size: u64) -> Product
+    requires { ⌜ Points (now points) × (size ≤ 200 * most-t) ⌝ }
+    ensures { λ r. ⌜ Multiplied (copies (now (points .entry))) size r ⌝ }
 {
-    let mut p = Product { size, singles: 0 };
+    let mut product = Product { size, singles: 0 };
     let mut k: usize = 0;
-    while k < members.len() {
-        p = product_step(p, members[k]);
+    while k < points.len() {
+        product = product_step(product, points[k]);
         k += 1;
     }
-    p
+    product
 }

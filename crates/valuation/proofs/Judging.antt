@@ -8,23 +8,26 @@ use native.Mathlib.Omega.{arith}
 use borrow.Author.Tests.{lt-ltb, le-ltb, ltb-true, ltb-false}
 use lib.Dec.{ltb}
 use lib.IntN.{ℤ, pos}
-use lib.ListN.{length, take, getD, replicate, length-take, length-replicate, getD-replicate}
+use lib.ListN.{length, getD, replicate, length-replicate, getD-replicate}
 use types.Run.{OneOf}
 use denote.Enum.Declared as Declared
 use Rattle.fund.specs.declared.Fund.{Fund}
 use Rattle.fund.specs.declared.Life.{Life}
+use Rattle.fund.specs.declared.ModelPoint.{ModelPoint}
 use Rattle.fund.specs.declared.Refusal.{Refusal}
 use Rattle.fund.specs.declared.Refusal.the-variants as refusal
 use Rattle.fund.specs.declared.Verdict.{Verdict}
 use Rattle.fund.specs.declared.Verdict.the-variants.{Accepted, Refused}
 use Rattle.fund.proofs.Verdict as Ver
 use Rattle.fund.specs.Limits.{most-members, most-load, most-truncation}
+use Rattle.fund.specs.Folding.{copies}
 use Rattle.fund.specs.Transform.{load, truncation}
 use Rattle.fund.specs.Refusals.{Lengths, short, refuse, at0, valued, first, wide}
 use Rattle.fund.specs.Answer.{Answer, noFigures, refused, fundTerms, fundCells}
 use Rattle.laws.specs.Answer.{no-line}
 use Rattle.laws.specs.Accepted.{Long, long-of}
 use Rattle.totals.specs.declared.Totals.{Totals}
+use Rattle.totals.specs.Table.{members-of}
 use Rattle.totals.specs.Inside.{inside}
 use Rattle.totals.specs.Totals.{TotalsFor}
 use Rattle.totals.specs.Tests.{testedOf, PassedTests, Tested}
@@ -61,20 +64,23 @@ capped m x = go (ltb m x) refl
     go true e = let l = ltb-true m x e in lt-ltb m (min x (m + 1)) (omega arith)
     go false e = let l = ltb-false m x e in le-ltb m (min x (m + 1)) (omega arith)
 
-module _ (fund : Fund) (count : ℕ) (ms : List Life) (fewer : length ms ≤ count) (t : Totals) (for : TotalsFor fund count ms t) (n : Lengths) where
-  tests : t .inside ≡ inside fund count ms
-  tests = go (t .inside) (inside fund count ms) refl refl
+module _ (fund : Fund) (count : ℕ) (ps : List ModelPoint) (t : Totals) (for : TotalsFor fund count ps t) (n : Lengths) where
+  abbrev ms : List Life
+  ms = copies ps
+
+  tests : t .inside ≡ inside fund count ps
+  tests = go (t .inside) (inside fund count ps) refl refl
     where
-      go : (a b : Bool) → t .inside ≡ a → inside fund count ms ≡ b → a ≡ b
+      go : (a b : Bool) → t .inside ≡ a → inside fund count ps ≡ b → a ≡ b
       go true true e f = refl
       go false false e f = refl
-      go true false e f = let h = for .tells .yes e in absurd (true≢false (sym (inside-tells fund count ms .no (h .0, (h .2, h .1 .in-range))) ∙ f))
+      go true false e f = let h = for .tells .yes e in absurd (true≢false (sym (inside-tells fund count ps .no (h .0, (h .2, h .1))) ∙ f))
       go false true e f =
-          let h = inside-tells fund count ms .yes f in
-          absurd (true≢false (sym (for .tells .no (h .0, record { few = omega (arith, fewer, h .0); in-range = h .1 .1 }, h .1 .0)) ∙ e))
+          let h = inside-tells fund count ps .yes f in
+          absurd (true≢false (sym (for .tells .no (h .0, h .1 .1, h .1 .0)) ∙ e))
 
   -- the verdict where the ranges are kept
-  pub verdict-inside : t .inside ≡ true → verdictOf fund count ms n ≡ valued fund ms n (fundCells fund ms)
+  pub verdict-inside : t .inside ≡ true → verdictOf fund count ps n ≡ valued fund ms n (fundCells fund ms)
   unfolding verdictOf
   verdict-inside e = rw (sym tests ∙ e)
 
@@ -84,11 +90,11 @@ module _ (fund : Fund) (count : ℕ) (ms : List Life) (fewer : length ms ≤ cou
       let s = for .sums e in
       rw (e, s .load-is, s .truncation-is, capped most-truncation (truncation (fund .order) ms))
 
-  pub refused-verdict : (why : Refusal) (place : ℕ) → testedOf fund t n ≡ Refused why place → verdictOf fund count ms n ≡ Refused why place
+  pub refused-verdict : (why : Refusal) (place : ℕ) → testedOf fund t n ≡ Refused why place → verdictOf fund count ps n ≡ Refused why place
   unfolding verdictOf valued
   refused-verdict why place e = go (t .inside) refl
     where
-      outside : t .inside ≡ false → verdictOf fund count ms n ≡ Refused refusal.Range 0
+      outside : t .inside ≡ false → verdictOf fund count ps n ≡ Refused refusal.Range 0
       outside i = rw (sym tests ∙ i)
 
       within : t .inside ≡ true → valued fund ms n (fundCells fund ms) ≡ Refused why place
@@ -96,11 +102,11 @@ module _ (fund : Fund) (count : ℕ) (ms : List Life) (fewer : length ms ≤ cou
           refused-alike (ltb most-load (load (fund .frequency) ms)) (ltb most-truncation (truncation (fund .order) ms)) (short n (fund .horizon)) (refuse refusal.Wide (first wide 0 (fundCells fund ms)) Accepted) why place
           (sym (chains i) ∙ e)
 
-      go : (b : Bool) → t .inside ≡ b → verdictOf fund count ms n ≡ Refused why place
+      go : (b : Bool) → t .inside ≡ b → verdictOf fund count ps n ≡ Refused why place
       go true i = verdict-inside i ∙ within i
       go false i = outside i ∙ sym (tested-range fund t n i) ∙ e
 
-  pub left-refused : (a : Answer) (why : Refusal) (place : ℕ) → a ≡ refused [] n (Refused why place) → testedOf fund t n ≡ Refused why place → a ≡ valuation fund count ms n
+  pub left-refused : (a : Answer) (why : Refusal) (place : ℕ) → a ≡ refused [] n (Refused why place) → testedOf fund t n ≡ Refused why place → a ≡ valuation fund count ps n
   unfolding valuation
   left-refused a why place k e = k ∙ ap (outcome fund ms n) (sym (refused-verdict why place e))
 
@@ -109,46 +115,43 @@ module _ (fund : Fund) (count : ℕ) (ms : List Life) (fewer : length ms ≤ cou
     long : Long n (fund .horizon)
     long = long-of n (fund .horizon) (p .long)
 
-    pub fillable : (count ≤ most-members) × Fillable fund ms (n .D) (n .H)
+    pub fillable : (count ≤ most-members) × Fillable fund ps (n .D) (n .H)
     fillable =
         let h = for .tells .yes (p .inside-is) in
         let s = for .sums (p .inside-is) in
-        (h .0, record { members = h .1; header = h .2; load-within = omega (arith, s .load-is, p .load-within); d-long = long .d-long; h-long = long .h-long })
+        (h .0, record { points = h .1; header = h .2; load-within = omega (arith, s .load-is, p .load-within); d-long = long .d-long; h-long = long .h-long })
 
     pub ready : (d : List ℤ) (h : List ℕ) → n ≡ record { D = length d; H = length h; f = n .f; R = n .R; F = n .F } → TransformFilled fund ms (n .D) (n .H) d h → ReadyFor fund ms t d h (n .f) (n .R) (n .F)
     ready d h e filled =
         let i = for .tells .yes (p .inside-is) in
         record {
-          members = i .1;
+          members = members-of ps (i .1);
           header = i .2;
           sums = for .sums (p .inside-is);
           passed = subst (PassedTests fund t) e p;
           filled = subst (λ (m : Lengths). TransformFilled fund ms (m .D) (m .H) d h) e filled;
         }
 
-    pub left-answered : (a : Answer) → ValuedAnswer fund ms n a → a ≡ valuation fund count ms n
+    pub left-answered : (a : Answer) → ValuedAnswer fund ms n a → a ≡ valuation fund count ps n
     unfolding valuation
     left-answered a s = s ∙ ap (outcome fund ms n) (sym (verdict-inside (p .inside-is)))
 
-pub first-few : {A : Type 0} (n : ℕ) (xs : List A) → length (take n xs) ≤ n
-first-few n xs = omega (arith, length-take n xs)
-
 -- a verdict that is not `Accepted`, with its zeros
-pub left-judged : (fund : Fund) (count : ℕ) (ms : List Life) → length ms ≤ count → (t : Totals) → TotalsFor fund count ms t → (n : Lengths) (a : Answer) (w : Verdict) → OneOf (1 ∷ []) (Declared.tagOf Ver.the-type w) →
-    Tested fund t n w → a ≡ refused [] n w → a ≡ valuation fund count ms n
-left-judged fund count ms fewer t for n a Accepted o s k = absurd (let e : _≡_ {A = ℕ} 0 1 = o in omega arith)
-left-judged fund count ms fewer t for n a (Refused why place) o s k = left-refused fund count ms fewer t for n a why place k s
+pub left-judged : (fund : Fund) (count : ℕ) (ps : List ModelPoint) (t : Totals) → TotalsFor fund count ps t → (n : Lengths) (a : Answer) (w : Verdict) → OneOf (1 ∷ []) (Declared.tagOf Ver.the-type w) →
+    Tested fund t n w → a ≡ refused [] n w → a ≡ valuation fund count ps n
+left-judged fund count ps t for n a Accepted o s k = absurd (let e : _≡_ {A = ℕ} 0 1 = o in omega arith)
+left-judged fund count ps t for n a (Refused why place) o s k = left-refused fund count ps t for n a why place k s
 
 -- ---- the transform
 zero-at : {A : Type 0} (a : A) (n k : ℕ) (s : List A) → s ≡ replicate n a → k < n → getD s k a ≡ a
 zero-at a n k s e l = ap (λ t. getD t k a) e ∙ getD-replicate n k a a l
 
-module _ (fund : Fund) (ms : List Life) (nd nh : ℕ) where
-  pub table-fits : Fillable fund ms nd nh → (d : List ℤ) (h : List ℕ) → d ≡ replicate nd (pos 0) → h ≡ replicate nh 0 →
-      TableFits ms (record { horizon = fund .horizon; order = fund .order; frequency = fund .frequency }) d h
+module _ (fund : Fund) (ps : List ModelPoint) (nd nh : ℕ) where
+  pub table-fits : Fillable fund ps nd nh → (d : List ℤ) (h : List ℕ) → d ≡ replicate nd (pos 0) → h ≡ replicate nh 0 →
+      TableFits ps (record { horizon = fund .horizon; order = fund .order; frequency = fund .frequency }) d h
   table-fits k d h d-is h-is =
       record {
-        members = k .members;
+        points = k .points;
         order = k .header .order;
         frequency = k .header .frequency;
         load-within = k .load-within;
@@ -163,6 +166,6 @@ module _ (fund : Fund) (ms : List Life) (nd nh : ℕ) where
       }
 
   pub transform-filled : (d : List ℤ) (h : List ℕ) → d ≡ replicate nd (pos 0) → h ≡ replicate nh 0 → (d′ : List ℤ) (h′ : List ℕ) →
-      TableAdded ms (record { horizon = fund .horizon; order = fund .order; frequency = fund .frequency }) d h d′ h′ → TransformFilled fund ms nd nh d′ h′
+      TableAdded ps (record { horizon = fund .horizon; order = fund .order; frequency = fund .frequency }) d h d′ h′ → TransformFilled fund (copies ps) nd nh d′ h′
   unfolding fundTerms
   transform-filled d h d-is h-is d′ h′ a = record { d-is = rw (← d-is) (a .d-is); h-is = rw (← h-is) (a .h-is) }

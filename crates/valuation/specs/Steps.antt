@@ -6,11 +6,13 @@ use lib.IntN.{ℤ, pos}
 use lib.ListN.{length, drop, replicate}
 use Rattle.fund.specs.declared.Fund.{Fund}
 use Rattle.fund.specs.declared.Life.{Life}
+use Rattle.fund.specs.declared.ModelPoint.{ModelPoint}
 use Rattle.fund.specs.declared.Refusal.the-variants as refusal
 use Rattle.fund.specs.declared.Verdict.{Verdict}
 use Rattle.fund.specs.declared.Verdict.the-variants.{Accepted, Refused}
 use Rattle.fund.specs.Base.{table}
 use Rattle.fund.specs.Limits.{most-load}
+use Rattle.fund.specs.Folding.{copies}
 use Rattle.fund.specs.Transform.{D, H, load}
 use Rattle.fund.specs.Refusals.{Lengths, valued}
 use Rattle.fund.specs.Answer.{Answer, fundTerms, fundCells}
@@ -21,17 +23,17 @@ use Rattle.recursion.specs.Recursion as Rec
 use Rattle.tariff.specs.declared.Gross.{Gross}
 use Rattle.tariff.specs.declared.Gross.the-variants.{Centimes, Outside}
 use Rattle.totals.specs.declared.Totals.{Totals}
-use Rattle.totals.specs.Table.{Members}
+use Rattle.totals.specs.Table.{Points, Members}
 use Rattle.totals.specs.Inside.{HeaderIn}
 use Rattle.totals.specs.Totals.{LivesTotals}
 use Rattle.totals.specs.Tests.{PassedTests}
 use Rattle.valuation.specs.Valued.{outcome}
 
 -- ---- the transform of a table
-pub record Fillable (fund : Fund) (ms : List Life) (nd nh : ℕ) : Type 0 where
-  pub members : Members ms
+pub record Fillable (fund : Fund) (ps : List ModelPoint) (nd nh : ℕ) : Type 0 where
+  pub points : Points ps
   pub header : HeaderIn fund
-  pub load-within : load (fund .frequency) ms ≤ most-load
+  pub load-within : load (fund .frequency) (copies ps) ≤ most-load
   pub d-long : fund .horizon < nd
   pub h-long : fund .horizon < nh
 

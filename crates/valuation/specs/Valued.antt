@@ -1,4 +1,4 @@
--- What the valuation of a fund's lives answers and leaves: the refusals 7 to 10 or the fund's figures, with the five result slices.
+-- What the valuation of a fund's model points answers and leaves: the refusals 7 to 10 or the fund's figures, with the five result slices.
 use mathlib.Core.Path.{_≡_}
 use mathlib.Core.List.{List, []}
 use Prim.Native.Nat.{ℕ}
@@ -6,10 +6,12 @@ use lib.IntN.{ℤ, pos}
 use lib.ListN.{length, replicate}
 use Rattle.fund.specs.declared.Fund.{Fund}
 use Rattle.fund.specs.declared.Life.{Life}
+use Rattle.fund.specs.declared.ModelPoint.{ModelPoint}
 use Rattle.fund.specs.declared.Refusal.the-variants.{Range}
 use Rattle.fund.specs.declared.Verdict.{Verdict}
 use Rattle.fund.specs.declared.Verdict.the-variants.{Accepted, Refused}
 use Rattle.fund.specs.Base.{if_then_else_}
+use Rattle.fund.specs.Folding.{copies}
 use Rattle.fund.specs.Refusals.{Lengths, valued}
 use Rattle.fund.specs.Answer.{empty, Answer, refused, accepted, fundCells}
 use Rattle.valuation.specs.declared.Valued.{Valued}
@@ -24,12 +26,13 @@ abbrev pub outcome : Fund → List Life → Lengths → Verdict → Answer
 outcome fund ms n Accepted = accepted fund ms n
 outcome fund ms n (Refused why place) = refused [] n (Refused why place)
 
--- A header or lives outside the ranges that a file can give, or a count above the table, break a limit (2) on no line; else 7 to 10.
-unfoldable pub verdictOf : Fund → ℕ → List Life → Lengths → Verdict
-verdictOf fund count ms n = if inside fund count ms then valued fund ms n (fundCells fund ms) else Refused Range 0
+-- A header or model points outside the ranges that a file can give, or a count above the table, break a limit (2) on no line; else 7 to 10, of
+-- the lives.
+unfoldable pub verdictOf : Fund → ℕ → List ModelPoint → Lengths → Verdict
+verdictOf fund count ps n = if inside fund count ps then valued fund (copies ps) n (fundCells fund (copies ps)) else Refused Range 0
 
-unfoldable pub valuation : Fund → ℕ → List Life → Lengths → Answer
-valuation fund count ms n = outcome fund ms n (verdictOf fund count ms n)
+unfoldable pub valuation : Fund → ℕ → List ModelPoint → Lengths → Answer
+valuation fund count ps n = outcome fund (copies ps) n (verdictOf fund count ps n)
 
 abbrev pub lengths : List ℤ → List ℕ → List ℤ → List ℕ → List ℤ → Lengths
 lengths d h f r s = record { D = length d; H = length h; f = length f; R = length r; F = length s }

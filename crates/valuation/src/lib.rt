@@ -1,13 +1,13 @@
-// The valuation of a fund: from its lives to the transform, the start, the recursion, the premium and their bounds, or the first of
+// The valuation of a fund: from its model points to the transform, the start, the recursion, the premium and their bounds, or the first of
 // the refusals 7 to 10.
-mod lives;
+mod points;
 mod premium;
 mod sums;
 mod transform;
 
 use fund::Figures;
 use fund::Fund;
-use fund::Life;
+use fund::ModelPoint;
 use fund::Refusal;
 use fund::Verdict;
 use recursion::Recursed;
@@ -20,6 +20,7 @@ ghost use Prim.Native.Nat.{_≤_};
 ghost use lib.IntN.{pos};
 ghost use lib.ListN.{length, replicate, take};
 ghost use Rattle.fund.specs.Answer.{noFigures, refused};
+ghost use Rattle.fund.specs.Folding.{copies};
 ghost use Rattle.fund.specs.Limits.{most-members};
 ghost use Rattle.valuation.specs.Valued.{left, lengths, Zeros, valuation};
 ghost use Rattle.valuation.specs.Steps.{Ready, refusalOf, centimesIn, RecursedFor, SettledFor, AnsweredFor, Fillable, TransformFilled};
@@ -155,16 +156,16 @@ fn recursed(
     settled(fund, t, answer, transform, h, &f[..], &r[..], sums)
 }
 
-// D and H of the first n lives, and zeros beyond the horizon.
+// D and H of the first n model points, and zeros beyond the horizon.
 fn first_transform(
     fund: Fund,
-    lives: [Life; Fund::MEMBER_ROWS],
+    points: [ModelPoint; Fund::MEMBER_ROWS],
     n: usize,
     transform: &mut [i64],
     h: &mut [u64],
 )
-    requires { ⌜ (n ≤ most-members) × Fillable fund (take n lives) (length (now transform)) (length (now h)) ⌝ }
-    ensures { λ _. ⌜ TransformFilled fund (take n lives) (length (now (transform .entry))) (length (now (h .entry))) (now (transform .exit)) (now (h .exit)) ⌝ }
+    requires { ⌜ (n ≤ most-members) × Fillable fund (take n points) (length (now transform)) (length (now h)) ⌝ }
+    ensures { λ _. ⌜ TransformFilled fund (copies (take n points)) (length (now (transform .entry))) (length (now (h .entry))) (now (transform .exit)) (now (h .exit)) ⌝ }
 {
     clear_transform(transform, h);
     let frequency = fund.frequency;
@@ -173,13 +174,13 @@ fn first_transform(
         order: fund.order,
         frequency,
     };
-    lives::fill_first(lives, n, filling, transform, h);
+    points::fill_first(points, n, filling, transform, h);
 }
 
-// The valuation of the first n lives of a table, into five result slices.
+// The valuation of the first n model points of a table, into five result slices.
 pub fn value(
     fund: Fund,
-    lives: [Life; Fund::MEMBER_ROWS],
+    points: [ModelPoint; Fund::MEMBER_ROWS],
     n: usize,
     transform: &mut [i64],
     h: &mut [u64],
@@ -188,9 +189,9 @@ pub fn value(
     sums: &mut [i64],
 ) -> Valued
     ensures { λ v. ⌜ left v (now (transform .exit)) (now (h .exit)) (now (f .exit)) (now (r .exit)) (now (sums .exit)) ≡
-        valuation fund n (take n lives) (lengths (now (transform .entry)) (now (h .entry)) (now (f .entry)) (now (r .entry)) (now (sums .entry))) ⌝ }
+        valuation fund n (take n points) (lengths (now (transform .entry)) (now (h .entry)) (now (f .entry)) (now (r .entry)) (now (sums .entry))) ⌝ }
 {
-    let t = totals::first_totals(fund, lives, n);
+    let t = totals::first_totals(fund, points, n);
     let verdict = totals::tested_totals(
         fund,
         t,
@@ -203,6 +204,6 @@ pub fn value(
     let Verdict::Accepted = verdict else {
         return refuse(verdict, transform, h, f, r, sums);
     };
-    first_transform(fund, lives, n, transform, h);
+    first_transform(fund, points, n, transform, h);
     recursed(fund, t, transform, h, f, r, sums)
 }

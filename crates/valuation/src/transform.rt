@@ -1,6 +1,7 @@
-// The transform: each life's terms, added to D and H at their places.
+// The transform: the terms of each line's lives, added to D and H at their places.
 use fund::Frequencies;
 use fund::Life;
+use fund::ModelPoint;
 use rounding::MILLION;
 use rounding::UNIT;
 use whole::nearest;
@@ -8,7 +9,7 @@ ghost use mathlib.Core.Path.{_≡_};
 ghost use mathlib.Core.Bool.{true, _||_};
 ghost use Prim.Native.Nat.{suc, _+_, _*_, _-_, _^_, _<_, _≤_};
 ghost use lib.Dec.{ltb, eqb};
-ghost use lib.IntN.{pos, natAbs, _+ℤ_};
+ghost use lib.IntN.{pos, natAbs, _+ℤ_, _*ℤ_};
 ghost use lib.ListN.{length, getD, set};
 ghost use Rattle.rounding.specs.Rounding.{near};
 ghost use Rattle.fund.specs.Base.{alternate};
@@ -18,9 +19,9 @@ ghost use Rattle.fund.specs.Transform.{placeOf, placed as placedOf, replacedTer
 ghost use Rattle.laws.specs.Ranges.{FrequenciesOk};
 ghost use Rattle.laws.specs.Weights.{most-weight};
 ghost use Rattle.widths.specs.Lives.{InRange};
-ghost use Rattle.widths.specs.Adding.{addD, addH, Room, RoomD, SingleRow, TermRoom, termsAt};
+ghost use Rattle.widths.specs.Adding.{addD, addH, Room, RoomD, SingleRow, TermRoom, termsAt, times};
 ghost use Rattle.whole.specs.Sign.{signed};
-ghost use Rattle.valuation.specs.Filling.{LifeFits, LifeAdded, TableFits, TableAdded};
+ghost use Rattle.valuation.specs.Filling.{PointFits, PointAdded, TableFits, TableAdded};
 
 // How the cells are filled: up to which horizon, by which order and at which frequencies.
 pub(crate) struct Filling {
@@ -111,70 +112,72 @@ fn shift(d: &mut [i64], x: usize, minus: bool, amount: u64)
     d[x] = moved(d[x], minus, amount);
 }
 
-// A placed number v of row n: nearest(x×v/n) is added to D at x for odd n, subtracted for even n, and x is added to H.
-fn add_term(d: &mut [i64], h: &mut [u64], x: u64, v: u64, n: u64)
-    requires { ⌜ TermRoom (now d) (now h) x v n ⌝ }
+// A placed number v of row n, for each of so many lives: nearest(x×v/n) is added to D at x for odd n, subtracted for even n, and x is added to
+// H. Both products with the lives fit, as the terms of a fund that passes 7 add to at most 400,000×10^12 in D and 10^9 in H.
+fn add_term(d: &mut [i64], h: &mut [u64], x: u64, v: u64, n: u64, lives: u64)
+    requires { ⌜ TermRoom (now d) (now h) x v n lives ⌝ }
     ensures { λ r. ⌜ now (d .exit) ≡
-        set (now (d .entry)) x (getD (now (d .entry)) x (pos 0) +ℤ alternate (suc n) (pos (near (x * v) n))) ⌝ }
-    ensures { λ r. ⌜ now (h .exit) ≡ set (now (h .entry)) x (getD (now (h .entry)) x 0 + x) ⌝ }
+        set (now (d .entry)) x (getD (now (d .entry)) x (pos 0) +ℤ pos lives *ℤ alternate (suc n) (pos (near (x * v) n))) ⌝ }
+    ensures { λ r. ⌜ now (h .exit) ≡ set (now (h .entry)) x (getD (now (h .entry)) x 0 + lives * x) ⌝ }
 {
     let k = x as usize;
-    h[k] = h[k] + x;
+    h[k] = h[k] + lives * x;
     if v == 0 {
         return;
     }
-    shift(d, k, n % 2 == 0, nearest(x * v, n));
+    shift(d, k, n % 2 == 0, lives * nearest(x * v, n));
 }
 
 // The term of row n and column l, if it is placed.
-fn add_at(d: &mut [i64], h: &mut [u64], horizon: u64, m: Life, v: u64, n: u64, l: u64)
-    requires { ⌜ SingleRow m n × (l ≤ n) × (v ≡ getD (rowOf m n) l 0)
-        × Room horizon (now d) (now h) (termsAt horizon m n l) ⌝ }
-    ensures { λ r. ⌜ now (d .exit) ≡ addD (now (d .entry)) (termsAt horizon m n l) ⌝ }
-    ensures { λ r. ⌜ now (h .exit) ≡ addH (now (h .entry)) (termsAt horizon m n l) ⌝ }
+fn add_at(d: &mut [i64], h: &mut [u64], horizon: u64, p: ModelPoint, v: u64, n: u64, l: u64)
+    requires { ⌜ SingleRow (p .life) n × (l ≤ n) × (v ≡ getD (rowOf (p .life) n) l 0)
+        × Room horizon (now d) (now h) (times (p .lives) (termsAt horizon (p .life) n l)) ⌝ }
+    ensures { λ r. ⌜ now (d .exit) ≡ addD (now (d .entry)) (times (p .lives) (termsAt horizon (p .life) n l)) ⌝ }
+    ensures { λ r. ⌜ now (h .exit) ≡ addH (now (h .entry)) (times (p .lives) (termsAt horizon (p .life) n l)) ⌝ }
 {
-    let x = place(m, n, l);
-    if !placed(horizon, x, m, n, l) {
+    let x = place(p.life, n, l);
+    if !placed(horizon, x, p.life, n, l) {
         return;
     }
-    add_term(d, h, x, v, n);
+    add_term(d, h, x, v, n, p.lives);
 }
 
 // The terms of row n.
-fn add_row(d: &mut [i64], h: &mut [u64], horizon: u64, m: Life, row: [u64; 13], n: u64)
-    requires { ⌜ SingleRow m n × (row ≡ rowOf m n) × Room horizon (now d) (now h) (rowTerms horizon m n (n + 1)) ⌝ }
-    ensures { λ r. ⌜ now (d .exit) ≡ addD (now (d .entry)) (rowTerms horizon m n (n + 1)) ⌝ }
-    ensures { λ r. ⌜ now (h .exit) ≡ addH (now (h .entry)) (rowTerms horizon m n (n + 1)) ⌝ }
+fn add_row(d: &mut [i64], h: &mut [u64], horizon: u64, p: ModelPoint, row: [u64; 13], n: u64)
+    requires { ⌜ SingleRow (p .life) n × (row ≡ rowOf (p .life) n)
+        × Room horizon (now d) (now h) (times (p .lives) (rowTerms horizon (p .life) n (n + 1))) ⌝ }
+    ensures { λ r. ⌜ now (d .exit) ≡ addD (now (d .entry)) (times (p .lives) (rowTerms horizon (p .life) n (n + 1))) ⌝ }
+    ensures { λ r. ⌜ now (h .exit) ≡ addH (now (h .entry)) (times (p .lives) (rowTerms horizon (p .life) n (n + 1))) ⌝ }
 {
     let mut l: u64 = 0;
     while l <= n {
         let k = l as usize;
-        add_at(d, h, horizon, m, row[k], n, l);
+        add_at(d, h, horizon, p, row[k], n, l);
         l += 1;
     }
 }
 
-// The terms of a life of group 1, row by row.
-fn add_single(d: &mut [i64], h: &mut [u64], horizon: u64, m: Life, order: u64)
-    requires { ⌜ InRange m × (single m ≡ true) × (order ≤ most-order)
-        × Room horizon (now d) (now h) (singleTerms horizon m order) ⌝ }
-    ensures { λ r. ⌜ now (d .exit) ≡ addD (now (d .entry)) (singleTerms horizon m order) ⌝ }
-    ensures { λ r. ⌜ now (h .exit) ≡ addH (now (h .entry)) (singleTerms horizon m order) ⌝ }
+// The terms of the lives of a line of group 1, row by row: the triangle is worked once for all of them.
+fn add_single(d: &mut [i64], h: &mut [u64], horizon: u64, p: ModelPoint, order: u64)
+    requires { ⌜ InRange (p .life) × (single (p .life) ≡ true) × (order ≤ most-order)
+        × Room horizon (now d) (now h) (times (p .lives) (singleTerms horizon (p .life) order)) ⌝ }
+    ensures { λ r. ⌜ now (d .exit) ≡ addD (now (d .entry)) (times (p .lives) (singleTerms horizon (p .life) order)) ⌝ }
+    ensures { λ r. ⌜ now (h .exit) ≡ addH (now (h .entry)) (times (p .lives) (singleTerms horizon (p .life) order)) ⌝ }
 {
     let mut row = [UNIT, 0, 0, 0, 0, 0, 0, 0, 0, 0, 0, 0, 0];
     let mut n: u64 = 0;
     while n < order {
-        let next = next_row(row, m, n);
+        let next = next_row(row, p.life, n);
         n += 1;
-        add_row(d, h, horizon, m, next, n);
+        add_row(d, h, horizon, p, next, n);
         row = next;
     }
 }
 
-// One of the two terms of a life of group 2: the weight w times its place k.
-fn add_replaced_term(d: &mut [i64], horizon: u64, w: u64, k: u64)
-    requires { ⌜ (w ≤ most-weight) × RoomD horizon (now d) (replacedTerm horizon w k) ⌝ }
-    ensures { λ r. ⌜ now (d .exit) ≡ addD (now (d .entry)) (replacedTerm horizon w k) ⌝ }
+// One of the two terms of each of so many lives of group 2: the weight w times its place k.
+fn add_replaced_term(d: &mut [i64], horizon: u64, w: u64, k: u64, lives: u64)
+    requires { ⌜ (w ≤ most-weight) × RoomD horizon (now d) (times lives (replacedTerm horizon w k)) ⌝ }
+    ensures { λ r. ⌜ now (d .exit) ≡ addD (now (d .entry)) (times lives (replacedTerm horizon w k)) ⌝ }
 {
     if w == 0 {
         return;
@@ -185,38 +188,49 @@ fn add_replaced_term(d: &mut [i64], horizon: u64, w: u64, k: u64)
     if horizon < k {
         return;
     }
-    shift(d, k as usize, false, w * k);
+    shift(d, k as usize, false, lives * (w * k));
 }
 
-// The terms of a life of group 2, by death and by disability.
-fn add_replaced(d: &mut [i64], horizon: u64, m: Life, ab: Frequencies)
-    requires { ⌜ InRange m × FrequenciesOk ab × RoomD horizon (now d) (replacedTerms horizon ab m) ⌝ }
-    ensures { λ r. ⌜ now (d .exit) ≡ addD (now (d .entry)) (replacedTerms horizon ab m) ⌝ }
+// The terms of the lives of a line of group 2, by death and by disability.
+fn add_replaced(d: &mut [i64], horizon: u64, p: ModelPoint, ab: Frequencies)
+    requires { ⌜ InRange (p .life) × FrequenciesOk ab × RoomD horizon (now d) (times (p .lives) (replacedTerms horizon ab (p .life))) ⌝ }
+    ensures { λ r. ⌜ now (d .exit) ≡ addD (now (d .entry)) (times (p .lives) (replacedTerms horizon ab (p .life))) ⌝ }
 {
-    add_replaced_term(d, horizon, m.q * ab.death * 1000, m.d);
-    add_replaced_term(d, horizon, m.i * ab.disability * 1000, m.e);
+    add_replaced_term(d, horizon, p.life.q * ab.death * 1000, p.life.d, p.lives);
+    add_replaced_term(
+        d,
+        horizon,
+        p.life.i * ab.disability * 1000,
+        p.life.e,
+        p.lives,
+    );
 }
 
-// The terms of a life.
-fn add_life(d: &mut [i64], h: &mut [u64], m: Life, x: Filling)
-    requires { ⌜ LifeFits (now d) (now h) m x ⌝ }
-    ensures { λ _. ⌜ LifeAdded (now (d .entry)) (now (h .entry)) m x (now (d .exit)) (now (h .exit)) ⌝ }
+// The terms of the lives of a line.
+fn add_point(d: &mut [i64], h: &mut [u64], p: ModelPoint, x: Filling)
+    requires { ⌜ PointFits (now d) (now h) p x ⌝ }
+    ensures { λ _. ⌜ PointAdded (now (d .entry)) (now (h .entry)) p x (now (d .exit)) (now (h .exit)) ⌝ }
 {
-    if m.group == 1 {
-        add_single(d, h, x.horizon, m, x.order);
+    if p.life.group == 1 {
+        add_single(d, h, x.horizon, p, x.order);
         return;
     }
-    add_replaced(d, x.horizon, m, x.frequency);
+    add_replaced(d, x.horizon, p, x.frequency);
 }
 
-// D and H of all lives, into slices that are 0 up to the horizon. Cells beyond it stay as they are.
-pub(crate) fn fill_transform(members: &[Life], x: Filling, transform: &mut [i64], h: &mut [u64])
-    requires { ⌜ TableFits (now members) x (now transform) (now h) ⌝ }
-    ensures { λ _. ⌜ TableAdded (now (members .entry)) x (now (transform .entry)) (now (h .entry)) (now (transform .exit)) (now (h .exit)) ⌝ }
+// D and H of the lives of all lines, into slices that are 0 up to the horizon. Cells beyond it stay as they are.
+pub(crate) fn fill_transform(
+    points: &[ModelPoint],
+    x: Filling,
+    transform: &mut [i64],
+    h: &mut [u64],
+)
+    requires { ⌜ TableFits (now points) x (now transform) (now h) ⌝ }
+    ensures { λ _. ⌜ TableAdded (now (points .entry)) x (now (transform .entry)) (now (h .entry)) (now (transform .exit)) (now (h .exit)) ⌝ }
 {
     let mut k: usize = 0;
-    while k < members.len() {
-        add_life(transform, h, members[k], x);
+    while k < points.len() {
+        add_point(transform, h, points[k], x);
         k += 1;
     }
 }

@@ -9,43 +9,43 @@ use Rattle.matching.proofs.Answering.{beyond-rates, beyond-members, thr
 use Rattle.matching.proofs.matched.Statement.{statement}
 use Rattle.matching.proofs.matched.Tie as tie
 
-without-lives-requires : tie.Need-without-lives-requires
-without-lives-requires c κs = search needs
+without-points-requires : tie.Need-without-points-requires
+without-points-requires c κs = search needs
 
 returns : tie.Need-returns
 returns c =
     let a = c .before .before .args in
-    beyond-rates (a .fund) (a .rates) (a .rated) (a .members) (a .enrolled) _ (c .before .if1 .taken) (c .without-lives .ensures)
+    beyond-rates (a .fund) (a .rates) (a .rated) (a .members) (a .enrolled) _ (c .before .if1 .taken) (c .without-points .ensures)
 
-without-lives-requires-2 : tie.Need-without-lives-requires-2
-without-lives-requires-2 c κs = search needs
+without-points-requires-2 : tie.Need-without-points-requires-2
+without-points-requires-2 c κs = search needs
 
 returns-2 : tie.Need-returns-2
 returns-2 c =
     let a = c .before .before .before .args in
-    beyond-members (a .fund) (a .rates) (a .rated) (a .members) (a .enrolled) _ (c .before .before .if1 .left) (c .before .if2 .taken) (c .without-lives2 .ensures)
+    beyond-members (a .fund) (a .rates) (a .rated) (a .members) (a .enrolled) _ (c .before .before .if1 .left) (c .before .if2 .taken) (c .without-points2 .ensures)
 
-without-lives-requires-3 : tie.Need-without-lives-requires-3
-without-lives-requires-3 c κs = search needs
+without-points-requires-3 : tie.Need-without-points-requires-3
+without-points-requires-3 c κs = search needs
 
 returns-3 : tie.Need-returns-3
 returns-3 c =
     let t = c .before .before .before in
     let a = t .before .before .args in
-    three (a .fund) (a .rates) (a .rated) (a .members) (a .enrolled) _ (t .before .if1 .left) (t .if2 .left) (c .before .if3 .taken) (c .without-lives3 .ensures)
+    three (a .fund) (a .rates) (a .rated) (a .members) (a .enrolled) _ (t .before .if1 .left) (t .if2 .left) (c .before .if3 .taken) (c .without-points3 .ensures)
 
 is-above-requires : tie.Need-is-above-requires
 is-above-requires c κs = search needs
 
-without-lives-requires-4 : tie.Need-without-lives-requires-4
-without-lives-requires-4 c κs = search needs
+without-points-requires-4 : tie.Need-without-points-requires-4
+without-points-requires-4 c κs = search needs
 
 returns-4 : tie.Need-returns-4
 returns-4 c =
     let e = c .before .before .before in
     let t = e .before .before in
     let a = t .before .before .args in
-    four (a .fund) (a .rates) (a .rated) (a .members) (a .enrolled) _ (t .before .if1 .left) (t .if2 .left) (e .if3 .left) (sym (c .before .before .is-above .ensures) ∙ c .before .if4 .taken) (c .without-lives4 .ensures)
+    four (a .fund) (a .rates) (a .rated) (a .members) (a .enrolled) _ (t .before .if1 .left) (t .if2 .left) (e .if3 .left) (sym (c .before .before .is-above .ensures) ∙ c .before .if4 .taken) (c .without-points4 .ensures)
 
 add-line : tie.Need-add-line
 add-line c = search needs
@@ -69,14 +69,14 @@ pub matched-spec : {M : Type 1} → statement M
 matched-spec =
     tie.close
     (tie.spec
-    without-lives-requires
+    without-points-requires
     returns
-    without-lives-requires-2
+    without-points-requires-2
     returns-2
-    without-lives-requires-3
+    without-points-requires-3
     returns-3
     is-above-requires
-    without-lives-requires-4
+    without-points-requires-4
     returns-4
     add-line
     add-line-2

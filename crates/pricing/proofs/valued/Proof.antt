@@ -3,7 +3,7 @@ use mathlib.Core.Path.{sym, _∙_}
 use borrow.Author.Needs.{needs}
 use Rattle.valuation.specs.Valued.{lengths}
 use Rattle.pricing.proofs.Valuing.{matched-answers, valued-answers}
-use Rattle.pricing.proofs.Reading.{matched-verdict, matched-lives, few-enrolled}
+use Rattle.pricing.proofs.Reading.{matched-verdict, matched-points, few-enrolled}
 use Rattle.pricing.proofs.valued.Statement.{statement}
 use Rattle.pricing.proofs.valued.Tie as tie
 
@@ -21,7 +21,7 @@ returns-2 c text r k =
     let m = a .matched in
     let n = lengths (a .transform .now) (a .h .now) (a .f .now) (a .r .now) (a .sums .now) in
     let accepted = told .enum-told .given .1 in
-    valued-answers text n r (k .of) (k .is) (k .ok) _ (sym (matched-verdict _ _ m _ k) ∙ accepted) (matched-lives _ _ m _ k accepted) _ _ _ (k .header) (few-enrolled _ _ _ _ k) (done .value .ensures)
+    valued-answers text n r (k .of) (k .is) (k .ok) _ (sym (matched-verdict _ _ m _ k) ∙ accepted) (matched-points _ _ m _ k accepted) _ _ _ (k .header) (few-enrolled _ _ _ _ k) (done .value .ensures)
 
 pub valued-spec : {M : Type 1} → statement M
 valued-spec =

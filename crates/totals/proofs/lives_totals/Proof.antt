@@ -30,16 +30,18 @@ use denote.Triple.Table.{entered, framed}
 use denote.Triple.Walked.{needs}
 use Rattle.fund.specs.declared.Fund.{Fund}
 use Rattle.fund.specs.declared.Life.{Life}
+use Rattle.fund.specs.declared.ModelPoint.{ModelPoint}
 use Rattle.fund.specs.Limits.{most-truncation}
 use Rattle.fund.specs.Base.{total}
+use Rattle.fund.specs.Folding.{copies}
 use Rattle.fund.specs.Transform.{lambda, truncation, mean}
-use Rattle.fund.proofs.Life as L
+use Rattle.fund.proofs.ModelPoint as L
 use Rattle.fund.proofs.Fund as G
 use Rattle.fund.proofs.Fund.Laws as G′
 use Rattle.fund.proofs.Frequencies as F
 use Rattle.fund.proofs.Frequencies.Laws as F′
 use Rattle.widths.specs.Parts.{singleLoad}
-use Rattle.totals.specs.Table.{Members, most-mean}
+use Rattle.totals.specs.Table.{Points, members-of, most-mean}
 use Rattle.totals.specs.Start.{Multiplied}
 use Rattle.walks.specs.Freeing.{frees-cell}
 use Rattle.walks.specs.Walks.{Stated, tokens, passed, Walk, starts, calls-for, ends, cell}
@@ -91,39 +93,39 @@ module _ {M : Type 1} (𝓤 : URA M) (H : Heap 𝓤) (𝓜 : Model 𝓤 H) (𝓖
   abbrev c-made : Clauses 𝓤 made.ended
   c-made = made.clauses 𝓤 H A (𝓜 .mem) (𝓡 .run)
 
-  module _ (κ : Lft) (q : Share) (fund : Fund) (members : RefT (List Life)) where
+  module _ (κ : Lft) (q : Share) (fund : Fund) (points : RefT (List ModelPoint)) where
     abbrev ms : List Life
-    ms = members .now
+    ms = copies (points .now)
 
     abbrev v : Val
-    v = sliceVal (members .ptr) (length ms)
+    v = sliceVal (points .ptr) (length (points .now))
 
     abbrev y : Stated W summed.ended c .Ghost
-    y = (((κ, tt), (q, tt), tt, (fund, (members, tt)), (G′.lowered fund ∷ [], (v ∷ [], tt))), tt)
+    y = (((κ, tt), (q, tt), tt, (fund, (points, tt)), (G′.lowered fund ∷ [], (v ∷ [], tt))), tt)
 
-    walk : Is G.the-row fund (G′.lowered fund ∷ []) → Is (ShrSlice (named 0) κ L.the-row) members (v ∷ []) → Members ms × HeaderIn fund → Walk W summed.ended c y Run
+    walk : Is G.the-row fund (G′.lowered fund ∷ []) → Is (ShrSlice (named 0) κ L.the-row) points (v ∷ []) → Points (points .now) × HeaderIn fund → Walk W summed.ended c y Run
     walk is-f is asks =
         let fields = LL.owed G.the-type G′.the-laws fund _ is-f in
         let fm = framed 𝓤 H 𝓜 (tables 𝓤 H 𝓜 𝓡 code.env) in
         qed W (tokens W summed.ended c y ∷ passed W summed.ended c y ∷ []) ∵ enter ! _ _ _ _ _ $
         alloc1 ! (λ l₀. alloc1 ! (λ l₁. alloc1 ! (λ l₂. alloc1 ! (λ l₃. alloc1 ! (λ l₄. alloc1 ! (λ l₅. alloc1 ! (λ l₆. alloc1 ! (λ l₇. alloc1 ! (λ l₈. alloc0 ! $ params1 ! $
         pass1 ! (init ! 14 refl (LL.lawful G.the-type G′.the-laws 𝓤 H A W .typed fund _ is-f .0)) $
-        pass1 ! (init ! 12 refl (shr-slice-lawful 𝓤 H A W (named 0) κ L.the-row .typed members (v ∷ []) is .0)) $ pass0 ! $
+        pass1 ! (init ! 12 refl (shr-slice-lawful 𝓤 H A W (named 0) κ L.the-row .typed points (v ∷ []) is .0)) $ pass0 ! $
         move ! (19 ∷ []) $ fsplit ! $ drop ! $ fsplit ! $ move ! (20 ∷ 0 ∷ []) $
-        -- [the token; what the members own; true; room for _8; …; _7; …; _6; …; _5; …; _4; …; _3; …; _2; …; _1; …; _0; …]
-        calls-walk 𝓤 H A W κ q members u64 F.the-row (lambda-def.clauses 𝓤 H A (𝓜 .mem) (𝓡 .run)) (fund .frequency) (F′.lowered (fund .frequency)) tt fm
+        -- [the token; what the lines own; true; room for _8; …; _7; …; _6; …; _5; …; _4; …; _3; …; _2; …; _1; …; _0; …]
+        calls-walk 𝓤 H A W κ q points u64 F.the-row (lambda-def.clauses 𝓤 H A (𝓜 .mem) (𝓡 .run)) (fund .frequency) (F′.lowered (fund .frequency)) tt fm
         (lambda-thm.met 𝓤 H 𝓜 𝓖 𝓡) (factI 𝓤 _ (emp 𝓤) (asks .0, asks .1 .frequency))
         (λ r. r ≡ lambda (fund .frequency) ms) (λ r e. id⊢ 𝓤 _) (LL.makes F.the-type F′.the-plain 𝓤 H A) (fields .1 .1 .1 .1 .0) (λ i. and-then ! (cell ! 15 refl) (and-then ! (read ! (from ! (fld ! refl (stop !))) (look-in ! 17 (sub ! 4 refl (whole !)))) (no-more !))) (λ w₃ lam lam-is is₃.
         land ! (from ! (stop !)) (init ! 14 refl (uint-lawful 𝓤 H A W w64 .typed lam _ is₃ .0)) $ drop ! $
-        calls-walk 𝓤 H A W κ q members u64 u64 (load-def.clauses 𝓤 H A (𝓜 .mem) (𝓡 .run)) lam w₃ tt fm
-        (load-thm.met 𝓤 H 𝓜 𝓖 𝓡) (factI 𝓤 _ (emp 𝓤) (asks .0, rw lam-is (lambda-most ms (fund .frequency) (asks .0) (asks .1 .frequency))))
+        calls-walk 𝓤 H A W κ q points u64 u64 (load-def.clauses 𝓤 H A (𝓜 .mem) (𝓡 .run)) lam w₃ tt fm
+        (load-thm.met 𝓤 H 𝓜 𝓖 𝓡) (factI 𝓤 _ (emp 𝓤) (asks .0, rw lam-is (lambda-most ms (fund .frequency) (members-of (points .now) (asks .0)) (asks .1 .frequency))))
         (λ r. r ≡ lam + total singleLoad ms) (λ r e. id⊢ 𝓤 _) (uint-makes 𝓤 H A W w64) is₃ (λ i. and-then ! (cell ! 15 refl) (and-then ! (cell ! 13 refl) (no-more !))) (λ w₄ all all-is is₄.
         land ! (from ! (stop !)) (init ! 12 refl (uint-lawful 𝓤 H A W w64 .typed all _ is₄ .0)) $ drop ! $
-        calls-walk 𝓤 H A W κ q members u64 u64 (truncation-def.clauses 𝓤 H A (𝓜 .mem) (𝓡 .run)) (fund .order) (vint w64 (fund .order)) tt fm
+        calls-walk 𝓤 H A W κ q points u64 u64 (truncation-def.clauses 𝓤 H A (𝓜 .mem) (𝓡 .run)) (fund .order) (vint w64 (fund .order)) tt fm
         (truncation-thm.met 𝓤 H 𝓜 𝓖 𝓡) (factI 𝓤 _ (emp 𝓤) (asks .0, asks .1 .order))
         (λ r. r ≡ min (truncation (fund .order) ms) (most-truncation + 1)) (λ r e. id⊢ 𝓤 _) (uint-makes 𝓤 H A W w64) (fields .1 .1 .1 .0) (λ i. and-then ! (cell ! 15 refl) (and-then ! (read ! (from ! (fld ! refl (stop !))) (look-in ! 17 (sub ! 3 refl (whole !)))) (no-more !))) (λ w₅ figure figure-is is₅.
         land ! (from ! (stop !)) (init ! 10 refl (uint-lawful 𝓤 H A W w64 .typed figure _ is₅ .0)) $ drop ! $
-        calls-walk 𝓤 H A W κ q members u64 F.the-row (mean-def.clauses 𝓤 H A (𝓜 .mem) (𝓡 .run)) (fund .frequency) (F′.lowered (fund .frequency)) tt fm
+        calls-walk 𝓤 H A W κ q points u64 F.the-row (mean-def.clauses 𝓤 H A (𝓜 .mem) (𝓡 .run)) (fund .frequency) (F′.lowered (fund .frequency)) tt fm
         (mean-thm.met 𝓤 H 𝓜 𝓖 𝓡) (factI 𝓤 _ (emp 𝓤) (asks .0, asks .1 .frequency))
         (λ r. r ≡ min (mean (fund .frequency) ms) most-mean) (λ r e. id⊢ 𝓤 _) (LL.makes F.the-type F′.the-plain 𝓤 H A) (fields .1 .1 .1 .1 .0) (λ i. and-then ! (cell ! 15 refl) (and-then ! (read ! (from ! (fld ! refl (stop !))) (look-in ! 17 (sub ! 4 refl (whole !)))) (no-more !))) (λ w₆ m m-is is₆.
         land ! (from ! (stop !)) (init ! 8 refl (uint-lawful 𝓤 H A W w64 .typed m _ is₆ .0)) $ drop ! $
@@ -135,7 +137,7 @@ module _ {M : Type 1} (𝓤 : URA M) (H : Heap 𝓤) (𝓜 : Model 𝓤 H) (𝓖
         (and-then ! (cell ! 14 refl) (no-more !)) (λ w₇ l sums-of is₇.
         land ! (from ! (stop !)) (init ! 7 refl (LL.lawful D.the-type D′.the-laws 𝓤 H A W .typed l _ is₇ .0)) $ drop ! $ drop ! $
         rewrite ! 5 (λ (u : Val). ‵ (fat fullShare D′.mir l₇ 0 u)) (ap only (LL.tells D.the-type D′.the-laws l _ is₇)) refl $
-        calls-walk 𝓤 H A W κ q members P.the-row u64 (multiplied-def.clauses 𝓤 H A (𝓜 .mem) (𝓡 .run)) (l .size) (vint w64 (l .size)) tt fm
+        calls-walk 𝓤 H A W κ q points P.the-row u64 (multiplied-def.clauses 𝓤 H A (𝓜 .mem) (𝓡 .run)) (l .size) (vint w64 (l .size)) tt fm
         (multiplied-thm.met 𝓤 H 𝓜 𝓖 𝓡) (factI 𝓤 _ (emp 𝓤) (asks .0, sums-of .size-within))
         (Multiplied ms (l .size)) (λ r e. id⊢ 𝓤 _) (uint-makes 𝓤 H A W w64) (LL.owed D.the-type D′.the-laws l _ is₇ .1 .0) (λ i. and-then ! (cell ! 15 refl) (and-then ! (read ! (from ! (fld ! refl (stop !))) (look-in ! 5 (sub ! 1 refl (whole !)))) (no-more !))) (λ w₈ p product is₈.
         land ! (from ! (stop !)) (init ! 4 refl (LL.lawful P.the-type P′.the-laws 𝓤 H A W .typed p _ is₈ .0)) $ drop ! $
@@ -151,7 +153,7 @@ module _ {M : Type 1} (𝓤 : URA M) (H : Heap 𝓤) (𝓜 : Model 𝓤 H) (𝓖
         (id⊢ 𝓤 _) $
         calls-for W made.ended c-made
         ((tt, tt, tt, (all, (figure, (m, (l, (p, tt))))), (w₄ ∷ [], (w₅ ∷ [], (w₆ ∷ [], (D′.lowered l ∷ [], (w₈ ∷ [], tt)))))), tt) ! fm
-        (made-thm.met 𝓤 H 𝓜 𝓖 𝓡) (factI 𝓤 _ (emp 𝓤) (made-asks ms (asks .0) lam l sums-of p product))
+        (made-thm.met 𝓤 H 𝓜 𝓖 𝓡) (factI 𝓤 _ (emp 𝓤) (made-asks ms (members-of (points .now) (asks .0)) lam l sums-of p product))
         (StartedWith all figure m l p) (λ r e. id⊢ 𝓤 _)
         (and-then ! (cell ! 12 refl) (and-then ! (cell ! 10 refl) (and-then ! (cell ! 8 refl) (and-then ! (cell ! 6 refl) (and-then ! (cell ! 4 refl) (no-more !)))))) (λ w t made-of is-t.
         land ! (from ! (stop !)) (init ! 21 refl (LL.lawful T.the-type T′.the-laws 𝓤 H A W .typed t _ is-t .0)) $

@@ -1,5 +1,6 @@
--- `totals::figures::mean`: a walk that adds up what each life adds to the mean, up to the largest of a fund that is not refused.
+-- `totals::figures::mean`: a walk that adds up what each line adds to the mean, up to the largest of a fund that is not refused.
 use mathlib.Core.Path.{_≡_, refl}
+use mathlib.Core.Bool.{true}
 use mathlib.Core.List.{List}
 use Rattle.fund.specs.declared.Frequencies.{Frequencies}
 use Rattle.fund.specs.declared.Life.{Life}
@@ -10,7 +11,7 @@ use Rattle.fund.proofs.Frequencies.Laws as F′
 use Rattle.laws.specs.Ranges.{FrequenciesOk}
 use Rattle.widths.specs.Parts.{meanPart}
 use Rattle.totals.specs.Table.{most-mean}
-use Rattle.totals.proofs.LifeSums.{frequencies-local, sums, caps, capping}
+use Rattle.totals.proofs.PointSums.{frequencies-local, sums, caps, capping}
 use Rattle.totals.proofs.figures.mean_step.Symbol.{name as #step}
 use Rattle.totals.proofs.figures.mean_step.Met as step-thm
 use Rattle.totals.proofs.figures.mean.Key.{name as #mean}
@@ -24,5 +25,5 @@ is x ms = refl
 pub mean-spec : {M : Type 1} → statement M
 unfolding code.routine frequencies-local
 mean-spec 𝓤 H 𝓜 𝓖 𝓡 =
-    sums 𝓤 H 𝓜 𝓖 𝓡 F.the-row F′.mir frequencies-local (caps F.the-row meanPart FrequenciesOk mean is most-mean)
+    sums 𝓤 H 𝓜 𝓖 𝓡 F.the-row F′.mir frequencies-local true (caps F.the-row meanPart FrequenciesOk mean is most-mean)
     (capping F.the-row meanPart FrequenciesOk mean is most-mean) code.env #mean #step (code.unfolded 𝓤 H 𝓜 𝓡) (step-thm.met 𝓤 H 𝓜 𝓖 𝓡)

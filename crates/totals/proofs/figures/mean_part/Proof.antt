@@ -1,4 +1,4 @@
--- The group decides, and the products fit: 65,535 × 10^6 × 10^6, and 65,535 times the weights.
+-- The group decides, and the products fit: 65,535 × 10^6 × 1,000, and 65,535 times a thousandth of the weights.
 use mathlib.Core.Path.{_≡_, ap₂}
 use Prim.Native.Nat.{_+_, _*_, _≤_}
 use native.Mathlib.Nat.{mul-le-mul}
@@ -30,7 +30,7 @@ mul-result : tie.Need-mul-result
 mul-result c = rw (both c) (omega (arith, amounts (c .before .before .before .before)))
 
 returns : tie.Need-returns
-returns c = rw (eq-eqb _ _ (c .before .before .if1 .taken), both c)
+returns c = rw (eq-eqb _ _ (c .before .before .if1 .taken), both c) (omega arith)
 
 -- ---- group 2
 fits : (c : tie.Start) → let a = c .args in Products (a .ab) (a .m .q) × Products (a .ab) (a .m .i)
@@ -71,9 +71,6 @@ both-weighed c = ap₂ _+_ (c .before .before .before .weighed3 .ensures) (c .we
 add-result-2 : tie.Need-add-result-2
 add-result-2 c = let s = c .before .before .before .before .before .before .before .before in omega (arith, both-weighed c, by-weights s, weighted s)
 
-mul-result-2 : tie.Need-mul-result-2
-mul-result-2 c = let s = c .before .before .before .before .before .before .before .before in rw (both-weighed c) (omega (arith, by-weights s, weighted s))
-
 returns-2 : tie.Need-returns-2
 returns-2 c = rw (ne-eqb _ _ (c .before .before .before .before .before .before .if1 .left), both-weighed c) (by-weights (c .before .before .before .before .before .before .before .before))
 
@@ -91,5 +88,4 @@ mean-part-spec =
     mul-weighed-2
     weighed-requires-4
     add-result-2
-    mul-result-2
     returns-2)

@@ -1,24 +1,39 @@
--- The sum so far and a part, of at most 10^18, fit a word.
+-- The part is capped before it is multiplied, so that the product, at most 1,000 × (10^8 + 1), and the sum fit a word.
 use borrow.Author.Needs.{needs}
+use mathlib.Core.Path.{_≡_, ap, _∙_}
+use Prim.Native.Nat.{min, _+_, _*_, _≤_}
+use native.Mathlib.Nat.{mul-le-mul}
 use native.Mathlib.Omega.{arith}
-use Rattle.widths.specs.PartBounds.{truncation-le}
+use Rattle.fund.specs.Limits.{most-lives, most-truncation}
+use Rattle.widths.specs.Parts.{truncationPart}
+use Rattle.totals.proofs.Caps.{capped-times}
 use Rattle.totals.proofs.figures.truncation_step.Statement.{statement}
 use Rattle.totals.proofs.figures.truncation_step.Tie as tie
 
 truncation-part-requires : tie.Need-truncation-part-requires
 truncation-part-requires c κs = search needs
 
-add-least : tie.Need-add-least
-add-least c = let p = c .before .pre in omega (arith, p .2, c .truncation-part .ensures, truncation-le _ (c .before .args .r) (p .0))
-
-add-least-2 : tie.Need-add-least-2
-add-least-2 c = search needs
-
 least-requires : tie.Need-least-requires
 least-requires c κs = search needs
 
+part-is : (c : tie.After-least) → let a = c .before .before .args in c .least .result ≡ min (truncationPart (a .r) (a .p .life)) (most-truncation + 1)
+part-is c = c .least .ensures ∙ ap (λ k. min k (most-truncation + 1)) (c .before .truncation-part .ensures)
+
+product : (c : tie.After-least) → c .before .before .args .p .lives * c .least .result ≤ most-lives * (most-truncation + 1)
+product c = let w : c .least .result ≤ most-truncation + 1 = omega (arith, part-is c) in mul-le-mul (c .before .before .pre .0 .lives-most) w
+
+with-lives-requires : tie.Need-with-lives-requires
+with-lives-requires c κs = omega (arith, product c, c .before .before .pre .2)
+
+least-requires-2 : tie.Need-least-requires-2
+least-requires-2 c κs = search needs
+
 returns : tie.Need-returns
-returns c = search needs
+returns c =
+    let a = c .before .before .before .before .args in
+    c .least2 .ensures
+    ∙ ap (λ k. min k (most-truncation + 1)) (c .before .with-lives .ensures ∙ ap (λ k. a .sum + a .p .lives * k) (part-is (c .before .before)))
+    ∙ capped-times (a .sum) (a .p .lives) (truncationPart (a .r) (a .p .life)) (most-truncation + 1)
 
 pub truncation-step-spec : {M : Type 1} → statement M
-truncation-step-spec = tie.close (tie.spec truncation-part-requires add-least add-least-2 least-requires returns)
+truncation-step-spec = tie.close (tie.spec truncation-part-requires least-requires with-lives-requires least-requires-2 returns)

@@ -1,4 +1,4 @@
--- The table is too long, or the test is the header's.
+-- The lives are too many, or the test is the header's.
 use borrow.Author.Needs.{needs}
 use native.Mathlib.Omega.{arith}
 use Rattle.laws.specs.Tells.{tells-no, tells-as}

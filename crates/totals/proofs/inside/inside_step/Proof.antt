@@ -1,4 +1,4 @@
--- Where the lives so far are in range, the test is the life's.
+-- Where the lines so far are in range, the test is the line's.
 use borrow.Author.Needs.{needs}
 use mathlib.Core.Path.{sym, _∙_}
 use mathlib.Core.Bool.{true≢false}
@@ -6,14 +6,14 @@ use Rattle.laws.specs.Tells.{tells-no, tells-as}
 use Rattle.totals.proofs.inside.inside_step.Statement.{statement}
 use Rattle.totals.proofs.inside.inside_step.Tie as tie
 
-life-inside-requires : tie.Need-life-inside-requires
-life-inside-requires c κs = search needs
+point-inside-requires : tie.Need-point-inside-requires
+point-inside-requires c κs = search needs
 
 returns : tie.Need-returns
-returns c = tells-as (c .life-inside .ensures) (λ r. (c .before .if1 .taken, r)) (λ h. h .1)
+returns c = tells-as (c .point-inside .ensures) (λ r. (c .before .if1 .taken, r)) (λ h. h .1)
 
 returns-2 : tie.Need-returns-2
 returns-2 c = tells-no (λ h. true≢false (sym (h .0) ∙ c .if1 .left))
 
 pub inside-step-spec : {M : Type 1} → statement M
-inside-step-spec = tie.close (tie.spec life-inside-requires returns returns-2)
+inside-step-spec = tie.close (tie.spec point-inside-requires returns returns-2)

@@ -18,9 +18,9 @@ returns : tie.Need-returns
 returns c =
     let a = c .before .before .before .before .args in
     let e = sym (c .before .placed .ensures) ∙ not-true (c .before .placed .result) (c .if1 .taken) in
-    (left-out-d (a .horizon) (a .m) (a .n) (a .l) e (a .d .now), left-out-h (a .horizon) (a .m) (a .n) (a .l) e (a .h .now))
+    (left-out-d (a .horizon) (a .p .life) (a .n) (a .l) (a .p .lives) e (a .d .now), left-out-h (a .horizon) (a .p .life) (a .n) (a .l) (a .p .lives) e (a .h .now))
 
-is-placed : (c : tie.Else1) → let a = c .before .before .before .before .args in placed (a .horizon) (a .m) (a .n) (a .l) ≡ true
+is-placed : (c : tie.Else1) → let a = c .before .before .before .before .args in placed (a .horizon) (a .p .life) (a .n) (a .l) ≡ true
 is-placed c = sym (c .before .placed .ensures) ∙ not-false (c .before .placed .result) (c .if1 .left)
 
 add-term-requires : tie.Need-add-term-requires
@@ -29,7 +29,7 @@ add-term-requires c κs =
     let s = y .before .before .before .before in
     let a = s .args in
     rw (y .before .before .place .ensures)
-    (term-room (a .horizon) (a .m) (a .n) (a .l) (is-placed y) (s .pre .0) (s .pre .2) (s .pre .3))
+    (term-room (a .horizon) (a .p .life) (a .n) (a .l) (a .p .lives) (is-placed y) (s .pre .0) (s .pre .2) (s .pre .3))
 
 same-length : tie.Need-same-length
 same-length c = search needs
@@ -44,8 +44,8 @@ returns-2 c =
     let a = s .args in
     let t = c .before .before .before .add-term in
     let x = y .before .before .place .ensures in (
-      rw (placed-d (a .horizon) (a .m) (a .n) (a .l) (is-placed y) (a .d .now), ← s .pre .2, ← x) (t .ensures .0),
-      rw (placed-h (a .horizon) (a .m) (a .n) (a .l) (is-placed y) (a .h .now), ← x) (t .ensures .1),
+      rw (placed-d (a .horizon) (a .p .life) (a .n) (a .l) (a .p .lives) (is-placed y) (a .d .now), ← s .pre .2, ← x) (t .ensures .0),
+      rw (placed-h (a .horizon) (a .p .life) (a .n) (a .l) (a .p .lives) (is-placed y) (a .h .now), ← x) (t .ensures .1),
     )
 
 pub add-at-spec : {M : Type 1} → statement M

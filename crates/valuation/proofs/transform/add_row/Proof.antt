@@ -1,28 +1,29 @@
 -- After l turns the terms of the columns below l are added.
-use mathlib.Core.Path.{_≡_, ap}
+use mathlib.Core.Path.{_≡_, _∙_, ap}
 use Prim.Native.Nat.{_+_, _-_, _≤_}
 use native.Mathlib.Omega.{arith}
 use lib.ListN.{length, getD}
 use Rattle.fund.specs.Transform.{row as rowOf, rowTerms}
-use Rattle.widths.specs.Adding.{SingleRow, termsAt}
+use Rattle.widths.specs.Adding.{SingleRow, termsAt, times}
 use Rattle.laws.specs.Triangle.{length-row}
 use Rattle.widths.specs.Placing.{row-start, row-goes}
+use Rattle.widths.specs.Times.{times-none, times-goes}
 use Rattle.widths.specs.Filling.{Filling, begin, turn-room, turn, end-d, end-h, long-d, long-h}
 use Rattle.valuation.proofs.transform.add_row.Statement.{statement}
 use Rattle.valuation.proofs.transform.add_row.Tie as tie
 
 abbrev Inv-loop : tie.InvT-loop
-Inv-loop d₀ h₀ horizon m n row l₀ d h l =
-    Filling horizon d₀ h₀ (rowTerms horizon m n) (n + 1) l d h × SingleRow m n × (row ≡ rowOf m n)
+Inv-loop d₀ h₀ horizon p n row l₀ d h l =
+    Filling horizon d₀ h₀ (λ l. times (p .lives) (rowTerms horizon (p .life) n l)) (n + 1) l d h × SingleRow (p .life) n × (row ≡ rowOf (p .life) n)
 
 abbrev μ-loop : tie.MeasureT-loop
-μ-loop d₀ h₀ horizon m n row l₀ d h l = n + 1 - l
+μ-loop d₀ h₀ horizon p n row l₀ d h l = n + 1 - l
 
 loop-holds : tie.Need-loop-holds Inv-loop μ-loop
 loop-holds c =
     let s = c .before in
     let a = s .args in
-    (begin (rowTerms (a .horizon) (a .m) (a .n)) (a .n + 1) (row-start (a .horizon) (a .m) (a .n)) (s .pre .2), s .pre .0, s .pre .1)
+    (begin (λ l. times (a .p .lives) (rowTerms (a .horizon) (a .p .life) (a .n) l)) (a .n + 1) (ap (times (a .p .lives)) (row-start (a .horizon) (a .p .life) (a .n)) ∙ times-none (a .p .lives)) (s .pre .2), s .pre .0, s .pre .1)
 
 in-row : (c : tie.In-loop Inv-loop μ-loop) → c .before .loop .l ≤ 12
 in-row c = let r = c .before .loop .inv .1 in omega arith
@@ -34,7 +35,7 @@ array-read-add-at : tie.Need-array-read-add-at Inv-loop μ-loop
 array-read-add-at c =
     let v = c .before .before .before .loop .inv in
     let a = c .before .before .before .before .before .args in
-    omega (arith, in-row (c .before .before), ap length (v .2), length-row (a .m) (a .n))
+    omega (arith, in-row (c .before .before), ap length (v .2), length-row (a .p .life) (a .n))
 
 add-at-requires : tie.Need-add-at-requires Inv-loop μ-loop
 add-at-requires c κs =
@@ -43,7 +44,8 @@ add-at-requires c κs =
       l .inv .1,
       c .before .before .loop-test .taken,
       ap (λ r. getD r (l .l) 0) (l .inv .2),
-      turn-room (rowTerms (a .horizon) (a .m) (a .n)) (termsAt (a .horizon) (a .m) (a .n)) (row-goes (a .horizon) (a .m) (a .n)) (l .inv .0) (omega arith),
+      turn-room (λ l. times (a .p .lives) (rowTerms (a .horizon) (a .p .life) (a .n) l)) (λ l. times (a .p .lives) (termsAt (a .horizon) (a .p .life) (a .n) l))
+          (times-goes (a .p .lives) (rowTerms (a .horizon) (a .p .life) (a .n)) (termsAt (a .horizon) (a .p .life) (a .n)) (row-goes (a .horizon) (a .p .life) (a .n))) (l .inv .0) (omega arith),
     )
 
 add-l : tie.Need-add-l Inv-loop μ-loop
@@ -56,8 +58,12 @@ loop-again : tie.Need-loop-again Inv-loop μ-loop
 loop-again c =
     let v = c .before .before .before .before .before .before .before .loop .inv in
     let a = c .before .before .before .before .before .before .before .before .before .args in
-    let t = c .before .before .before .add-at in
-    (turn (rowTerms (a .horizon) (a .m) (a .n)) (termsAt (a .horizon) (a .m) (a .n)) (row-goes (a .horizon) (a .m) (a .n)) (v .0) (omega arith) (t .ensures .0) (t .ensures .1), v .1, v .2)
+    let t = c .before .before .before .add-at in (
+      turn (λ l. times (a .p .lives) (rowTerms (a .horizon) (a .p .life) (a .n) l)) (λ l. times (a .p .lives) (termsAt (a .horizon) (a .p .life) (a .n) l))
+          (times-goes (a .p .lives) (rowTerms (a .horizon) (a .p .life) (a .n)) (termsAt (a .horizon) (a .p .life) (a .n)) (row-goes (a .horizon) (a .p .life) (a .n))) (v .0) (omega arith) (t .ensures .0) (t .ensures .1),
+      v .1,
+      v .2,
+    )
 
 same-length : tie.Need-same-length Inv-loop μ-loop
 same-length c = long-d (c .before .loop .inv .0)

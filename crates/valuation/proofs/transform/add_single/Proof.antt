@@ -1,38 +1,39 @@
 -- After n turns the row is row n, and the terms of the rows up to n are added.
-use mathlib.Core.Path.{_≡_}
+use mathlib.Core.Path.{_≡_, _∙_, ap}
 use mathlib.Core.Bool.{true}
 use Prim.Native.Nat.{_+_, _-_, _≤_}
 use native.Mathlib.Omega.{arith}
 use Rattle.fund.specs.Folding.{single}
 use Rattle.fund.specs.Transform.{row as rowOf, rowTerms, singleTerms}
 use Rattle.widths.specs.Lives.{InRange}
-use Rattle.widths.specs.Adding.{SingleRow}
+use Rattle.widths.specs.Adding.{SingleRow, times}
 use Rattle.widths.specs.Triangle.{row-first}
 use Rattle.widths.specs.Placing.{single-start, single-goes}
+use Rattle.widths.specs.Times.{times-none, times-goes}
 use Rattle.widths.specs.Filling.{Filling, begin, turn-room, turn, end-d, end-h, long-d, long-h}
 use Rattle.valuation.proofs.transform.add_single.Statement.{statement}
 use Rattle.valuation.proofs.transform.add_single.Tie as tie
 
 abbrev Inv-loop : tie.InvT-loop
-Inv-loop d₀ h₀ horizon m order row₀ n₀ d h row n =
-    Filling horizon d₀ h₀ (singleTerms horizon m) order n d h
-    × InRange m
-    × (single m ≡ true)
+Inv-loop d₀ h₀ horizon p order row₀ n₀ d h row n =
+    Filling horizon d₀ h₀ (λ n. times (p .lives) (singleTerms horizon (p .life) n)) order n d h
+    × InRange (p .life)
+    × (single (p .life) ≡ true)
     × (order ≤ 12)
-    × (row ≡ rowOf m n)
+    × (row ≡ rowOf (p .life) n)
 
 abbrev μ-loop : tie.MeasureT-loop
-μ-loop d₀ h₀ horizon m order row₀ n₀ d h row n = order - n
+μ-loop d₀ h₀ horizon p order row₀ n₀ d h row n = order - n
 
 loop-holds : tie.Need-loop-holds Inv-loop μ-loop
 loop-holds c =
     let s = c .before in
     let a = s .args in (
-      begin (singleTerms (a .horizon) (a .m)) (a .order) (single-start (a .horizon) (a .m)) (s .pre .3),
+      begin (λ n. times (a .p .lives) (singleTerms (a .horizon) (a .p .life) n)) (a .order) (ap (times (a .p .lives)) (single-start (a .horizon) (a .p .life)) ∙ times-none (a .p .lives)) (s .pre .3),
       s .pre .0,
       s .pre .1,
       s .pre .2,
-      row-first (a .m),
+      row-first (a .p .life),
     )
 
 next-row-requires : tie.Need-next-row-requires Inv-loop μ-loop
@@ -47,10 +48,11 @@ add-row-requires : tie.Need-add-row-requires Inv-loop μ-loop
 add-row-requires c κs =
     let v = c .before .before .before .before .loop .inv in
     let a = c .before .before .before .before .before .before .args in
-    let r : SingleRow (a .m) (c .before .before .before .before .loop .n + 1) = record { life = v .1; alone = v .2; n-least = omega arith; n-most = omega (arith, v .3, c .before .before .before .loop-test .taken) } in (
+    let r : SingleRow (a .p .life) (c .before .before .before .before .loop .n + 1) = record { life = v .1; alone = v .2; n-least = omega arith; n-most = omega (arith, v .3, c .before .before .before .loop-test .taken) } in (
       r,
       c .before .before .next-row .ensures,
-      turn-room (singleTerms (a .horizon) (a .m)) (λ n. rowTerms (a .horizon) (a .m) (n + 1) (n + 1 + 1)) (single-goes (a .horizon) (a .m)) (v .0) (c .before .before .before .loop-test .taken),
+      turn-room (λ n. times (a .p .lives) (singleTerms (a .horizon) (a .p .life) n)) (λ n. times (a .p .lives) (rowTerms (a .horizon) (a .p .life) (n + 1) (n + 1 + 1)))
+          (times-goes (a .p .lives) (singleTerms (a .horizon) (a .p .life)) (λ n. rowTerms (a .horizon) (a .p .life) (n + 1) (n + 1 + 1)) (single-goes (a .horizon) (a .p .life))) (v .0) (c .before .before .before .loop-test .taken),
     )
 
 loop-less : tie.Need-loop-less Inv-loop μ-loop
@@ -62,7 +64,8 @@ loop-again c =
     let v = i .before .before .loop .inv in
     let a = i .before .before .before .before .args in
     let t = c .before .before .before .add-row in (
-      turn (singleTerms (a .horizon) (a .m)) (λ n. rowTerms (a .horizon) (a .m) (n + 1) (n + 1 + 1)) (single-goes (a .horizon) (a .m)) (v .0) (i .before .loop-test .taken) (t .ensures .0) (t .ensures .1),
+      turn (λ n. times (a .p .lives) (singleTerms (a .horizon) (a .p .life) n)) (λ n. times (a .p .lives) (rowTerms (a .horizon) (a .p .life) (n + 1) (n + 1 + 1)))
+          (times-goes (a .p .lives) (singleTerms (a .horizon) (a .p .life)) (λ n. rowTerms (a .horizon) (a .p .life) (n + 1) (n + 1 + 1)) (single-goes (a .horizon) (a .p .life))) (v .0) (i .before .loop-test .taken) (t .ensures .0) (t .ensures .1),
       v .1,
       v .2,
       v .3,
