@@ -15,6 +15,7 @@ import distribution_funds
 import frequency_funds
 import generate
 import generate_sheets
+import lives_funds
 import pricing
 import quantile_funds
 import rate_funds
@@ -58,7 +59,7 @@ def heavy_funds(rng, count):
                              worth=generate.random_worth(rng),
                              rate_rows=((20, 500000, 0), (30, rng.randint(1, 1000000), 0), (40, 700, 900)),
                              member_rows=tuple(members))
-        yield generate.Case(f"heavy-{index}", text.data())
+        yield generate.Case(f"heavy-{index}", (generate.in_one_line(text) if rng.randrange(2) else text).data())
 
 
 def any_lengths(rng):
@@ -76,7 +77,7 @@ def file_calls(count, seed):
     known += quantile_funds.cases(quantile_funds.ROWS + quantile_funds.MORE_ROWS)
     known += rate_funds.cases() + generate.gap_funds(seed, 300)
     known += tariff_funds.cases() + triangle_funds.cases() + generate.step_funds(seed, 100)
-    known += frequency_funds.cases() + distribution_funds.cases(distribution_funds.ALL_ROWS)
+    known += frequency_funds.cases() + distribution_funds.cases(distribution_funds.ALL_ROWS) + lives_funds.cases()
     for case in known + list(heavy_funds(rng, 60)):
         yield case, (case.data,), case.lengths
 

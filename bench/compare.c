@@ -1,5 +1,7 @@
 // Prices each fund by the two peers and by the verified library in turn, compares every figure and cell, and prints the time
 // of one call of each and the ratios. A fund is a file, or a folder NAME.sheets with the files header, rates and members.
+// NAME-written-out.fund behind NAME.fund has each line of it as so many lines of one life: its answers must be the same, and
+// how much longer it takes is printed too.
 #define _POSIX_C_SOURCE 199309L
 #include "verified.h"
 #include <stdio.h>
@@ -28,9 +30,9 @@ struct side {
     const char *name;
     price *price;
     price_sheets *price_sheets;
-    struct answer answer;
+    struct answer answer, before; // of this fund and of the one before it
     long calls;
-    double time;
+    double time, time_before;
 };
 
 static struct side sides[] = {{.name = "plain", .price = plain_price, .price_sheets = plain_price_sheets},
@@ -91,12 +93,27 @@ static int read_fund(const char *name) {
     return 1;
 }
 
+// Whether the answers are those of the fund before it, and how much longer each side took.
+static int compare_written_out(const char *name) {
+    for (int k = 0; k < SIDES; k++)
+        if (memcmp(&sides[k].answer, &sides[k].before, sizeof sides[k].answer) != 0) {
+            printf("%s: the answer of %s is not that of the fund before it\n", name, sides[k].name);
+            return 0;
+        }
+    printf("%s, times the fund before it:", name);
+    for (int k = 0; k < SIDES; k++)
+        printf(" %s %.2f%s", sides[k].name, sides[k].time / sides[k].time_before, k + 1 < SIDES ? "," : "\n");
+    return 1;
+}
+
 static int compare(const char *name) {
     if (!read_fund(name)) {
         fprintf(stderr, "%s: cannot be read\n", name);
         return 0;
     }
     for (int k = 0; k < SIDES; k++) {
+        sides[k].before = sides[k].answer;
+        sides[k].time_before = sides[k].time;
         memset(&sides[k].answer, 0x11 * (k + 1), sizeof sides[k].answer);
         call(&sides[k]);
         if (memcmp(&sides[0].answer, &sides[k].answer, sizeof sides[0].answer) != 0) {
@@ -121,7 +138,7 @@ static int compare(const char *name) {
     for (int k = 0; k < SIDES; k++)
         printf(" %s %.1f us,", sides[k].name, 1e6 * sides[k].time);
     printf(" verified/plain %.2f, verified/tuned %.2f\n", sides[VERIFIED].time / sides[0].time, sides[VERIFIED].time / sides[1].time);
-    return 1;
+    return strstr(name, "-written-out") ? compare_written_out(name) : 1;
 }
 
 int main(int count, char **names) {

@@ -13,10 +13,11 @@ import sheets
 
 
 def fund(horizon, order, frequency, deductible, rates, members):
+    """Members without a number of lives have one."""
     lines = ["rates=2030", "members=2030", f"horizon={horizon}", f"order={order}",
              f"frequency={frequency},{frequency}", f"deductible={deductible}", "worth=100000"]
     lines += [f"rate={age},{q},{i}" for age, (q, i) in sorted(rates.items())]
-    lines += ["member=%d,%d,%d,%d" % member for member in members]
+    lines += ["member=%d,%d,%d,%d,%d" % (*member, 1)[:5] for member in members]
     lines.append(f"end={len(members)}")
     return "".join(line + "\n" for line in lines)
 
@@ -70,18 +71,34 @@ def reading():
     return fund(20, 4, 800, 10, rates_by_age(rng, 1500, 1000), members)
 
 
+def lives_members():
+    rng = random.Random(5)
+    return rates_by_age(rng, 1500, 1000), [(*member(rng, 1, range(1, 41)), 100) for _ in range(10)]
+
+
+def lives():
+    """1,000 lives of group 1 on ten lines, order 12, horizon 300."""
+    return fund(300, 12, 1000, 100, *lives_members())
+
+
+def lives_written_out():
+    """The same with a line for each life."""
+    rates, members = lives_members()
+    return fund(300, 12, 1000, 100, rates, [row[:4] for row in members for _ in range(row[4])])
+
+
 def as_sheets(text):
     """The header text, the rate sheet and the member sheet of a file."""
     fund = pricing.read_fund(text.encode())
     header = text[:text.index("rate=")]
-    members = [(member.age, member.group, member.d, member.e) for member in fund.member_rows]
+    members = [(member.age, member.group, member.d, member.e, member.lives) for member in fund.member_rows]
     return header.encode(), sheets.rate_sheet(fund.rate_rows), sheets.member_sheet(members)
 
 
 def main(directory):
     directory.mkdir(parents=True, exist_ok=True)
-    for make in (dense, sparse, small, reading):
-        (directory / f"{make.__name__}.fund").write_text(make())
+    for make in (dense, sparse, small, reading, lives, lives_written_out):
+        (directory / f"{make.__name__.replace('_', '-')}.fund").write_text(make())
     for make in (sparse, reading):
         folder = directory / f"{make.__name__}.sheets"
         folder.mkdir(exist_ok=True)

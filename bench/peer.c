@@ -16,8 +16,8 @@ typedef unsigned __int128 wide;
 #define FIVES 244140625ull // 5^12
 
 enum { MOST_HORIZON = 4095, MOST_ORDER = 12, MOST_FREQUENCY = 5000, MOST_RATES = 121, MOST_MEMBERS = 1000, MOST_AGE = 120 };
-enum { HEADER_LINES = 7, MOST_AMOUNT = 65535 };
-enum { CELL_BYTES = 8, RATE_BYTES = 3 * CELL_BYTES, MEMBER_BYTES = 4 * CELL_BYTES };
+enum { HEADER_LINES = 7, MOST_AMOUNT = 65535, MOST_LIVES = 1000 };
+enum { CELL_BYTES = 8, RATE_BYTES = 3 * CELL_BYTES, MEMBER_BYTES = 5 * CELL_BYTES };
 enum { FORM = 1, RANGE, EDITION, DEDUCTIBLE, UNMATCHED, HALF, LOAD, ORDER, SHORT, WIDE, CELL };
 
 struct rate {
@@ -28,14 +28,16 @@ struct frequencies {
     uint64_t death, disability;
 };
 
+// A line, which stands for so many lives; q, i and p are those of one life.
 struct member {
     size_t start; // of its line
-    uint64_t age, group, d, e;
+    uint64_t age, group, d, e, lives;
     uint64_t q, i, p; // folded
 };
 
 struct fund {
     uint64_t rates, members, horizon, order, deductible, worth;
+    uint64_t lives; // in all
     struct frequencies frequency;
     size_t rate_rows, member_rows;
     struct rate rate[MOST_RATES];
@@ -150,22 +152,25 @@ static int read_rate(struct fund *fund, const uint64_t *n) {
     return 0;
 }
 
+// Each line has a life or more, so that the lives in all limit the lines too.
 static int read_member(struct fund *fund, size_t start, const uint64_t *n) {
-    if (fund->member_rows == MOST_MEMBERS || n[0] > MOST_AGE || n[1] < 1 || n[1] > 2 || n[2] > MOST_AMOUNT || n[3] > MOST_AMOUNT)
+    if (n[0] > MOST_AGE || n[1] < 1 || n[1] > 2 || n[2] > MOST_AMOUNT || n[3] > MOST_AMOUNT || n[4] < 1 ||
+        n[4] > MOST_LIVES - fund->lives)
         return RANGE;
     struct member *m = &fund->member[fund->member_rows++];
     m->start = start;
-    m->age = n[0], m->group = n[1], m->d = n[2], m->e = n[3];
+    m->age = n[0], m->group = n[1], m->d = n[2], m->e = n[3], m->lives = n[4];
+    fund->lives += n[4];
     return 0;
 }
 
 static int read_rows(struct reader *r, struct fund *fund) {
-    uint64_t n[4];
+    uint64_t n[5];
     int why;
     for (;;) {
         if (!take(r))
             return FORM;
-        if (SPELLED(r, "member=", 4, n)) {
+        if (SPELLED(r, "member=", 5, n)) {
             if ((why = read_member(fund, r->start, n)))
                 return why;
         } else if (SPELLED(r, "rate=", 3, n)) {
@@ -184,6 +189,7 @@ static int read_rows(struct reader *r, struct fund *fund) {
 static int read_header(struct reader *r, struct fund *fund) {
     int why;
     fund->rate_rows = fund->member_rows = 0;
+    fund->lives = 0;
     if ((why = read_number(r, "rates=", 1900, 2999, &fund->rates)) ||
         (why = read_number(r, "members=", 1900, 2999, &fund->members)) ||
         (why = read_number(r, "horizon=", 0, MOST_HORIZON, &fund->horizon)) ||
@@ -240,7 +246,7 @@ static int rate(double x, uint64_t *k) {
 
 // The rate rows and then the member rows; `row` is the one at fault.
 static int read_sheets(struct sheet rates, struct sheet members, struct fund *fund, uint64_t *row) {
-    uint64_t n[4];
+    uint64_t n[5];
     int why;
     *row = 0;
     for (size_t at = 0; at < rates.length; at += RATE_BYTES) {
@@ -256,7 +262,8 @@ static int read_sheets(struct sheet rates, struct sheet members, struct fund *fu
         const unsigned char *cells = members.bytes + at;
         ++*row;
         if (members.length - at < MEMBER_BYTES || !whole(cell_of(cells, 0), 0, MOST_AGE, &n[0]) ||
-            !whole(cell_of(cells, 1), 1, 2, &n[1]) || !amount(cell_of(cells, 2), &n[2]) || !amount(cell_of(cells, 3), &n[3]))
+            !whole(cell_of(cells, 1), 1, 2, &n[1]) || !amount(cell_of(cells, 2), &n[2]) || !amount(cell_of(cells, 3), &n[3]) ||
+            !whole(cell_of(cells, 4), 1, MOST_LIVES, &n[4]))
             return CELL;
         if ((why = read_member(fund, 0, n)))
             return why;
@@ -290,7 +297,7 @@ static int fold(struct fund *fund, size_t *at) {
     return 0;
 }
 
-// The weights of a member of group 2, in units.
+// The weights of one life of group 2, in units.
 static uint64_t death_weight(const struct fund *fund, const struct member *m) { return m->q * fund->frequency.death * 1000; }
 
 static uint64_t disability_weight(const struct fund *fund, const struct member *m) {
@@ -301,7 +308,7 @@ static uint64_t lambda_of(const struct fund *fund) {
     uint64_t lambda = 0;
     for (const struct member *m = fund->member, *end = m + fund->member_rows; m < end; m++)
         if (m->group == 2)
-            lambda += death_weight(fund, m) + disability_weight(fund, m);
+            lambda += m->lives * (death_weight(fund, m) + disability_weight(fund, m));
     return lambda;
 }
 
@@ -309,7 +316,7 @@ static uint64_t load_of(const struct fund *fund, uint64_t lambda) {
     uint64_t load = lambda;
     for (const struct member *m = fund->member, *end = m + fund->member_rows; m < end; m++)
         if (m->group == 1)
-            load += up(UNIT * (m->q + m->i), m->p);
+            load += m->lives * up(UNIT * (m->q + m->i), m->p);
     return load;
 }
 
@@ -321,20 +328,21 @@ static wide truncation_of(const struct fund *fund) {
         uint64_t claim = m->q + m->i, w = UNIT;
         for (uint64_t n = 0; n <= fund->order; n++)
             w = up(w * claim, m->p);
-        sum += up(w * m->p, (m->p - claim) * (fund->order + 1));
+        sum += (wide)m->lives * up(w * m->p, (m->p - claim) * (fund->order + 1));
     }
     return sum;
 }
 
+// Asked where the load is within its limit: without it a line's product may wrap.
 static uint64_t mean_of(const struct fund *fund) {
     uint64_t mean = 0;
     for (const struct member *m = fund->member, *end = m + fund->member_rows; m < end; m++)
-        mean += m->group == 1 ? (m->q * m->d + m->i * m->e) * MILLION
-                              : death_weight(fund, m) * m->d + disability_weight(fund, m) * m->e;
+        mean += m->lives * (m->group == 1 ? (m->q * m->d + m->i * m->e) * MILLION
+                                          : death_weight(fund, m) * m->d + disability_weight(fund, m) * m->e);
     return mean;
 }
 
-// The terms of a member of group 1.
+// The terms of a line of group 1, each for all its lives.
 static void add_terms(const struct member *m, uint64_t order, uint64_t horizon, int64_t *D, uint64_t *H) {
     uint64_t v[MOST_ORDER + 1] = {UNIT};
     for (uint64_t n = 1; n <= order; n++) {
@@ -345,9 +353,9 @@ static void add_terms(const struct member *m, uint64_t order, uint64_t horizon, 
             uint64_t x = m->d * l + m->e * (n - l);
             if (x > horizon)
                 continue;
-            int64_t term = (int64_t)nearest(x * v[l], n);
+            int64_t term = (int64_t)(m->lives * nearest(x * v[l], n));
             D[x] += n % 2 ? term : -term;
-            H[x] += x;
+            H[x] += m->lives * x;
         }
     }
 }
@@ -361,9 +369,9 @@ static void transform(const struct fund *fund, int64_t *D, uint64_t *H) {
             continue;
         }
         if (m->d <= horizon)
-            D[m->d] += (int64_t)(death_weight(fund, m) * m->d);
+            D[m->d] += (int64_t)(m->lives * death_weight(fund, m) * m->d);
         if (m->e <= horizon)
-            D[m->e] += (int64_t)(disability_weight(fund, m) * m->e);
+            D[m->e] += (int64_t)(m->lives * disability_weight(fund, m) * m->e);
     }
 }
 
@@ -385,8 +393,9 @@ static void start(const struct fund *fund, uint64_t lambda, int64_t *cell, uint6
     uint64_t size = negative ? -(uint64_t)sum : (uint64_t)sum;
     for (const struct member *m = fund->member, *end = m + fund->member_rows; m < end; m++)
         if (m->group == 1) {
-            size = nearest(size * m->p, MILLION);
-            ++*bound;
+            for (uint64_t k = 0; k < m->lives; k++)
+                size = nearest(size * m->p, MILLION);
+            *bound += m->lives;
         }
     *cell = negative ? -(int64_t)size : (int64_t)size;
 }

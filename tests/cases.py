@@ -20,8 +20,8 @@ a space, its level as thirteen decimal digits and a line feed, then its bytes.
 stdout has each listing, then `line=` and the part of the file that is handed
 back, then the line that the program `level` prints, and an empty line.  The last cases
 of a stream are those of quantile_funds.py and rate_funds.py, funds with rates for
-some ages only, and those of tariff_funds.py, triangle_funds.py, frequency_funds.py and
-distribution_funds.py.
+some ages only, and those of tariff_funds.py, triangle_funds.py, frequency_funds.py,
+distribution_funds.py and lives_funds.py.
 
 In a stream of sheets each case has the lengths of its header text, its rate sheet and
 its member sheet, six decimal digits and a space each, and its level as above, then the
@@ -43,6 +43,7 @@ import document_funds
 import frequency_funds
 import generate
 import generate_sheets
+import lives_funds
 import pricing
 import quantile_funds
 import rate_funds
@@ -165,6 +166,7 @@ def stream_pairs(count, seed):
     rng = random.Random(seed)
     made = chosen(count, seed) + quantile_funds.cases() + rate_funds.cases() + generate.gap_funds(seed, GAPS)
     made += tariff_funds.cases() + triangle_funds.cases() + frequency_funds.cases() + distribution_funds.cases()
+    made += lives_funds.cases()
     return [(case.data, generate.level_of(case, rng, pricing.price(case.data), MOST_LEVEL))
             for case in made if len(case.data) <= LONGEST]
 

@@ -1,7 +1,8 @@
 """Every fund and every figure that document 01 states, and the figures of the readings.
 
-Its funds take worth=100 and repeat their frequency, as document 02's third and
-fifth requests say; the cell lines are those of its seventh.
+Its funds take worth=100, repeat their frequency and take lives 1 on each member line,
+as document 02's third, fifth and eighth requests say; the cell lines are those of its
+seventh.
 
 checks() gives pairs (name, holds).  Run as a program, it prints them.
 """
@@ -12,7 +13,7 @@ import pricing
 from generate import Text
 
 FIRST_FILE = (b"rates=2030\nmembers=2030\nhorizon=2\norder=3\nfrequency=1000,1000\n"
-              b"deductible=2\nworth=100\nrate=40,100000,0\nmember=40,1,1,0\nend=1\n")
+              b"deductible=2\nworth=100\nrate=40,100000,0\nmember=40,1,1,0,1\nend=1\n")
 
 FIRST_LISTING = """truncation=42866942
 mean=100000000000
@@ -144,6 +145,8 @@ def header_funds():
     yield ("each fund repeats its frequency",
            all(b"\nfrequency=%d,%d\n" % (text.frequency, text.frequency) in text.data()
                for text in FUNDS.values()))
+    yield ("each member line takes one life", all(row[4] == 1 for text in FUNDS.values() for row in text.member_rows)
+           and NINTH.data().count(b"\nmember=40,2,1,0,1") == 8 and b"\nmember=30,2,1,0,1\nend=9\n" in NINTH.data())
     yield ("each fund takes worth=100 after its deductible",
            all(b"\ndeductible=%d\nworth=100\n" % text.deductible in text.data()
                for text in FUNDS.values()))

@@ -1,7 +1,9 @@
 """The exact values of document 01, from the fund's input alone.
 
 The fractions share with pricing.py only reading and folding, the whole numbers
-the weights of group 2 too.
+the weights of group 2 too.  A line for several lives counts as so many copies: the
+fractions go through the copies one by one, the whole numbers count in how many ways
+so many of a line's lives die and so many become disabled.
 check_distance(data) checks demand 3 for one file, that the gross premium
 is not below the exact premium's loaded worth, and what document 02's seventh
 request says of the cell lines: the sum of all distances up to x and the distance of
@@ -11,7 +13,7 @@ F(x) are within the bound printed at x, and what that means for the answer at a 
 import random
 from fractions import Fraction
 from itertools import accumulate, product as outcomes_of
-from math import factorial, floor
+from math import comb, factorial, floor
 
 import pricing
 
@@ -38,19 +40,24 @@ def below(values, x):
     return values[x] if x >= 0 else 0 * ONE
 
 
+def copies(members):
+    """Each line as often as it has lives, in its spot."""
+    return [m for m in members for _ in range(m.lives)]
+
+
 def group_1_part(members, horizon):
-    """Each member maps g(x) to (p g(x) + q g(x-d) + i g(x-e))/10^6."""
+    """Each life maps g(x) to (p g(x) + q g(x-d) + i g(x-e))/10^6."""
     g = at_zero(horizon)
-    for m in pricing.group_1(members):
+    for m in copies(pricing.group_1(members)):
         g = [(m.p * g[x] + m.q * below(g, x - m.d) + m.i * below(g, x - m.e))
              / 10 ** 6 for x in range(horizon + 1)]
     return g
 
 
 def weighted_amounts(members, frequency):
-    """Of each group 2 member: d with q x a, and e with i x b, as plain fractions."""
+    """Of each life of group 2: d with q x a, and e with i x b, as plain fractions."""
     a, b = Fraction(frequency.death, 1000), Fraction(frequency.disability, 1000)
-    return [pair for m in pricing.group_2(members)
+    return [pair for m in copies(pricing.group_2(members))
             for pair in ((m.d, Fraction(m.q, 10 ** 6) * a), (m.e, Fraction(m.i, 10 ** 6) * b))]
 
 
@@ -95,7 +102,7 @@ def values(fund, members):
 
 def mean(fund, members):
     """The mean as a plain fraction."""
-    ones = sum((Fraction(m.q * m.d + m.i * m.e, 10 ** 6) for m in pricing.group_1(members)), 0 * ONE)
+    ones = sum((Fraction(m.q * m.d + m.i * m.e, 10 ** 6) for m in copies(pricing.group_1(members))), 0 * ONE)
     return ones + sum(amount * weight for amount, weight in weighted_amounts(members, fund.frequency))
 
 
@@ -107,9 +114,9 @@ def premium(fund, members, exact):
 
 
 def outcomes(members):
-    """Of all outcomes of the group 1 members: the amount, and its chance over 10^(6g)."""
+    """Of all outcomes of the group 1 lives: the amount, and its chance over 10^(6g)."""
     choices = [((m.p, 0), (m.q, m.d), (m.i, m.e))
-               for m in pricing.group_1(members)]
+               for m in copies(pricing.group_1(members))]
     for outcome in outcomes_of(*choices):
         weight, amount = 1, 0
         for chance, payment in outcome:
@@ -119,17 +126,17 @@ def outcomes(members):
 
 
 def over_outcomes(members, total):
-    return Fraction(total, 10 ** (6 * len(pricing.group_1(members))))
+    return Fraction(total, 10 ** (6 * len(copies(pricing.group_1(members)))))
 
 
 def average_excess(fund, members):
-    """Of all outcomes of the group 1 members: the average excess over M, in units."""
+    """Of all outcomes of the group 1 lives: the average excess over M, in units."""
     M = fund.deductible
     return UNIT * over_outcomes(members, sum(weight * max(amount - M, 0) for amount, weight in outcomes(members)))
 
 
 def chances_within(fund, members):
-    """Of all outcomes of the group 1 members: the chance of at most x, for each x up to X."""
+    """Of all outcomes of the group 1 lives: the chance of at most x, for each x up to X."""
     listed = list(outcomes(members))
     return [over_outcomes(members, sum(weight for amount, weight in listed if amount <= x))
             for x in range(fund.horizon + 1)]
@@ -147,21 +154,41 @@ def loaded_worth(fund, exact_premium):
 
 # The same values as whole numbers over one denominator
 
+def group_1_lives(members):
+    """g: the lives of group 1."""
+    return sum(m.lives for m in members if m.group == 1)
+
+
 def denominator(fund, members):
     """10^(6g + 12X + 756) x X! x 63!"""
-    g, X = len(pricing.group_1(members)), fund.horizon
+    g, X = group_1_lives(members), fund.horizon
     return 10 ** (6 * g + 12 * X + 12 * TERMS) * factorial(X) * factorial(TERMS)
 
 
+def claims_within(lives, amount, chance, room):
+    """The numbers of claims of this amount that so many lives can have within the room; none where there is no chance."""
+    return range(min(lives, room // amount) + 1) if chance else range(1)
+
+
+def line_numerators(m, horizon):
+    """Of a line, over 10^(6 lives): the ways in which so many of its lives die and so many become disabled."""
+    result = [0] * (horizon + 1)
+    for deaths in claims_within(m.lives, m.d, m.q, horizon):
+        others = m.lives - deaths
+        for disabled in claims_within(others, m.e, m.i, horizon - deaths * m.d):
+            ways = comb(m.lives, deaths) * comb(others, disabled)
+            chance = m.q ** deaths * m.i ** disabled * m.p ** (others - disabled)
+            result[deaths * m.d + disabled * m.e] += ways * chance
+    return result
+
+
 def group_1_numerators(members, horizon):
-    """Over 10^(6g): each outcome's weight is carried to its place."""
+    """Over 10^(6g): what each line gives is carried to its place."""
     g = [1] + [0] * horizon
     for m in pricing.group_1(members):
-        result = [0] * (horizon + 1)
-        for chance, amount in ((m.p, 0), (m.q, m.d), (m.i, m.e)):
-            for x in range(horizon + 1 - amount):
-                result[x + amount] += chance * g[x]
-        g = result
+        line = line_numerators(m, horizon)
+        places = [k for k in range(horizon + 1) if line[k]]
+        g = [sum(line[k] * g[x - k] for k in places if k <= x) for x in range(horizon + 1)]
     return g
 
 
@@ -199,7 +226,7 @@ def numerators(fund, members):
 def premium_numerator(fund, members, whole, over):
     """The exact premium in units, over the denominator `whole` of the values `over`."""
     M = fund.deductible
-    units = sum((m.q * m.d + m.i * m.e) * 10 ** 6 for m in pricing.group_1(members))
+    units = sum(m.lives * (m.q * m.d + m.i * m.e) * 10 ** 6 for m in pricing.group_1(members))
     units += sum(amount * weight for amount, weight in pricing.group_2_weights(members, fund.frequency))
     return ((units - M * UNIT) * whole
             + UNIT * sum((M - x) * over[x] for x in range(M)))
@@ -209,7 +236,7 @@ def premium_numerator(fund, members, whole, over):
 
 def few_outcomes(members):
     """At most 3^7 outcomes are listed one by one."""
-    return len(pricing.group_1(members)) <= 7
+    return group_1_lives(members) <= 7
 
 
 def read_and_fold(data):
@@ -329,12 +356,12 @@ def check_outcome_sums(fund, members, exact):
 
 
 def check_without_replacement(data, seen):
-    """The statements on the cell lines where lambda is 0: for any horizon and number of members."""
+    """The statements on the cell lines where lambda is 0: for any horizon and number of lives."""
     answer = pricing.price(data)
     fund, members = read_and_fold(data)
     if answer.number or pricing.lambda_units(members, fund.frequency):
         return ["refused, or lambda is not 0"]
-    whole, over = 10 ** (6 * len(pricing.group_1(members))), group_1_numerators(members, fund.horizon)
+    whole, over = 10 ** (6 * group_1_lives(members)), group_1_numerators(members, fund.horizon)
     exact, cells = [Fraction(numerator, whole) for numerator in over], printed_cells(answer)
     return (check_sums(cells, exact, seen) + check_sums_multiplied_out(cells, whole, over)
             + check_levels(cells, exact, random.Random(data), seen))
@@ -379,7 +406,7 @@ def check_premium_numerator(whole, numerator, exact_premium):
 
 
 def check_gross_by_outcomes(data):
-    """The tariff's statement by the average excess: lambda 0, few members, any horizon."""
+    """The tariff's statement by the average excess: lambda 0, few lives, any horizon."""
     answer = pricing.price(data)
     if answer.number:
         return []

@@ -63,6 +63,10 @@ FUNDS = {
         fund(4, 3, (0, 2000), (EIGHTHS, TENTH), ((35, 2, 1, 2), (50, 1, 1, 0), (50, 2, 3, 3))),
     "lambda 0, death not replaced and no disability":
         fund(3, 1, (0, 5000), (TENTHS, TENTH), ((40, 2, 1, 0), (40, 1, 2, 1), (50, 2, 2, 3))),
+    "three lives of group 1 on a line": fund(3, 2, 1000, (TENTHS,), ((40, 1, 1, 2, 3),)),
+    "two lives of group 2 on a line, lambda 1/2": fund(4, 2, 1000, (EIGHTHS,), ((35, 2, 1, 2, 2),)),
+    "both groups, several lives, equal lines apart, lambda 1/2":
+        fund(4, 3, 1000, (QUARTER, TENTH), ((50, 1, 1, 0, 2), (30, 2, 2, 7, 2), (50, 1, 1, 0, 1))),
 }
 
 

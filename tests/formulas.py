@@ -2,6 +2,7 @@
 
 A second way of writing the method: each figure is a function of its indices,
 written as the document's formula and remembered, with no running cells.
+A line for several lives is written out as so many members, in its spot.
 It shares with pricing.py only reading and folding.
 """
 
@@ -39,7 +40,7 @@ def gross(premium, bound, worth, M):
 class Formulas:
     def __init__(self, data):
         fund = pricing.read_fund(data)
-        members = pricing.match_and_fold(fund)
+        members = [m for line in pricing.match_and_fold(fund) for m in [line] * line.lives]
         self.X, self.r, self.M = fund.horizon, fund.order, fund.deductible
         self.a, self.b = fund.frequency.death, fund.frequency.disability
         self.worth = fund.worth

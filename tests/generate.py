@@ -34,7 +34,10 @@ class Text:
     deductible: int = 2
     worth: int = 100
     rate_rows: tuple = ()
-    member_rows: tuple = ()
+    member_rows: tuple = ()             # (age, group, d, e, lives); given without lives, one life
+
+    def __post_init__(self):
+        object.__setattr__(self, "member_rows", tuple((*row, 1)[:5] for row in self.member_rows))
 
     def frequencies(self):
         given = self.frequency
@@ -47,7 +50,7 @@ class Text:
 
     def lines(self):
         rates = [b"rate=%d,%d,%d" % row for row in self.rate_rows]
-        members = [b"member=%d,%d,%d,%d" % row for row in self.member_rows]
+        members = [b"member=%d,%d,%d,%d,%d" % row for row in self.member_rows]
         return self.header_lines() + rates + members + [b"end=%d" % len(self.member_rows)]
 
     def header(self):
@@ -91,9 +94,9 @@ def level_of(case, rng, answer, most=MOST_LEVEL):
 # Small funds
 
 def one_truncation(order, s):
-    """The truncation figure of one group 1 member with q + i = s."""
+    """The truncation figure of one group 1 life with q + i = s."""
     line = pricing.Line(0, 0, b"", True)
-    return pricing.member_truncation(pricing.Folded(line, 1, 1, 1, s, 0), order)
+    return pricing.member_truncation(pricing.Folded(line, 1, 1, 1, s, 0, 1), order)
 
 
 def largest_rate(order, limit):
@@ -144,8 +147,20 @@ def random_frequencies(rng, a):
     return rng.choice(((a, b),) * 5 + ((b, a), (a, a), (0, b), (a, 0), (pricing.FREQUENCY_HIGH,) * 2))
 
 
+def random_lives(rng, count):
+    """Of so many lines: mostly 1, some more; of one fund in sixty as many in all as are allowed, or one more or fewer."""
+    lives = [rng.choice((1, 1, 1, 1, 1, 2, 3, rng.randint(2, 7))) for _ in range(count)]
+    if count and rng.randrange(60) == 0:
+        lives[rng.randrange(count)] += pricing.ALL_LIVES_HIGH - sum(lives) + rng.randint(-1, 1)
+    return lives
+
+
+def with_lives(rows, lives):
+    return tuple((*row[:4], number) for row, number in zip(rows, lives, strict=True))
+
+
 def random_text(rng, horizon=None, order=None, groups=None):
-    """A fund of up to four group 1 and three group 2 members."""
+    """A fund of up to four group 1 and three group 2 lines."""
     X = rng.randint(0, 8) if horizon is None else horizon
     r = rng.randint(1, pricing.ORDER_HIGH) if order is None else order
     ages = sorted(rng.sample(range(pricing.AGE_HIGH + 1), 6))
@@ -159,31 +174,53 @@ def random_text(rng, horizon=None, order=None, groups=None):
                 for _ in range(counts[1])]
     rng.shuffle(members)
     deductible, a = rng.randint(0, X + 1), rng.choice((0, 1, 250, 500, 1000, rng.randint(1, 2000)))
-    # The worth and b are drawn apart, so that a seed gives the funds that it gave without them.
+    # The worth, b and the lives are drawn apart, so that a seed gives the funds that it gave without them.
     return Text(horizon=X, order=r, deductible=deductible,
                 frequency=random_frequencies(random.Random(repr((rates, a))), a),
-                worth=random_worth(random.Random(repr(rates))),
-                rate_rows=tuple(sorted(rates)), member_rows=tuple(members))
+                worth=random_worth(random.Random(repr(rates))), rate_rows=tuple(sorted(rates)),
+                member_rows=with_lives(members, random_lives(random.Random(repr((rates, members))), len(members))))
 
 
 def equal_amounts(rng, text):
-    rows = [(age, group, max(d, 1), max(d, 1))
-            for age, group, d, _ in text.member_rows]
+    rows = [(age, group, max(d, 1), max(d, 1), lives)
+            for age, group, d, _, lives in text.member_rows]
     return replace(text, member_rows=tuple(rows))
 
 
 def zero_amounts(rng, text):
-    rows = [(age, group, *rng.choice(((0, e), (d, 0), (0, 0))))
-            for age, group, d, e in text.member_rows]
+    rows = [(age, group, *rng.choice(((0, e), (d, 0), (0, 0))), lives)
+            for age, group, d, e, lives in text.member_rows]
     return replace(text, member_rows=tuple(rows))
 
 
 def beyond_horizon(rng, text):
     X = text.horizon
     rows = [(age, group, *rng.choice(((d, X + 1), (X + 1, e), (X + 3, X + 2),
-                                      (pricing.AMOUNT_HIGH, 1))))
-            for age, group, d, e in text.member_rows]
+                                      (pricing.AMOUNT_HIGH, 1))), lives)
+            for age, group, d, e, lives in text.member_rows]
     return replace(text, member_rows=tuple(rows))
+
+
+def small_rates(rng, text, most):
+    """Rates that many lives may have."""
+    return replace(text, rate_rows=tuple((age, *random_rate(rng, most)) for age, _, _ in text.rate_rows))
+
+
+def many_lives(rng, text):
+    """Up to thirty lives a line, and some lines twice."""
+    rows = with_lives(text.member_rows, [rng.randint(1, 30) for _ in text.member_rows])
+    if rows and rng.randrange(2):
+        rows += (rng.choice(rows),)
+    return replace(small_rates(rng, text, 4000), member_rows=rows)
+
+
+def all_lives(rng, text):
+    """As many lives in all as are allowed or, of one fund in four, one more; lines in any order."""
+    rows = list(text.member_rows) or [(0, 1, 0, 0)]
+    cuts = sorted(rng.sample(range(1, pricing.ALL_LIVES_HIGH), len(rows) - 1))
+    lives = [end - begin for begin, end in zip([0, *cuts], [*cuts, pricing.ALL_LIVES_HIGH])]
+    lives[rng.randrange(len(rows))] += rng.randrange(4) == 0
+    return replace(small_rates(rng, text, 2000), member_rows=with_lives(rows, lives))
 
 
 def small_text(rng, kind):
@@ -213,16 +250,21 @@ def small_text(rng, kind):
         return random_text(rng, horizon=0)
     if kind == "long":
         return random_text(rng, horizon=rng.randint(12, 24))
+    if kind == "lives":
+        return many_lives(rng, random_text(rng, order=rng.randint(3, pricing.ORDER_HIGH)))
+    if kind == "alllives":
+        return all_lives(rng, random_text(rng, order=rng.randint(3, pricing.ORDER_HIGH)))
     return random_text(rng, order=int(kind.removeprefix("order")))
 
 
 SMALL_KINDS = (["any", "group1", "group2", "none", "equal", "zero", "beyond",
-                "frequency0", "deductible0", "deductibletop", "horizon0", "long"]
+                "frequency0", "deductible0", "deductibletop", "horizon0", "long",
+                "lives", "alllives"]
                + [f"order{r}" for r in range(1, pricing.ORDER_HIGH + 1)])
 
 
 def small_funds(seed, count):
-    """Funds of each kind in turn; almost all are accepted."""
+    """Funds of each kind in turn; most are accepted."""
     rng = random.Random(seed)
     cases = []
     for index in range(count):
@@ -270,7 +312,7 @@ def step_funds(seed, count):
 
 
 def large_funds(seed, count):
-    """Many members and longer horizons; too large for the exact calculation."""
+    """Many lines and longer horizons; too large for the exact calculation."""
     rng = random.Random(seed)
     cases = []
     for index in range(count):
@@ -294,7 +336,18 @@ def one_by_one_text(rng):
         q = rng.choice((0, total, rng.randint(0, total)))
         rates.append((age, q, total - q))
     members = tuple((rng.choice(ages), 1, rng.randint(0, X // 4), rng.randint(0, X // 4)) for _ in range(count))
-    return Text(horizon=X, order=r, deductible=rng.randint(0, X + 1), rate_rows=tuple(rates), member_rows=members)
+    deductible = rng.randint(0, X + 1)
+    return Text(horizon=X, order=r, deductible=deductible, rate_rows=tuple(rates), member_rows=in_fewer_lines(rng, members))
+
+
+def in_fewer_lines(rng, rows):
+    """Lines for several lives, with as many lives in all as there are rows."""
+    made, left = [], len(rows)
+    while left:
+        lives = min(left, rng.choice((1, 1, 2, rng.randint(1, 12))))
+        made.append((*rows[len(made)][:4], lives))
+        left -= lives
+    return tuple(made)
 
 
 def one_by_one_funds(seed, count):
@@ -304,7 +357,7 @@ def one_by_one_funds(seed, count):
 
 
 def full_fund():
-    """As many rates and members as are allowed, with amounts of up to five digits: some 26,000 bytes."""
+    """As many rates and members as are allowed, of one life each, with amounts of up to five digits: some 26,000 bytes."""
     rng = random.Random(2030)
     rates = tuple((age, 200 + 30 * age, 100 + 7 * age) for age in range(pricing.AGE_HIGH + 1))
     members = tuple((rng.randint(20, 100), rng.randint(1, 2), rng.choice((0, rng.randint(1, 250), rng.randint(10000, 65535))),
@@ -372,9 +425,25 @@ def row_limits():
             rate_rows=tuple((age, *rate) for age, rate in enumerate(whole)),
             member_rows=((0, 2, 1, 2), (1, 2, 1, 2), (2, 2, 1, 2), (0, 1, 0, 5))),
         "no-rates-no-members": Text(),
+        "1000-lives-one-line": replace(ONE_MEMBER, rate_rows=every_age, member_rows=((0, 1, 3, 2, 1000),)),
+        "1000-lives-one-line-group2": replace(ONE_MEMBER, rate_rows=every_age, member_rows=((0, 2, 3, 2, 1000),)),
+        "1000-lives-ten-lines": replace(ONE_MEMBER, rate_rows=every_age, horizon=9, member_rows=with_lives(many[:10], [100] * 10)),
+        "1000-lives-two-lines": replace(ONE_MEMBER, rate_rows=every_age, member_rows=((9, 1, 2, 2, 999), (8, 2, 1, 1))),
+        "1000-lives-two-lines-turned": replace(ONE_MEMBER, rate_rows=every_age, member_rows=((8, 2, 1, 1), (9, 1, 2, 2, 999))),
+        "1000-lives-folded": replace(ONE_MEMBER, rate_rows=((0, 1000000, 0),), member_rows=((0, 1, 0, 0, 1000),)),
     }
     return [Case(f"limit-{name}", text.data(), ACCEPTED)
             for name, text in texts.items()]
+
+
+def in_one_line(text):
+    """The same members: neighbouring lines that are equal become one, with their lives added."""
+    rows = []
+    for *row, lives in text.member_rows:
+        if rows and rows[-1][:4] == tuple(row):
+            lives += rows.pop()[4]
+        rows.append((*row, lives))
+    return replace(text, member_rows=tuple(rows))
 
 
 def load_text(difference):
@@ -437,23 +506,17 @@ def wide_search(bound, folded):
 
 
 def figure_limits():
-    cases = [
-        Case("limit-load-exact", load_text(0).data(), ACCEPTED),
-        Case("limit-load-below", load_text(-1).data(), ACCEPTED),
-        Case("limit-load-above", load_text(1).data(), refused(7)),
-    ]
+    made = [("load-exact", load_text(0), ACCEPTED), ("load-below", load_text(-1), ACCEPTED),
+            ("load-above", load_text(1), refused(7))]
     for order in (1, 3, 7, 12):
-        exact = truncation_text(pricing.TRUNCATION_HIGH, order)
-        above = truncation_text(pricing.TRUNCATION_HIGH + 1, order)
-        cases.append(Case(f"limit-truncation-exact-{order}", exact.data(), ACCEPTED))
-        cases.append(Case(f"limit-truncation-above-{order}", above.data(), refused(8)))
+        made.append((f"truncation-exact-{order}", truncation_text(pricing.TRUNCATION_HIGH, order), ACCEPTED))
+        made.append((f"truncation-above-{order}", truncation_text(pricing.TRUNCATION_HIGH + 1, order), refused(8)))
     for folded in (0, 3):
         q = wide_search(pricing.BOUND_HIGH, folded)
-        cases.append(Case(f"limit-wide-not-{folded}",
-                          wide_text(q, folded).data(), ACCEPTED))
-        cases.append(Case(f"limit-wide-just-{folded}",
-                          wide_text(q + 1, folded).data(), refused(10, 6)))
-    return cases
+        made.append((f"wide-not-{folded}", wide_text(q, folded), ACCEPTED))
+        made.append((f"wide-just-{folded}", wide_text(q + 1, folded), refused(10, 6)))
+    made += [(f"{name}-in-one-line", in_one_line(text), expected) for name, text, expected in made]
+    return [Case(f"limit-{name}", text.data(), expected) for name, text, expected in made]
 
 
 def length_limits():
@@ -474,7 +537,7 @@ def length_limits():
 
 
 def longest_text():
-    """No file without a refusal 1 or 2 is longer; its load is above the limit."""
+    """No file without a refusal 1 or 2 is longer; its load is above the limit.  More lives on a line are fewer lines."""
     return Text(2999, 2999, 4095, 12, 5000, 4096, 9999999,
                 tuple((age, 500000, 500000) for age in range(pricing.RATE_ROWS)),
                 ((120, 2, 65535, 65535),) * pricing.MEMBER_ROWS)
@@ -489,7 +552,7 @@ def limit_funds():
 
 GOOD = Text(horizon=5, order=5, frequency=(400, 700), deductible=3,
             rate_rows=((30, 20000, 10000), (40, 30000, 0), (50, 0, 45000)),
-            member_rows=((40, 1, 2, 3), (50, 2, 1, 1), (30, 1, 4, 1)))
+            member_rows=((40, 1, 2, 3, 1), (50, 2, 1, 1, 2), (30, 1, 4, 1, 3)))
 
 
 def with_line(lines, place, line):
@@ -565,7 +628,7 @@ def long_damage():
     yield "form-huge-after", GOOD.data() + b" " * 70000, refused(1, 15, b" " * 70000)
     yield "form-many-line-feeds", b"\n" * 70000, refused(1, 1)
     too_many = replace(GOOD, member_rows=((40, 1, 0, 0),) * 4000).lines()
-    yield "range-4000-members", joined(too_many), refused(2, 1011, b"member=40,1,0,0")
+    yield "range-4000-members", joined(too_many), refused(2, 1011, b"member=40,1,0,0,1")
 
 
 def cut_damage():
@@ -677,9 +740,10 @@ RANGES = {
         (b"970001", b"1000001")),
     10: ((b"40", b"0", b"121"), (b"1000001", b"955001"), (b"1000001",)),
     11: ((b"121", b"9999999"), (b"0", b"3", b"12", b"9999999"),
-         (b"65536", b"9999999"), (b"65536", b"9999999")),
-    13: ((b"121", b"9999999"), (b"0", b"3"), (b"65536",), (b"65536",)),
-    14: ((b"0", b"2", b"4", b"9999999"),),
+         (b"65536", b"9999999"), (b"65536", b"9999999"), (b"0", b"1001", b"9999999")),
+    12: ((b"121",), (b"0",), (b"65536",), (b"65536",), (b"0", b"1000", b"1001")),
+    13: ((b"121", b"9999999"), (b"0", b"3"), (b"65536",), (b"65536",), (b"0", b"998", b"1000", b"9999999")),
+    14: ((b"0", b"2", b"4", b"6", b"9999999"),),
 }
 
 
@@ -699,24 +763,60 @@ def range_damage():
     bad = many[:128] + [b"rate=121,0,00"] + many[128:]
     yield "form-122-rates", joined(bad), refused(1, 129, b"rate=121,0,00")
     too_many = replace(GOOD, member_rows=((40, 1, 0, 0),) * 1001).lines()
-    yield "range-1001-members", joined(too_many), refused(2, 1011, b"member=40,1,0,0")
-    bad = with_line(too_many, 1011, b"member=40,1,0,0 ")
-    yield "form-1001-members", joined(bad), refused(1, 1011, b"member=40,1,0,0 ")
+    yield "range-1001-members", joined(too_many), refused(2, 1011, b"member=40,1,0,0,1")
+    bad = with_line(too_many, 1011, b"member=40,1,0,0,1 ")
+    yield "form-1001-members", joined(bad), refused(1, 1011, b"member=40,1,0,0,1 ")
     open_end = joined(too_many[:1010]) + too_many[1010]
-    yield "form-1001-cut", open_end, refused(1, 1011, b"member=40,1,0,0")
+    yield "form-1001-cut", open_end, refused(1, 1011, b"member=40,1,0,0,1")
+
+
+# Lines in the place of the first member, with their refusal.
+FAULTY_LIVES = (
+    (1, b"member=40,1,2,3"), (1, b"member=40,1,2,3,1,1"), (1, b"member=40,1,2,3,"), (1, b"member=40,1,2,3,,1"), (1, b"member=,40,1,2,3"),
+    (1, b"member=40,1,2,3,01"), (1, b"member=40,1,2,3,00"), (1, b"member=40,1,2,3,+1"), (1, b"member=40,1,2,3,1.0"), (1, b"member=40,1,2,3, 1"),
+    (1, b"member=40,1,2,3,1 "), (1, b"member=40,1,2,3;1"), (1, b"member=40,1,2,3,x"), (1, b"member=40,1,2,3,10000000"), (1, b"members=40,1,2,3,1"),
+    (1, b"member=121,3,65536,65536"), (1, b"member=40,1,2,3,1001,"), (1, b"member=121,1,2,3,x"), (1, b"member=40,1,2,3,lives=1"),
+    (2, b"member=40,1,2,3,0"), (2, b"member=40,1,2,3,1001"), (2, b"member=40,1,2,3,9999999"), (2, b"member=121,1,2,3,1000"),
+    (2, b"member=40,3,2,3,0"),
+)
+
+
+def lives_damage():
+    """The lives of a line, and the lives in all."""
+    lines = GOOD.lines()
+    for number, line in FAULTY_LIVES:
+        yield (f"{'form' if number == 1 else 'range'}-{line.decode()}",
+               joined(with_line(lines, 11, line)), refused(number, 11, line))
+
+    def made(*lives):
+        return replace(GOOD, member_rows=with_lives(((40, 1, 0, 0),) * len(lives), lives)).lines()
+
+    for lives, place in (((999, 2), 12), ((2, 999), 12), ((1000, 1), 12), ((1, 1000), 12), ((1000, 1000), 12), ((500, 500, 1), 13),
+                         ((500, 1, 500), 13), ((1, 998, 2), 13), ((999, 2, 5), 12), ((1000, 1, 0), 12), ((1, 0, 1000), 12),
+                         ((333, 334, 334), 13), ((100,) * 11, 21)):
+        wrong = made(*lives)
+        yield f"range-lives-{'-'.join(map(str, lives))}", joined(wrong), refused(2, place, wrong[place - 1])
+    past = made(999, 2)
+    yield "range-lives-before-a-later-form", joined(with_line(past, 13, b"end=x")), refused(2, 12, past[11])
+    yield "form-before-lives-in-all", joined(with_line(past, 12, past[11] + b",")), refused(1, 12, past[11] + b",")
+    yield "form-lives-in-all-open", joined(past[:11]) + past[11], refused(1, 12, past[11])
+    yield "range-lives-before-end", joined(with_line(past, 13, b"end=1001")), refused(2, 12, past[11])
+    yield "range-end-counts-lives", joined(made(2, 3)[:-1] + [b"end=5"]), refused(2, 13, b"end=5")
+    yield "range-end-counts-lives-of-one-line", joined(made(1000)[:-1] + [b"end=1000"]), refused(2, 12, b"end=1000")
+    yield "range-lives-before-editions", joined(with_line(past, 2, b"members=2031")), refused(2, 12, past[11])
 
 
 def precedence_damage():
     """Form before range within a line; the first faulty line decides."""
     lines = GOOD.lines()
     both = {1: b"rates=03000", 3: b"horizon=4096\r", 4: b"order=13,1", 5: b"frequency=5001,01", 6: b"deductible= 4097",
-            7: b"worth=0,", 8: b"rate=121,0,00", 9: b"rate=30,2000000,-1", 11: b"member=40,3,1,00",
-            13: b"member=121,3,65536,65536,1", 14: b"end=04"}
+            7: b"worth=0,", 8: b"rate=121,0,00", 9: b"rate=30,2000000,-1", 11: b"member=40,3,1,00,1",
+            13: b"member=121,3,65536,65536,1001,1", 14: b"end=04"}
     for place, line in both.items():
         yield (f"form-before-range-{place}", joined(with_line(lines, place, line)),
                refused(1, place, line))
     for place, line in ((3, b"horizon=9999"), (5, b"frequency=0,5001"), (7, b"worth=0"), (8, b"rate=121,0,0"),
-                        (11, b"member=0,0,0,0"), (14, b"end=9")):
+                        (11, b"member=0,0,0,0,0"), (14, b"end=9")):
         yield (f"form-open-out-of-range-{place}", joined(lines[:place - 1]) + line,
                refused(1, place, line))
     first = with_line(with_line(lines, 3, b"horizon=4096"), 5, b"frequency=1000")
@@ -746,27 +846,36 @@ def later_refusals():
     yield "deductible-4", made(deductible=7, member_rows=(none,)), refused(4)
     yield "deductible-4-top", made(horizon=4094, deductible=4096), refused(4)
     yield ("unmatched-5-after-half", made(member_rows=(one, none)),
-           refused(5, 12, b"member=29,2,0,0"))
+           refused(5, 12, b"member=29,2,0,0,1"))
     yield ("unmatched-5-first-of-two", made(member_rows=(two, none, (0, 1, 1, 1))),
-           refused(5, 12, b"member=29,2,0,0"))
+           refused(5, 12, b"member=29,2,0,0,1"))
     yield ("unmatched-5-frequency-0", made(frequency=0, member_rows=((0, 2, 5, 5),)),
-           refused(5, 11, b"member=0,2,5,5"))
+           refused(5, 11, b"member=0,2,5,5,1"))
     yield ("unmatched-5-no-rates", made(rate_rows=(), member_rows=((0, 1, 0, 0),)),
-           refused(5, 8, b"member=0,1,0,0"))
+           refused(5, 8, b"member=0,1,0,0,1"))
+    yield ("unmatched-5-several-lives", made(member_rows=((50, 2, 1, 1, 7), (29, 2, 0, 0, 3))),
+           refused(5, 12, b"member=29,2,0,0,3"))
     yield ("half-6-before-load", made(member_rows=(two, two, two, one)),
-           refused(6, 14, b"member=30,1,1,1"))
+           refused(6, 14, b"member=30,1,1,1,1"))
+    yield ("half-6-several-lives", made(member_rows=((40, 1, 1, 0, 500), (50, 2, 1, 1, 300), (30, 1, 1, 1, 200))),
+           refused(6, 13, b"member=30,1,1,1,200"))
     yield ("half-6-whole", made(member_rows=((50, 1, 3, 3),)),
-           refused(6, 11, b"member=50,1,3,3"))
+           refused(6, 11, b"member=50,1,3,3,1"))
     yield ("half-6-folded-half", made(member_rows=((50, 1, 0, 3),)),
-           refused(6, 11, b"member=50,1,0,3"))
+           refused(6, 11, b"member=50,1,0,3,1"))
     yield ("half-6-beyond", made(member_rows=((30, 1, 65535, 65535),)),
-           refused(6, 11, b"member=30,1,65535,65535"))
+           refused(6, 11, b"member=30,1,65535,65535,1"))
     yield "half-folded", made(member_rows=((50, 1, 0, 0), (30, 1, 0, 0))), ACCEPTED
     yield "load-7-before-order", made(member_rows=((40, 1, 1, 0), two, two)), refused(7)
+    # 2^64 units are some 18 x 10^18: a line's E is some 10^20 here, and its mean some 3 x 10^19 or 3 x 10^20
+    yield "load-7-1000-lives", made(order=1, member_rows=((40, 1, 65535, 0, 1000),)), refused(7)
+    yield "load-7-1000-lives-group2", made(frequency=5000, member_rows=((50, 2, 65535, 65535, 1000),)), refused(7)
+    yield "load-7-two-lives", made(member_rows=((40, 1, 1, 0), (50, 2, 1, 1, 2))), refused(7)
     yield "order-8-just-below-half", made(member_rows=((40, 1, 1, 0),)), refused(8)
     yield "order-8-folded-quarter", made(order=3, member_rows=((30, 1, 1, 0),)), refused(8)
     yield "group-2-whole", made(horizon=1, deductible=0, member_rows=(two,)), ACCEPTED
     yield "wide-10", made(**wide), refused(10, 6)
+    yield "wide-10-one-line", made(**wide | dict(member_rows=((50, 2, 1, 0, 16),))), refused(10, 6)
 
 
 def refusal_damage():
@@ -789,14 +898,19 @@ def short_damage():
     ]
 
 
+def damaged(*kinds):
+    return [Case(f"damaged-{name}", data, expected) for kind in kinds for name, data, expected in kind()]
+
+
+def lives_damaged():
+    return damaged(lives_damage)
+
+
 def damaged_files():
     """Files with a known refusal, each way of it."""
-    cases = [Case("damaged-good", GOOD.data(), ACCEPTED)]
-    for kind in (spelling_damage, long_damage, cut_damage, order_damage, frequency_damage, worth_damage,
-                 trailing_damage, range_damage, precedence_damage, refusal_damage):
-        cases += [Case(f"damaged-{name}", data, expected)
-                  for name, data, expected in kind()]
-    return cases + short_damage()
+    return [Case("damaged-good", GOOD.data(), ACCEPTED)] + damaged(
+        spelling_damage, long_damage, cut_damage, order_damage, frequency_damage, worth_damage, trailing_damage,
+        range_damage, lives_damage, precedence_damage, refusal_damage) + short_damage()
 
 
 # Random damage
@@ -856,7 +970,7 @@ def change_number(rng, data):
     lines = data.split(b"\n")[:-1]
     at = rng.randrange(len(lines))
     count = len(numbers_in(lines[at])[1])
-    number = rng.choice((0, 1, 2, 3, 12, 13, 120, 121, 1000, 4095, 4096, 4097, 5000,
+    number = rng.choice((0, 1, 2, 3, 12, 13, 120, 121, 999, 1000, 1001, 4095, 4096, 4097, 5000,
                          65535, 65536, 499999, 500000, 1000000, 1000001, 9999999))
     lines[at] = with_number(lines[at], rng.randrange(count), b"%d" % number)
     return joined(lines)

@@ -43,6 +43,10 @@ def case_of(name, text, **known):
 
 # Cells
 
+AMOUNTS = (2, 3)        # of the five columns of a member row
+LIVES = 4
+
+
 def blank(bits=BLANKS[0]):
     """The bytes of a NaN; a float would not keep every payload."""
     return struct.pack("<Q", bits)
@@ -78,7 +82,7 @@ def other_zeros(rng, case):
     """Zeros with a sign, and blanks in amounts of 0."""
     zero = cell(0.0)
     rates = [cell(MINUS_ZERO) if one == zero and rng.randrange(2) else one for one in cells_in(case.rates)]
-    members = [rng.choice((zero, cell(MINUS_ZERO), random_blank(rng) if k % 4 >= 2 else zero)) if one == zero else one
+    members = [rng.choice((zero, cell(MINUS_ZERO), random_blank(rng) if k % 5 in AMOUNTS else zero)) if one == zero else one
                for k, one in enumerate(cells_in(case.members))]
     return replace(case, rates=b"".join(rates), members=b"".join(members))
 
@@ -87,7 +91,7 @@ def near(rng, x):
     """A number that a careless reader may take for x, or any that is special; at times x itself."""
     near_x = (math.nextafter(x, math.inf), math.nextafter(x, -math.inf), x + 0.5, x + 1e-9, -x, x + 256, x + 2.0 ** 16,
               x + 2.0 ** 32, x * 1e-6, x * 1e6, ctypes.c_float(x).value, x)
-    special = (0.0, MINUS_ZERO, 0.5, 1.0, 2.0, 3.0, 1.5, -1.0, 120.0, 120.99999999999999, 121.0, 65535.0, 65535.5, 65536.0,
+    special = (0.0, MINUS_ZERO, 0.5, 1.0, 2.0, 3.0, 1.5, -1.0, 120.0, 120.99999999999999, 121.0, 999.5, 1000.0, 1001.0, 65535.0, 65535.5, 65536.0,
                1e-6, 0.999999, 1e300, 2.0 ** 53, 2.0 ** 63, 2.0 ** 64, math.inf, -math.inf, LEAST, -LEAST, LEAST_NORMAL)
     return rng.choice((rng.choice(near_x), rng.choice(near_x), rng.choice(special)))
 
@@ -113,12 +117,21 @@ def other_rate(rng, case):
     return replace(case, rates=with_cell(case.rates, 3, number, column, k / 1000000))
 
 
+def other_lives(rng, case):
+    """The lives of a member row: taken or just not, past the limit in all, or a blank."""
+    if len(case.members) < 40:
+        return case
+    number = rng.randint(1, len(case.members) // 40)
+    lives = rng.choice((1, 2, 3, 998, 999, 1000, 1001, 0, 1.5, MINUS_ZERO, -1, math.nextafter(1000, 2000), random_blank(rng)))
+    return replace(case, members=with_cell(case.members, 5, number, LIVES, lives))
+
+
 def cut(rng, case):
     """The end of either sheet cut off, or some bytes more."""
     name = rng.choice(("rates", "members"))
     sheet = getattr(case, name)
     if rng.randrange(2):
-        return replace(case, **{name: sheet + rng.choice((sheet, bytes(31)))[:rng.randint(1, 31)]})
+        return replace(case, **{name: sheet + rng.choice((sheet, bytes(39)))[:rng.randint(1, 39)]})
     return replace(case, **{name: sheet[:rng.randrange(len(sheet) + 1)]})
 
 
@@ -133,7 +146,7 @@ def changed_bits(rng, case):
 
 def moved_rows(rng, case):
     """Two rows of a sheet exchanged, one written twice, or one left out."""
-    name, size = rng.choice((("rates", 24), ("members", 32)))
+    name, size = rng.choice((("rates", 24), ("members", 40)))
     sheet = getattr(case, name)
     rows = [sheet[at:at + size] for at in range(0, len(sheet), size)]
     if not rows:
@@ -155,11 +168,11 @@ def many_rows(rng, case):
         rates = b"".join(row(age, 1e-6, 2e-6) for age in range(121)) + rng.choice((b"", row(120, 0, 0), row(0, blank(), 0)))
         return replace(case, rates=rates)
     number = rng.choice((1000, 1001))
-    return replace(case, members=(row(120, 1, 0, blank()) * number)[:32 * number - rng.choice((0, 0, 1, 32))])
+    return replace(case, members=(row(120, 1, 0, blank(), 1) * number)[:40 * number - rng.choice((0, 0, 1, 40))])
 
 
 def any_bytes(rng, case):
-    return replace(case, rates=rng.randbytes(rng.choice((0, 24, 24, rng.randrange(60)))), members=rng.randbytes(rng.randrange(80)))
+    return replace(case, rates=rng.randbytes(rng.choice((0, 24, 24, rng.randrange(60)))), members=rng.randbytes(rng.randrange(100)))
 
 
 def sheets_swapped(rng, case):
@@ -182,8 +195,8 @@ def other_editions(rng, case):
 
 # Most cases are taken or have one cell changed.
 WAYS = (other_zeros, near_miss, other_zeros, near_miss, other_rate, cut, moved_rows, near_miss, changed_bits, damaged_header,
-        other_zeros, near_miss, many_rows, any_bytes, sheets_swapped, most_byte_first)
-AGAIN = (other_zeros, near_miss, near_miss, cut, other_rate, moved_rows, damaged_header, other_editions)
+        other_zeros, near_miss, many_rows, any_bytes, sheets_swapped, most_byte_first, other_lives)
+AGAIN = (other_zeros, near_miss, near_miss, cut, other_rate, moved_rows, other_lives, damaged_header, other_editions)
 
 
 def random_text(rng, index):

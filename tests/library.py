@@ -4,7 +4,8 @@
 
 Builds the library (rt, cc) and prices N files by both: whole funds, funds at
 each limit, funds with rates for some ages, funds about the edges of the loading, funds
-with two frequencies, funds with wide bounds, cut and damaged ones, each with a level.  Then N funds as sheets:
+with two frequencies, funds with wide bounds, funds with lines for several lives, cut and damaged ones, each with a
+level.  Then N funds as sheets:
 those of sheet_funds.py, and generated ones, taken, with near misses, cut and damaged.
 Last every rate: each of the 1,000,001 quotients is taken with its k, and neither of its
 neighbours is.
@@ -26,6 +27,7 @@ import document_funds
 import frequency_funds
 import generate
 import generate_sheets
+import lives_funds
 import pricing
 import quantile_funds
 import rate_funds
@@ -112,7 +114,7 @@ def file_cases(count, seed):
     known = quantile_funds.cases(quantile_funds.ROWS + quantile_funds.MORE_ROWS)
     known += [generate.Case(name, text.data()) for name, text in document_funds.FUNDS.items()]
     known += rate_funds.cases() + tariff_funds.cases() + triangle_funds.cases() + frequency_funds.cases()
-    known += distribution_funds.cases(distribution_funds.ALL_ROWS)
+    known += distribution_funds.cases(distribution_funds.ALL_ROWS) + lives_funds.cases()
     known += generate.limit_funds() + generate.damaged_files()
     known += generate.step_funds(seed, 100)
     for case in known[:count]:

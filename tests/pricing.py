@@ -1,7 +1,9 @@
 """The answer of a pricing call, in whole numbers, in the order of document 01.
 
-The quantile, the rate in force, the gross premium, the two frequencies and the bound
-of the distribution function are those of document 02.
+The quantile, the rate in force, the gross premium, the two frequencies, the bound
+of the distribution function and the lines for several lives are those of document 02.
+A line is never written out: what it adds is multiplied by its lives, and the start is
+multiplied by its p as often as it has lives.
 
 price(data, lengths, level) gives every figure of a call for any bytes, any
 lengths of the five result slices and any level.  listing(answer) gives the
@@ -28,6 +30,8 @@ MEMBER_ROWS = 1000
 AGE_HIGH = 120
 RATE_HIGH = 1000000
 AMOUNT_HIGH = 65535
+LIVES_LOW, LIVES_HIGH = 1, 1000     # of a line
+ALL_LIVES_HIGH = 1000
 DIGITS = 7
 HALF = 500000
 LOAD_HIGH = 8 * 10 ** 12
@@ -95,6 +99,7 @@ class Member:
     group: int
     d: int
     e: int
+    lives: int           # the line stands for so many copies of itself
 
 
 @dataclass(frozen=True)
@@ -183,11 +188,22 @@ def rate_in_range(rate_rows, age, q, i):
     return q <= RATE_HIGH and i <= RATE_HIGH and q + i <= RATE_HIGH
 
 
-def member_in_range(member_rows, age, group, d, e):
+def lives_in_all(members):
+    return sum(m.lives for m in members)
+
+
+def member_in_range(member_rows, age, group, d, e, lives):
     if len(member_rows) == MEMBER_ROWS:
+        return False
+    if not LIVES_LOW <= lives <= LIVES_HIGH or lives_in_all(member_rows) + lives > ALL_LIVES_HIGH:
         return False
     return (age <= AGE_HIGH and group in (1, 2)
             and d <= AMOUNT_HIGH and e <= AMOUNT_HIGH)
+
+
+def end_count(member_rows):
+    """Lines, not lives."""
+    return len(member_rows)
 
 
 def read_rows(reader):
@@ -196,7 +212,7 @@ def read_rows(reader):
     while True:
         line = reader.take()
         rate = numbers_of(line, b"rate=", 3)
-        member = numbers_of(line, b"member=", 4)
+        member = numbers_of(line, b"member=", 5)
         end = numbers_of(line, b"end=", 1)
         if rate is not None and not member_rows:
             if not rate_in_range(rate_rows, *rate):
@@ -207,7 +223,7 @@ def read_rows(reader):
                 raise line.refusal(RANGE)
             member_rows.append(Member(line, *member))
         elif end is not None:
-            if end[0] != len(member_rows):
+            if end[0] != end_count(member_rows):
                 raise line.refusal(RANGE)
             return tuple(rate_rows), tuple(member_rows)
         else:
@@ -244,13 +260,14 @@ def read_fund(data):
 
 @dataclass(frozen=True)
 class Folded:
-    """A member with its rates after folding."""
+    """A member line with its rates after folding."""
     line: Line
     group: int
     d: int
     e: int
     q: int
     i: int
+    lives: int
 
     @property
     def p(self):
@@ -260,7 +277,7 @@ class Folded:
 def fold(member, q, i):
     """If d = 0, q counts as 0; if e = 0, i counts as 0."""
     return Folded(member.line, member.group, member.d, member.e,
-                  q if member.d else 0, i if member.e else 0)
+                  q if member.d else 0, i if member.e else 0, member.lives)
 
 
 def rate_in_force(rate_rows, age):
@@ -274,7 +291,7 @@ def rate_in_force(rate_rows, age):
 
 
 def match_and_fold(fund):
-    """Every member with its folded rates, in file order; refusal 5."""
+    """Every member line with its folded rates, in file order; refusal 5."""
     members = []
     for member in fund.member_rows:
         rate = rate_in_force(fund.rate_rows, member.age)
@@ -293,21 +310,21 @@ def group_2(members):
 
 
 def death_weight(m, frequency):
-    """q x a x 1000, in units."""
+    """q x a x 1000 of one life, in units."""
     return m.q * frequency.death * 1000
 
 
 def disability_weight(m, frequency):
-    """i x b x 1000, in units."""
+    """i x b x 1000 of one life, in units."""
     return m.i * frequency.disability * 1000
 
 
 def group_2_weights(members, frequency):
-    """The pairs (amount, weight in units) of group 2."""
+    """The pairs (amount, weight in units) of group 2; a line's weight is that of all its lives."""
     pairs = []
     for m in group_2(members):
-        pairs.append((m.d, death_weight(m, frequency)))
-        pairs.append((m.e, disability_weight(m, frequency)))
+        pairs.append((m.d, m.lives * death_weight(m, frequency)))
+        pairs.append((m.e, m.lives * disability_weight(m, frequency)))
     return pairs
 
 
@@ -323,8 +340,8 @@ def check_half(members):
 
 
 def load(members, lam):
-    """Lambda plus, over group 1, up(10^12 x (q+i)/p)."""
-    return lam + sum(up(UNIT * (m.q + m.i), m.p) for m in group_1(members))
+    """Lambda plus, over the lives of group 1, up(10^12 x (q+i)/p)."""
+    return lam + sum(m.lives * up(UNIT * (m.q + m.i), m.p) for m in group_1(members))
 
 
 def truncation_steps(order):
@@ -333,6 +350,7 @@ def truncation_steps(order):
 
 
 def member_truncation(m, order):
+    """Of one life."""
     w = UNIT
     for _ in range(truncation_steps(order)):
         w = up(w * (m.q + m.i), m.p)
@@ -340,12 +358,12 @@ def member_truncation(m, order):
 
 
 def truncation(members, order):
-    return sum(member_truncation(m, order) for m in group_1(members))
+    return sum(m.lives * member_truncation(m, order) for m in group_1(members))
 
 
 def mean(members, frequency):
     """Amounts beyond X count here."""
-    ones = sum((m.q * m.d + m.i * m.e) * MILLION for m in group_1(members))
+    ones = sum(m.lives * (m.q * m.d + m.i * m.e) * MILLION for m in group_1(members))
     return ones + sum(amount * weight for amount, weight in group_2_weights(members, frequency))
 
 
@@ -359,11 +377,11 @@ def is_placed(m, n, l, x, horizon):
     return x <= horizon and (m.q > 0 or l == 0) and (m.i > 0 or l == n)
 
 
-def place_term(D, H, n, x, v):
-    """A placed term is added to D for odd n, subtracted for even n; H gains x."""
+def place_term(D, H, n, x, v, lives):
+    """A placed term is added to D for odd n, subtracted for even n; H gains x.  All that for each life."""
     term = nearest(x * v, n)
-    D[x] += term if n % 2 else -term
-    H[x] += x
+    D[x] += lives * (term if n % 2 else -term)
+    H[x] += lives * x
 
 
 def add_group_1_member(D, H, m, order, horizon):
@@ -373,7 +391,7 @@ def add_group_1_member(D, H, m, order, horizon):
         for l in range(n + 1):
             x = m.d * l + m.e * (n - l)
             if is_placed(m, n, l, x, horizon):
-                place_term(D, H, n, x, row[l])
+                place_term(D, H, n, x, row[l], m.lives)
 
 
 def add_group_2(D, members, frequency, horizon):
@@ -394,13 +412,20 @@ def transform(members, fund):
 # The recursion and its bounds
 
 def start(members, lam, horizon):
-    """f(0): the alternating sum of t(0) to t(63), then times each p."""
+    """f(0): the alternating sum of t(0) to t(63), then times each p, line after line."""
     t = UNIT
     total = t
     for n in range(1, START_TERMS + 1):
         t = nearest(t * lam, n * UNIT)
         total += -t if n % 2 else t
     for m in start_members(members, horizon):
+        total = times_p(total, m)
+    return total
+
+
+def times_p(total, m):
+    """A line's factor, once for each life, rounded each time."""
+    for _ in range(m.lives):
         total = nearest(total * m.p, MILLION)
     return total
 
@@ -411,13 +436,13 @@ def start_members(members, horizon):
 
 
 def start_bound(members, lam):
-    """R(0): the sum of c(0) to c(63) plus the number of group 1 members."""
+    """R(0): the sum of c(0) to c(63) plus the number of group 1 lives."""
     total = c = 0
     if lam:
         for n in range(1, START_TERMS + 1):
             c = up(c * lam, n * UNIT) + 1
             total += c
-    return total + len(group_1(members))
+    return total + lives_in_all(group_1(members))
 
 
 def product_bound(k, D_k, H_k, f_value, R_value):

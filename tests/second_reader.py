@@ -16,7 +16,7 @@ HEADER = [(re.compile(key + b"=" + b",".join([NUMBER] * many)), low, high) for k
     (b"order", 1, 1, 12), (b"frequency", 2, 0, 5000), (b"deductible", 1, 0, 4096),
     (b"worth", 1, 1, 9999999))]
 RATE = re.compile(b"rate=" + b",".join([NUMBER] * 3))
-MEMBER = re.compile(b"member=" + b",".join([NUMBER] * 4))
+MEMBER = re.compile(b"member=" + b",".join([NUMBER] * 5))
 END = re.compile(b"end=" + NUMBER)
 
 
@@ -31,9 +31,10 @@ def rate_holds(row, rates):
 
 
 def member_holds(row, members):
-    age, group, d, e = row
-    return (len(members) < 1000 and age <= 120 and 1 <= group <= 2
-            and max(d, e) <= 65535)
+    """With 1 life or more on each line, the 1,001st line passes 1,000 lives too."""
+    age, group, d, e, lives = row
+    return (age <= 120 and 1 <= group <= 2 and max(d, e) <= 65535
+            and 1 <= lives <= 1000 - sum(other[4] for other in members))
 
 
 def first_fault(data):
@@ -111,12 +112,12 @@ def number_in(cell, kind):
         return None
     if kind == "rate":
         return next(iter(rates_equal_to(value)), None)
-    low, high = {"age": (0, 120), "group": (1, 2), "amount": (0, 65535)}[kind]
+    low, high = {"age": (0, 120), "group": (1, 2), "amount": (0, 65535), "lives": (1, 1000)}[kind]
     return int(value) if value.denominator == 1 and low <= value <= high else None
 
 
 RATE_FIELDS = ("age", "rate", "rate")
-MEMBER_FIELDS = ("age", "group", "amount", "amount")
+MEMBER_FIELDS = ("age", "group", "amount", "amount", "lives")
 
 
 def row_of(sheet, number, fields):
@@ -144,7 +145,7 @@ def first_sheet_fault(header, rates, members):
         return fault
     if header.count(b"\n") > len(HEADER) or not header.endswith(b"\n"):
         return 1, len(HEADER) + 1
-    before = {3: [], 4: []}
+    before = {3: [], 5: []}
     for place, row in enumerate(rows_of(rates, RATE_FIELDS) + rows_of(members, MEMBER_FIELDS), 1):
         if row is None:
             return 11, place

@@ -104,8 +104,8 @@ def every_rate_checks():
 
 
 def whole_checks():
-    """Every age and amount is taken, and no neighbour of one."""
-    for name, low, high in (("age", 0, 120), ("group", 1, 2), ("amount", 0, 65535)):
+    """Every age, amount and number of lives is taken, and no neighbour of one."""
+    for name, low, high in (("age", 0, 120), ("group", 1, 2), ("amount", 0, 65535), ("number of lives", 1, 1000)):
         numbers = range(low, high + 1)
         beside = [x for n in numbers for x in (math.nextafter(n, math.inf), math.nextafter(n, -math.inf), n + 0.5)]
         yield f"every {name}: taken", all(sheets.whole_of(float(n), low, high) == n for n in numbers)
@@ -124,6 +124,7 @@ def checks():
 right_cell_of, right_whole_of, right_amount_of, right_rate_of = sheets.cell_of, sheets.whole_of, sheets.amount_of, sheets.rate_of
 right_rows_of, right_cells_of, right_check_row = sheets.rows_of, sheets.cells_of, sheets.check_row
 right_rate_row, right_member_row, right_read_sheets = sheets.rate_row, sheets.member_row, sheets.read_sheets
+right_lives_of = sheets.lives_of
 
 
 def nearest_millionth(cell):
@@ -177,7 +178,7 @@ def minus_zero_refused(cell, low, high):
 
 
 def blank_taken_as_least(cell, low, high):
-    """A blank age is 0, a blank group 1."""
+    """A blank age is 0, a blank group or number of lives 1."""
     return low if cell is None else right_whole_of(cell, low, high)
 
 
@@ -233,14 +234,65 @@ def most_byte_first(row, cells):
 def first_cells_alone(row, cells):
     """The last cell is not looked at."""
     found = right_cells_of(row, cells)
-    return found and found[:-1] + [0.0]
+    return found and found[:-1] + [1.0 if cells == sheets.MEMBER_CELLS else 0.0]
+
+
+def blank_life(cell):
+    return 1 if cell is None else right_lives_of(cell)
+
+
+def no_lives(cell):
+    return right_whole_of(cell, 0, pricing.LIVES_HIGH)
+
+
+def any_lives(cell):
+    """The limit left to the range: 2 where 11 belongs."""
+    return right_whole_of(cell, 0, 2.0 ** 40)
+
+
+def four_cells(row):
+    """A row as it was before it had lives: one life."""
+    with mock.patch.object(sheets, "MEMBER_CELLS", 5):
+        return right_member_row(row + generate_sheets.cell(1.0)) if len(row) == 32 else None
+
+
+def lives_first(row):
+    """Lives as the first cell."""
+    return right_member_row(row[8:] + row[:8]) if len(row) == 40 else None
+
+
+def without_lives(in_range):
+    """The range of a row but for the lives in all."""
+    def holds(before, *row):
+        return in_range([] if in_range is pricing.member_in_range else before, *row)
+    return holds
+
+
+def lives_in_all_not_asked(taken, in_range, before, number, last_line):
+    right_check_row(taken, without_lives(in_range), before, number, last_line)
+
+
+def lives_in_all_a_cell(taken, in_range, before, number, last_line):
+    """11 where the lives in all pass their limit."""
+    if taken is not None and without_lives(in_range)(before, *taken) and not in_range(before, *taken):
+        taken = None
+    right_check_row(taken, in_range, before, number, last_line)
+
+
+def lives_in_all_at_the_end(header, rates, members):
+    """Asked when every row is read, at the last row."""
+    with mock.patch.object(pricing, "ALL_LIVES_HIGH", 10 ** 6):
+        fund = right_read_sheets(header, rates, members)
+    if pricing.lives_in_all(fund.member_rows) > pricing.ALL_LIVES_HIGH:
+        raise fund.member_rows[-1].line.refusal(pricing.RANGE)
+    return fund
 
 
 def range_first(taken, in_range, before, number, last_line):
-    """2 before 11 within a row: what is not taken counts as 0, and a group as 1."""
+    """2 before 11 within a row: what is not taken counts as 0, and a group or a number of lives as 1."""
     if taken is not None:
-        group = in_range is pricing.member_in_range
-        filled = [(1 if group and k == 1 else 0) if n is None else n for k, n in enumerate(taken)]
+        member = in_range is pricing.member_in_range
+        filled = [(1 if member and k in (1, 4) else 0) if n is None else n for k, n in enumerate(taken)]
         if not in_range(before, *filled):
             raise sheets.no_line(last_line + number).refusal(pricing.RANGE)
     right_check_row(None if taken is None or None in taken else taken, in_range, before, number, last_line)
@@ -314,7 +366,16 @@ MUTATIONS = (
     ("a fraction rounded", dict(whole_of=fraction_rounded)),
     ("a sign dropped", dict(whole_of=sign_dropped)),
     ("minus zero not taken", dict(whole_of=minus_zero_refused)),
-    ("a blank taken in an age or a group", dict(whole_of=blank_taken_as_least)),
+    ("a blank taken in an age, a group or lives", dict(whole_of=blank_taken_as_least)),
+    ("a blank taken in lives", dict(lives_of=blank_life)),
+    ("lives of 0", dict(lives_of=no_lives)),
+    ("the limit of lives left to the range", dict(lives_of=any_lives)),
+    ("lives limited to 999", dict(lives_of=lambda cell: right_whole_of(cell, 1, 999))),
+    ("lives as the first cell", dict(member_row=lives_first)),
+    ("rows of four cells still read", dict(MEMBER_CELLS=4, member_row=four_cells)),
+    ("lives in all not asked", dict(check_row=lives_in_all_not_asked)),
+    ("11 for lives in all", dict(check_row=lives_in_all_a_cell)),
+    ("lives in all asked at the end", dict(read_sheets=lives_in_all_at_the_end)),
     ("the most of a field one higher", dict(whole_of=one_more)),
     ("the most of a field one lower", dict(whole_of=one_fewer)),
     ("a group of 0", dict(whole_of=from_zero)),
@@ -329,7 +390,7 @@ MUTATIONS = (
     ("most byte first", dict(cells_of=most_byte_first)),
     ("the last cell not looked at", dict(cells_of=first_cells_alone)),
     ("q and i exchanged", dict(rate_row=lambda row: right_rate_row(row[:8] + row[16:] + row[8:16]))),
-    ("d and e exchanged", dict(member_row=lambda row: right_member_row(row[:16] + row[24:] + row[16:24]))),
+    ("d and e exchanged", dict(member_row=lambda row: right_member_row(row[:16] + row[24:32] + row[16:24] + row[32:]))),
     ("range before 11 within a row", dict(joined=lambda numbers: numbers, check_row=range_first)),
     ("the row count before 11", dict(check_row=count_first)),
     ("range at the row", dict(check_row=range_at_the_row)),

@@ -1,4 +1,4 @@
-"""Funds that come as sheets, as document 02's sixth request reads them.
+"""Funds that come as sheets, as document 02's sixth and eighth requests read them.
 
 CASES holds sheets with their number, place and part, worked by hand; SAME gives for those
 whose rows are all taken the fund file with the same rows.  cases() gives them all, stored()
@@ -20,8 +20,10 @@ from generate_sheets import BLANKS, LEAST, LEAST_NORMAL, MINUS_ZERO, blank, case
 # Rate rows 1 to 3, of the lines 8 to 10; member rows 4 to 6, of the lines 11 to 13.
 BASE = Text(horizon=5, order=5, frequency=(400, 700), deductible=3,
             rate_rows=((0, 20000, 10000), (40, 30000, 0), (50, 45000, 0)),
-            member_rows=((40, 1, 2, 3), (50, 2, 1, 1), (30, 1, 4, 0)))
+            member_rows=((40, 1, 2, 3, 1), (50, 2, 1, 1, 2), (30, 1, 4, 0, 1)))
 HEADER, RATES, MEMBERS = sheets.sheets_of(BASE)
+# Rates that a thousand lives may have.
+MANY = replace(BASE, rate_rows=((0, 20, 10), (40, 30, 0), (50, 45, 0)))
 INFINITE = math.inf
 HALF_ROWS = replace(BASE, rate_rows=((0, 20000, 10000), (40, 250000, 250000), (50, 45000, 0)))
 
@@ -55,14 +57,19 @@ def add_rate_cell(name, column, x, taken, base=BASE, to=CASES):
         add(name, ACCEPTED, rates=sheet, same=same, to=to)
 
 
-def add_member_cell(name, column, x, taken, to=CASES):
+def add_member_cell(name, column, x, taken, base=BASE, to=CASES):
     """A cell of member row 2, which is row 5."""
-    sheet = with_cell(MEMBERS, 4, 2, column, x)
+    header, rates, members = sheets.sheets_of(base)
+    sheet = with_cell(members, 5, 2, column, x)
     if taken is None:
-        add(name, refused(11, 5), members=sheet, to=to)
+        add(name, refused(11, 5), header, rates, sheet, to=to)
     else:
-        same = replace(BASE, member_rows=with_number(BASE.member_rows, 2, column, taken))
-        add(name, ACCEPTED, members=sheet, same=same, to=to)
+        same = replace(base, member_rows=with_number(base.member_rows, 2, column, taken))
+        add(name, ACCEPTED, header, rates, sheet, same=same, to=to)
+
+
+def add_lives_cell(name, column, x, taken, to=CASES):
+    add_member_cell(name, column, x, taken, MANY, to)
 
 
 # Document 01's funds
@@ -97,6 +104,10 @@ WHOLES = {
                      {"65536": 65536, "65535.5": 65535.5, "above 65535": math.nextafter(65535, 65536),
                       "below 65535": math.nextafter(65535, 0), "65537": 65537, "1.0000000000000002": 1.0000000000000002}),
     "disability amount": ({"0": 0, "1": 1, "65535": 65535}, {"65536": 65536, "65535.5": 65535.5, "-1.5": -1.5}),
+    # the other two members have one life each
+    "lives": ({"1": 1, "3": 3, "998": 998},
+              {"0": 0, "1001": 1001, "above 1": math.nextafter(1, 2), "below 1": math.nextafter(1, 0), "1000.5": 1000.5, "1.5": 1.5,
+               "above 1000": math.nextafter(1000, 2000), "-1": -1, "2^32 + 1": 2.0 ** 32 + 1, "2^16 + 1": 65537}),
 }
 
 
@@ -115,6 +126,7 @@ add_whole("member age", add_member_cell, 0)
 add_whole("group", add_member_cell, 1)
 add_whole("death amount", add_member_cell, 2)
 add_whole("disability amount", add_member_cell, 3)
+add_whole("lives", add_lives_cell, 4)
 
 # Minus zero is 0, and a group of 0 is out of its range.
 add("age minus zero", ACCEPTED, rates=with_cell(RATES, 3, 1, 0, MINUS_ZERO), same=BASE)
@@ -122,6 +134,7 @@ add_member_cell("member age minus zero", 0, MINUS_ZERO, 0)
 add_member_cell("group minus zero: not taken", 1, MINUS_ZERO, None)
 add_member_cell("death amount minus zero", 2, MINUS_ZERO, 0)
 add_member_cell("disability amount minus zero", 3, MINUS_ZERO, 0)
+add_lives_cell("lives minus zero: not taken", 4, MINUS_ZERO, None)
 add_rate_cell("q minus zero", 1, MINUS_ZERO, 0)
 add_rate_cell("i minus zero", 2, MINUS_ZERO, 0)
 
@@ -131,17 +144,18 @@ for bits in BLANKS:
     add_member_cell(f"disability amount blank {bits:x}", 3, blank(bits), 0, to=MORE)
     for field, column in (("age", 0), ("q", 1), ("i", 2)):
         add_rate_cell(f"{field} blank {bits:x}: not taken", column, blank(bits), None, to=MORE)
-    for field, column in (("member age", 0), ("group", 1)):
+    for field, column in (("member age", 0), ("group", 1), ("lives", 4)):
         add_member_cell(f"{field} blank {bits:x}: not taken", column, blank(bits), None, to=MORE)
 add_member_cell("disability amount blank", 3, blank(), 0)
 add_member_cell("member age blank: not taken", 0, blank(), None)
 add_member_cell("group blank: not taken", 1, blank(BLANKS[2]), None)
+add_member_cell("lives blank: not taken", 4, blank(), None)
 add_rate_cell("age blank: not taken", 0, blank(), None)
 add_rate_cell("q blank: not taken", 1, blank(BLANKS[6]), None)
 add_rate_cell("i blank: not taken", 2, blank(BLANKS[3]), None)
-add("both amounts blank", ACCEPTED, members=with_cell(with_cell(MEMBERS, 4, 3, 2, blank()), 4, 3, 3, blank(BLANKS[1])),
+add("both amounts blank", ACCEPTED, members=with_cell(with_cell(MEMBERS, 5, 3, 2, blank()), 5, 3, 3, blank(BLANKS[1])),
     same=replace(BASE, member_rows=BASE.member_rows[:2] + ((30, 1, 0, 0),)))
-add("a row of blanks", refused(11, 7), members=MEMBERS + row(*[blank()] * 4))
+add("a row of blanks", refused(11, 7), members=MEMBERS + row(*[blank()] * 5))
 
 # Rates: i is 0 in row 3, and q where i is asked, so that every k may stand there.
 ONLY_I = replace(BASE, rate_rows=BASE.rate_rows[:2] + ((50, 0, 45000),))
@@ -175,7 +189,7 @@ add("members, most byte first", refused(11, 4),
 
 EVERY_AGE = tuple((age, 100 + age, 50) for age in range(121))
 ALL_RATES = sheets.rate_sheet(EVERY_AGE)
-THOUSAND = tuple((k % 121, 1 + k % 2, k % 7, k % 5) for k in range(1000))
+THOUSAND = tuple((k % 121, 1 + k % 2, k % 7, k % 5, 1) for k in range(1000))
 ALL_MEMBERS = sheets.member_sheet(THOUSAND)
 
 for size in range(1, 24):
@@ -184,17 +198,22 @@ for size in range(1, 24):
     add(f"three rates and {size} bytes", refused(11, 4), rates=RATES + row(60, 0, 0)[:size], to=few)
     add(f"121 rates and {size} bytes", refused(11, 122), rates=ALL_RATES + row(120, 0, 0)[:size],
         to=CASES if size in (8, 23) else MORE)
-for size in range(1, 32):
-    few = CASES if size in (1, 8, 24, 31) else MORE
-    add(f"no rates and members of {size} bytes", refused(11, 1), rates=b"", members=MEMBERS[:size], to=CASES if size == 31 else MORE)
-    add(f"three rates and members of {size} bytes", refused(11, 4), members=MEMBERS[:size], to=CASES if size == 24 else MORE)
+for size in range(1, 40):
+    few = CASES if size in (1, 8, 32, 39) else MORE
+    add(f"no rates and members of {size} bytes", refused(11, 1), rates=b"", members=MEMBERS[:size], to=CASES if size == 39 else MORE)
+    add(f"three rates and members of {size} bytes", refused(11, 4), members=MEMBERS[:size], to=CASES if size == 32 else MORE)
     add(f"three members and {size} bytes", refused(11, 7), members=MEMBERS + MEMBERS[:size], to=few)
     add(f"1000 members and {size} bytes", refused(11, 1122), rates=ALL_RATES, members=ALL_MEMBERS + MEMBERS[:size],
-        to=CASES if size == 31 else MORE)
+        to=CASES if size == 39 else MORE)
 add("a rate short of its last byte before members", refused(11, 3), rates=RATES[:-1])
-add("rates with members' cells", refused(11, 1), rates=MEMBERS[:64])
+add("rates with members' cells", refused(11, 1), rates=MEMBERS[:80])
 add("members with rates' cells", refused(11, 4), members=RATES)
 add("both cut short", refused(11, 3), rates=RATES[:-8], members=MEMBERS[:-8])
+# Read as 40, 1, 2, 3 with 50 lives, then 2, 1, 1, 30 with one, and two cells are left over.
+add("members of four cells", refused(11, 6), members=row(40, 1, 2, 3) + row(50, 2, 1, 1) + row(30, 1, 4, 0))
+add("one member of four cells", refused(11, 4), members=row(40, 1, 2, 3))
+# The third row of five has a group of 3.
+add("five members of four cells", refused(11, 6), members=row(40, 1, 2, 3) * 5)
 
 # No rows, as many as are allowed, and one more
 
@@ -206,18 +225,50 @@ add("122 rates", refused(2, 129), rates=ALL_RATES + row(120, 0, 0), same=replace
 add("122 rates, the last with a faulty cell", refused(11, 122), rates=ALL_RATES + row(121, 0, 0))
 add("122 rates, the last with a blank", refused(11, 122), rates=ALL_RATES + row(120, 0, blank()))
 add("123 rates, the last with a faulty cell", refused(2, 129), rates=ALL_RATES + row(120, 0, 0) + row(121, 0, 0))
-add("122 rates and a faulty member", refused(2, 129), rates=ALL_RATES + row(5, 0, 0), members=row(0.5, 1, 1, 1))
+add("122 rates and a faulty member", refused(2, 129), rates=ALL_RATES + row(5, 0, 0), members=row(0.5, 1, 1, 1, 1))
 add("1000 members", ACCEPTED, rates=ALL_RATES, members=ALL_MEMBERS,
     same=replace(BASE, rate_rows=EVERY_AGE, member_rows=THOUSAND))
-add("1001 members", refused(2, 1011), members=ALL_MEMBERS + MEMBERS[:32],
+add("1001 members", refused(2, 1011), members=ALL_MEMBERS + MEMBERS[:40],
     same=replace(BASE, member_rows=THOUSAND + BASE.member_rows[:1]))
-add("121 rates and 1001 members", refused(2, 1129), rates=ALL_RATES, members=ALL_MEMBERS + MEMBERS[:32],
+add("121 rates and 1001 members", refused(2, 1129), rates=ALL_RATES, members=ALL_MEMBERS + MEMBERS[:40],
     same=replace(BASE, rate_rows=EVERY_AGE, member_rows=THOUSAND + BASE.member_rows[:1]), to=MORE)
-add("1001 members, the last with a faulty cell", refused(11, 1004), members=ALL_MEMBERS + row(40, 3, 0, 0))
-add("1002 members, the last with a faulty cell", refused(2, 1011), members=ALL_MEMBERS + MEMBERS[:32] + row(40, 3, 0, 0), to=MORE)
-add("1000 members, the last with a faulty cell", refused(11, 1003), members=with_cell(ALL_MEMBERS, 4, 1000, 3, 0.5), to=MORE)
+add("1001 members, the last with a faulty cell", refused(11, 1004), members=ALL_MEMBERS + row(40, 3, 0, 0, 1))
+add("1002 members, the last with a faulty cell", refused(2, 1011), members=ALL_MEMBERS + MEMBERS[:40] + row(40, 3, 0, 0, 1), to=MORE)
+add("1000 members, the last with a faulty cell", refused(11, 1003), members=with_cell(ALL_MEMBERS, 5, 1000, 3, 0.5), to=MORE)
 add("1001 members before editions", refused(2, 1011), header=replace(BASE, members=2031).header(),
-    members=ALL_MEMBERS + MEMBERS[:32], to=MORE)
+    members=ALL_MEMBERS + MEMBERS[:40], to=MORE)
+
+# Lives in all: the file's number and line, at the row that passes them; 11 before it within the row
+
+
+def with_lives(*lives, group=2):
+    """Members with these lives, in rows from 4 on, of the lines from 11 on."""
+    return replace(MANY, member_rows=tuple((40, group, 1, 2, number) for number in lives))
+
+
+def add_lives(name, expected, *lives, group=2):
+    text = with_lives(*lives, group=group)
+    add(f"lives {name}", expected, *sheets.sheets_of(text), same=text)
+
+
+add_lives("1000 in a row", ACCEPTED, 1000)
+add_lives("1000 in a row, group 1", ACCEPTED, 1000, group=1)
+add_lives("999 and 1", ACCEPTED, 999, 1)
+add_lives("100 in ten rows", ACCEPTED, *[100] * 10)
+add_lives("999 and 2", refused(2, 12), 999, 2)
+add_lives("1 and 1000", refused(2, 12), 1, 1000)
+add_lives("1000 and 1", refused(2, 12), 1000, 1)
+add_lives("500, 500 and 1", refused(2, 13), 500, 500, 1)
+add_lives("999, 2 and 5", refused(2, 12), 999, 2, 5)
+PAST = sheets.member_sheet(with_lives(999, 2).member_rows)
+add("lives past the limit and a faulty cell in the row", refused(11, 5), members=with_cell(PAST, 5, 2, 3, 0.5))
+add("lives past the limit and a blank age in the row", refused(11, 5), members=with_cell(PAST, 5, 2, 0, blank()))
+add("lives past the limit before a later cell", refused(2, 12), members=PAST + row(40, 2, 1, 2, 0))
+add("lives past the limit before a row cut short", refused(2, 12), members=PAST + MEMBERS[:39])
+add("lives past the limit and cut short", refused(11, 5), members=PAST[:-1])
+add("lives past the limit before editions", refused(2, 12), header=replace(BASE, members=2031).header(), members=PAST)
+add("lives 1001 beside 1000", refused(11, 5), members=with_cell(PAST, 5, 2, 4, 1001))
+add("lives past the limit, no rates", refused(2, 9), rates=b"", members=PAST)
 
 # Range: the file's number and line
 
@@ -239,24 +290,24 @@ add("a row's range before the next row's cell", refused(2, 9), rates=row(0, 0, 0
 add("a row's cell before the next row's range", refused(11, 2), rates=row(0, 0, 0) + row(0, 0, 1.5) + row(0, 0, 0))
 add("q + i above 1 before a row cut short", refused(2, 9), rates=row(0, 0, 0) + row(1, 1, 1) + row(2, 0, 0)[:9])
 add("a rate's range before a member's cell", refused(2, 10), rates=row(0, 0, 0) + row(7, 0, 0) + row(7, 0, 0),
-    members=row(blank(), 1, 1, 1))
-add("a rate's cell before a member's", refused(11, 3), rates=with_cell(RATES, 3, 3, 1, 2.0), members=row(0.5, 1, 1, 1))
-add("a rate cut short before a member's cell", refused(11, 4), rates=RATES + bytes(8), members=row(0.5, 1, 1, 1))
-add("two faulty members", refused(11, 5), members=with_cell(with_cell(MEMBERS, 4, 3, 1, 3), 4, 2, 3, -1))
+    members=row(blank(), 1, 1, 1, 1))
+add("a rate's cell before a member's", refused(11, 3), rates=with_cell(RATES, 3, 3, 1, 2.0), members=row(0.5, 1, 1, 1, 1))
+add("a rate cut short before a member's cell", refused(11, 4), rates=RATES + bytes(8), members=row(0.5, 1, 1, 1, 1))
+add("two faulty members", refused(11, 5), members=with_cell(with_cell(MEMBERS, 5, 3, 1, 3), 5, 2, 3, -1))
 
 # 11 belongs to reading, and so comes before 3 to 10
 
 OTHER_EDITION = replace(BASE, members=2031)
-FAULTY = with_cell(MEMBERS, 4, 3, 2, 0.5)
+FAULTY = with_cell(MEMBERS, 5, 3, 2, 0.5)
 add("a cell before editions", refused(11, 6), header=OTHER_EDITION.header(), members=FAULTY)
 add("a rate's cell before editions", refused(11, 1), header=OTHER_EDITION.header(), rates=with_cell(RATES, 3, 1, 1, 0.5e-6))
 add("a row cut short before editions", refused(11, 6), header=OTHER_EDITION.header(), members=MEMBERS[:-1])
 add("range before editions", refused(2, 9), header=OTHER_EDITION.header(), rates=row(5, 0, 0) * 2, members=b"")
 add_text("editions", refused(3), OTHER_EDITION)
 add("a cell before the deductible", refused(11, 6), header=replace(BASE, deductible=7).header(), members=FAULTY)
-add("a cell before an unmatched member", refused(11, 4), rates=row(45, 0, 0), members=MEMBERS[:64] + row(30, 0, 1, 1),
+add("a cell before an unmatched member", refused(11, 4), rates=row(45, 0, 0), members=MEMBERS[:80] + row(30, 0, 1, 1, 1),
     to=MORE)
-add("a cell after an unmatched member", refused(11, 3), rates=row(35, 0, 0), members=row(30, 1, 1, 1) + row(40, 3, 1, 1))
+add("a cell after an unmatched member", refused(11, 3), rates=row(35, 0, 0), members=row(30, 1, 1, 1, 1) + row(40, 3, 1, 1, 1))
 add("a cell after a member of half", refused(11, 6), rates=sheets.rate_sheet(HALF_ROWS.rate_rows), members=FAULTY)
 add("a cell before short", refused(11, 6), members=FAULTY, lengths=(0,) * 5, to=MORE)
 add("short", refused(9), same=BASE, lengths=(6, 6, 6, 6, 5), to=MORE)
@@ -268,9 +319,12 @@ add_text("unmatched", refused(5, 13), replace(BASE, rate_rows=((31, 1, 1), (40, 
 add_text("unmatched, the first of two", refused(5, 10), replace(BASE, rate_rows=((45, 1, 1),), member_rows=BASE.member_rows[1:] * 2))
 add_text("unmatched, no rates", refused(5, 8), replace(BASE, rate_rows=()))
 add_text("half", refused(6, 11), HALF_ROWS)
+add_text("unmatched behind several lives", refused(5, 12), replace(BASE, rate_rows=((31, 1, 1), (40, 1, 1), (50, 1, 1)),
+                                                                   member_rows=((40, 1, 2, 3, 90), (30, 2, 1, 1, 7))))
+add_text("half behind several lives", refused(6, 12), replace(HALF_ROWS, member_rows=((50, 2, 2, 3, 90), (40, 1, 1, 1, 7))))
 add_text("half, the last member", refused(6, 13),
          replace(HALF_ROWS, member_rows=BASE.member_rows[1:] + BASE.member_rows[:1]))
-add("half folded by a blank", ACCEPTED, rates=sheets.rate_sheet(((0, 500000, 0),)), members=row(7, 1, blank(), 5),
+add("half folded by a blank", ACCEPTED, rates=sheets.rate_sheet(((0, 500000, 0),)), members=row(7, 1, blank(), 5, 1),
     same=replace(BASE, rate_rows=((0, 500000, 0),), member_rows=((7, 1, 0, 5),)))
 add_text("unmatched before half", refused(5, 13), replace(HALF_ROWS, rate_rows=((31, 1, 1), (40, 250000, 250000), (50, 1, 1))))
 
@@ -357,7 +411,7 @@ def figure_checks():
     yield ("sheets: the first fund's rate row, byte for byte", sheets.sheets_of(document_funds.FIRST)[1]
            == bytes.fromhex("0000000000004440 9a9999999999b93f 0000000000000000"))
     yield ("sheets: the first fund's member row, byte for byte", sheets.sheets_of(document_funds.FIRST)[2]
-           == bytes.fromhex("0000000000004440 000000000000f03f 000000000000f03f 0000000000000000"))
+           == bytes.fromhex("0000000000004440 000000000000f03f 000000000000f03f 0000000000000000 000000000000f03f"))
 
 
 def checks():

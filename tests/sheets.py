@@ -1,7 +1,7 @@
-"""The answer for a fund whose rows come as sheets, as document 02's sixth request says.
+"""The answer for a fund whose rows come as sheets, as document 02's sixth and eighth requests say.
 
 price_sheets(header, rates, members, lengths, level) gives what pricing.price gives, for
-the header lines as text, the rate rows (age, q, i) and the member rows (age, group, d, e).
+the header lines as text, the rate rows (age, q, i) and the member rows (age, group, d, e, lives).
 A cell is a binary64 of eight bytes, least byte first.  What follows the reading is the
 file's.  sheets_of(text) and file_of(header, rate_rows, member_rows) go the other ways.
 Run as a program with the paths of a header, a rate sheet and a member sheet, it prints
@@ -17,7 +17,7 @@ import pricing
 
 CELL = 11
 CELL_SIZE = 8
-RATE_CELLS, MEMBER_CELLS = 3, 4
+RATE_CELLS, MEMBER_CELLS = 3, 5
 GROUP_LOW, GROUP_HIGH = 1, 2
 
 
@@ -38,6 +38,11 @@ def whole_of(cell, low, high):
 def amount_of(cell):
     """A blank is 0 here."""
     return 0 if cell is None else whole_of(cell, 0, pricing.AMOUNT_HIGH)
+
+
+def lives_of(cell):
+    """A blank is not taken here."""
+    return whole_of(cell, pricing.LIVES_LOW, pricing.LIVES_HIGH)
 
 
 def rate_of(cell):
@@ -85,13 +90,13 @@ def rate_row(row):
 
 
 def member_row(row):
-    """(age, group, d, e), or None where the row is not taken."""
+    """(age, group, d, e, lives), or None where the row is not taken."""
     cells = cells_of(row, MEMBER_CELLS)
     if cells is None:
         return None
-    age, group, d, e = cells
+    age, group, d, e, lives = cells
     return joined((whole_of(age, 0, pricing.AGE_HIGH), whole_of(group, GROUP_LOW, GROUP_HIGH),
-                   amount_of(d), amount_of(e)))
+                   amount_of(d), amount_of(e), lives_of(lives)))
 
 
 # The sheets
@@ -148,7 +153,8 @@ def rate_sheet(rate_rows):
 
 
 def member_sheet(member_rows):
-    return b"".join(struct.pack("<4d", *row) for row in member_rows)
+    """Rows (age, group, d, e, lives) of whole numbers."""
+    return b"".join(struct.pack("<5d", *row) for row in member_rows)
 
 
 def sheets_of(text):
@@ -159,7 +165,7 @@ def sheets_of(text):
 def file_of(header, rate_rows, member_rows):
     """The fund file with this header text and these rows."""
     lines = [b"rate=%d,%d,%d\n" % tuple(row) for row in rate_rows]
-    lines += [b"member=%d,%d,%d,%d\n" % tuple(row) for row in member_rows]
+    lines += [b"member=%d,%d,%d,%d,%d\n" % tuple(row) for row in member_rows]
     return header + b"".join(lines) + b"end=%d\n" % len(member_rows)
 
 

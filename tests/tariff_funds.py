@@ -148,7 +148,7 @@ def life_checks():
 def outcome_checks():
     """Not below the loaded worth of the average excess over all outcomes."""
     for name, text, _ in ROWS:
-        if not any(group == 2 for _, group, _, _ in text.member_rows):
+        if not any(row[1] == 2 for row in text.member_rows):
             broken = exact.check_gross_by_outcomes(text.data())
             yield f"tariff: {name}: by outcomes {broken}", not broken
 

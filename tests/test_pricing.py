@@ -21,6 +21,8 @@ import exact_rows
 import formulas
 import frequency_funds
 import generate
+import lives_funds
+import lives_mutations
 import pricing
 import quantile_funds
 import rate_funds
@@ -195,17 +197,18 @@ def small_limit_funds():
 def limit_figure_checks():
     """The limit funds do stand at the limits that they are named for."""
     made = {case.name: case.data for case in generate.limit_funds()}
-    checks = [("the longest file is below 29,000 bytes",
-               len(made["limit-longest"]) < 29000)]
+    checks = [("the longest file has 29,778 bytes", len(made["limit-longest"]) == 29778)]
     for name, load in (("exact", 8 * 10 ** 12), ("below", 8 * 10 ** 12 - 1),
                        ("above", 8 * 10 ** 12 + 1)):
-        figure = formulas.Formulas(made[f"limit-load-{name}"]).load()
-        checks.append((f"limit-load-{name}: load", figure == load))
+        for lines in ("", "-in-one-line"):
+            figure = formulas.Formulas(made[f"limit-load-{name}{lines}"]).load()
+            checks.append((f"limit-load-{name}{lines}: load", figure == load))
     for order in (1, 3, 7, 12):
         for name, wanted in (("exact", 10 ** 8), ("above", 10 ** 8 + 1)):
-            figure = formulas.Formulas(made[f"limit-truncation-{name}-{order}"])
-            checks.append((f"limit-truncation-{name}-{order}: figure",
-                           figure.truncation() == wanted))
+            for lines in ("", "-in-one-line"):
+                figure = formulas.Formulas(made[f"limit-truncation-{name}-{order}{lines}"])
+                checks.append((f"limit-truncation-{name}-{order}{lines}: figure",
+                               figure.truncation() == wanted))
     for name, wanted in (("not", 250000), ("just", 250001)):
         figure = formulas.Formulas(made[f"limit-wide-{name}-3"]).R(6)
         checks.append((f"limit-wide-{name}-3: R(6)", figure == wanted))
@@ -264,6 +267,23 @@ def member_order_holds(data, whole):
             == (whole.D, whole.H, whole.truncation, whole.mean, whole.R[0]))
 
 
+def written_out_holds(data, whole):
+    """Each member line written out as so many lines of one life."""
+    header, rates, members, _ = fund_parts(data)
+    copies = []
+    for line in members:
+        row, _, lives = line.rpartition(b",")
+        copies += [row + b",1"] * int(lives)
+    return pricing.price(generate.joined(header + rates + copies + [b"end=%d" % len(copies)])) == whole
+
+
+def example_cases():
+    """The funds of examples/ that are accepted."""
+    folder = Path(__file__).resolve().parent.parent / "examples"
+    made = [generate.Case(f"example-{path.name}", path.read_bytes()) for path in sorted(folder.glob("*.fund"))]
+    return [case for case in made if pricing.price(case.data).number == 0]
+
+
 def large_checks(made):
     checks = []
     for case in made:
@@ -276,6 +296,7 @@ def large_checks(made):
             (f"{case.name}: gross premium", gross_holds(case.data, whole)),
             (f"{case.name}: sum of cells", sum_holds(whole)),
             (f"{case.name}: order of members", member_order_holds(case.data, whole)),
+            (f"{case.name}: lines written out", written_out_holds(case.data, whole)),
         ]
     return checks
 
@@ -308,9 +329,9 @@ def last_of_pair(m, n, l, x, horizon):
     return right_is_placed(m, n, l, x, horizon) and not (pair and l < n)
 
 
-def even_added(D, H, n, x, v):
-    D[x] += pricing.nearest(x * v, n)
-    H[x] += x
+def even_added(D, H, n, x, v, lives):
+    D[x] += lives * pricing.nearest(x * v, n)
+    H[x] += lives * x
 
 
 def rounded_apart(row, q, i, p):
@@ -658,6 +679,7 @@ def noticed(small, limits, damaged):
         "triangle": failures(triangle_funds.fund_checks()),
         "frequencies": failures(frequency_funds.fund_checks()),
         "distribution": failures(distribution_funds.fund_checks()),
+        "lives": failures(lives_funds.fund_checks()),
     }
 
 
@@ -677,7 +699,7 @@ def shown(found):
 
 def mutation_funds():
     return [case for case in with_slices(generate.small_funds(11, 48), SHORT_SLICES)
-            if "long" not in case.name]
+            if "long" not in case.name and "alllives" not in case.name]
 
 
 def cell_line_mutation_checks():
@@ -689,6 +711,27 @@ def cell_line_mutation_checks():
             found = noticed_in_listings(small)
         print(f"  mutation of cell lines: {name}: {shown(found)}")
         checks.append((f"mutation noticed: {name}", found["distribution"] > 0))
+    return checks
+
+
+def noticed_of_lives(small):
+    return {
+        "demand 3": failures(distance_checks(small)),
+        "formulas": failures(formula_checks(small)),
+        "expected": failures(expected_checks(generate.lives_damaged())),
+        "lives": failures(lives_funds.fund_checks()),
+    }
+
+
+def lives_mutation_checks():
+    """Each wrong program for lines with several lives is told apart by a fund worked by hand; nothing fails without one."""
+    small = mutation_funds()[::3]
+    checks = [("no mutation: no check of lives fails", not any(noticed_of_lives(small).values()))]
+    for name, module, target, value in lives_mutations.MUTATIONS:
+        with mock.patch.object(module, target, value):
+            found = noticed_of_lives(small)
+        print(f"  mutation of lives: {name}: {shown(found)}")
+        checks.append((f"mutation noticed: {name}", found["lives"] > 0))
     return checks
 
 
@@ -746,7 +789,7 @@ def stream_checks():
              cases.answer_of(document_funds.FIRST_FILE, 900000000001)
              == document_funds.FIRST_LISTING.encode("ascii") + b"line=\nquantile=1\n\n"),
             ("stream: a refusal", cases.answer_of(document_funds.HALF.data(), 0)
-             == b"refused=6,9\nline=member=40,1,1,0\nrefused=6,9\n\n")]
+             == b"refused=6,9\nline=member=40,1,1,0,1\nrefused=6,9\n\n")]
 
 
 def sheet_stream_checks():
@@ -852,18 +895,23 @@ def sections():
     yield "frequencies", (frequency_funds.checks() + answer_checks(frequency_funds.cases())
                           + reading_checks(frequency_funds.cases()) + distance_checks(frequency_funds.cases(), COMPARED)
                           + formula_checks(frequency_funds.cases()))
+    lives = lives_funds.cases()
+    yield "lines for several lives", (lives_funds.checks() + answer_checks(lives) + reading_checks(lives)
+                                      + distance_checks(lives, COMPARED) + formula_checks(lives))
     known = distribution_funds.cases()
     alone = generate.one_by_one_funds(7, 30) + distribution_funds.unreplaced_cases()
     yield "distribution function", (distribution_funds.checks() + answer_checks(known) + distance_checks(known, COMPARED)
                                     + formula_checks(known) + one_by_one_checks(alone))
     yield "sheets", sheet_checks.checks()
     yield "sheet_bytes", test_sheet_bytes.checks()
-    yield "larger funds", large_checks(generate.large_funds(9, 6) + steps[::6])
+    priced = [case for case in steps if pricing.price(case.data).number == 0]
+    yield "larger funds", large_checks(generate.large_funds(9, 6) + priced[::5] + example_cases())
     yield "stored cases", case_tool_checks() + stream_checks() + sheet_stream_checks() + sheet_program_checks()
     yield "exact rows", row_checks()
     yield "program", program_checks()
     yield "mutations", mutation_checks()
     yield "mutations of cell lines", cell_line_mutation_checks()
+    yield "mutations of lives", lives_mutation_checks()
     yield "mutations of sheets", sheet_checks.mutation_checks()
 
 

@@ -19,7 +19,7 @@ ROOT = Path(__file__).resolve().parent.parent
 EXAMPLE = ROOT / "examples" / "sheets"
 BLANK = struct.pack("<Q", 0x7ff8000000000000)
 
-MEMBERS = struct.pack("<4d", 40, 1, 12, 8) + struct.pack("<3d", 61, 2, 3) + BLANK
+MEMBERS = struct.pack("<5d", 40, 1, 12, 8, 1) + struct.pack("<3d", 61, 2, 3) + BLANK + struct.pack("<d", 30)
 RATES = struct.pack("<3d", 40, 1530 / 1000000, 1421 / 1000000) + struct.pack("<3d", 41, 1, 0)
 
 SPACES = "".join(f' xmlns:{prefix}="urn:oasis:names:tc:opendocument:xmlns:{prefix}:1.0"' for prefix in ("office", "table", "text"))
@@ -81,65 +81,70 @@ def faulty(found, *words):
     return (found[0], found[2]) == (2, None) and all(word in found[1] for word in words)
 
 
-TITLES = "age,group,death amount,disability amount\n"
-ROWS = "40,1,12,8\n61,2,3,\n"
+TITLES = "age,group,death amount,disability amount,lives\n"
+ROWS = "40,1,12,8,1\n61,2,3,,30\n"
+# Without the fifth column each row has a blank there, which is for the pricing to refuse.
+FOUR_COLUMNS = struct.pack("<4d", 40, 1, 12, 8) + BLANK + struct.pack("<3d", 61, 2, 3) + BLANK * 2
 
 CSV_MADE = {
-    "rows": (ROWS, MEMBERS), "titles": (TITLES + ROWS, MEMBERS), "two rows of titles": ("members,,,\n" + TITLES + ROWS, MEMBERS),
-    "an empty row behind the titles": (TITLES + ",,,\n" + ROWS, MEMBERS),
-    "empty rows at the end": (ROWS + ",,,\n\n,,,\n", MEMBERS), "no last line feed": (ROWS[:-1], MEMBERS),
+    "rows": (ROWS, MEMBERS), "titles": (TITLES + ROWS, MEMBERS), "two rows of titles": ("members,,,,\n" + TITLES + ROWS, MEMBERS),
+    "an empty row behind the titles": (TITLES + ",,,,\n" + ROWS, MEMBERS),
+    "empty rows at the end": (ROWS + ",,,,\n\n,,,,\n", MEMBERS), "no last line feed": (ROWS[:-1], MEMBERS),
     "carriage returns": (ROWS.replace("\n", "\r\n"), MEMBERS), "a byte order mark": ("\ufeff" + ROWS, MEMBERS),
-    "quoted": ('"40","1","12","8"\n"61","2","3",""\n', MEMBERS), "a row without its last cell": ("40,1,12,8\n61,2,3\n", MEMBERS),
-    "spaces": (" 40, 1 ,12,8 \n61,2,3, \n", MEMBERS), "more columns": ("40,1,12,8,note\n61,2,3,,7\n", MEMBERS),
-    "spelled otherwise": ("4e1,+1,12.0,8.\n61,2,.3e1,\n", MEMBERS), "nothing": ("", b""), "empty rows alone": (",,,\n\n", b""),
-    "minus zero and a half": ("-0,0.5,1e300,-1\n", struct.pack("<4d", -0.0, 0.5, 1e300, -1)),
-    "the least": ("5e-324,0,0,0\n", struct.pack("<4d", 5e-324, 0, 0, 0)),
+    "quoted": ('"40","1","12","8","1"\n"61","2","3","","30"\n', MEMBERS), "rows without their last cells": ("40,1,12,8\n61,2,3\n", FOUR_COLUMNS),
+    "spaces": (" 40, 1 ,12,8 , 1\n61,2,3, ,30 \n", MEMBERS), "more columns": ("40,1,12,8,1,note\n61,2,3,,30,7\n", MEMBERS),
+    "spelled otherwise": ("4e1,+1,12.0,8.,1\n61,2,.3e1,,3E1\n", MEMBERS), "nothing": ("", b""), "empty rows alone": (",,,,\n\n", b""),
+    "minus zero and a half": ("-0,0.5,1e300,-1,1001\n", struct.pack("<5d", -0.0, 0.5, 1e300, -1, 1001)),
+    "the least": ("5e-324,0,0,0,0\n", struct.pack("<5d", 5e-324, 0, 0, 0, 0)),
 }
 CSV_FAULTY = {
-    "text": (ROWS + "40,x,1,1\n", "B3: text (x)"), "text behind titles": (TITLES + ROWS + "1,1,1,none\n", "D4: text (none)"),
-    "text in the first row": ("40,1,12,eight\n", "D1: text (eight)"), "titles again": (ROWS + TITLES, "A3: text (age)"),
-    "an empty row": ("40,1,12,8\n,,,\n61,2,3,\n", "row 2 is empty, and row 3"), "nan": ("40,1,nan,8\n", "C1"), "inf": ("40,1,inf,8\n", "C1"),
+    "text": (ROWS + "40,x,1,1,1\n", "B3: text (x)"), "text behind titles": (TITLES + ROWS + "1,1,1,none,1\n", "D4: text (none)"),
+    "text in the first row": ("40,1,12,eight,1\n", "D1: text (eight)"), "titles again": (ROWS + TITLES, "A3: text (age)"),
+    "text for the lives": ("40,1,12,8,one\n", "E1: text (one)"), "a title where lives belong": ("40,1,12,8,lives\n", "E1: text (lives)"),
+    "an empty row": ("40,1,12,8,1\n,,,,\n61,2,3,,30\n", "row 2 is empty, and row 3"), "nan": ("40,1,nan,8\n", "C1"), "inf": ("40,1,inf,8\n", "C1"),
     "an underscore": ("40,1,1_2,8\n", "C1"), "a decimal comma": ('40,1,"1,5",8\n', "C1"), "a percentage": ("40,1,5%,8\n", "C1"),
     "hexadecimal": ("40,1,0x1,8\n", "C1"), "another digit": ("40,1,\u0664,8\n", "C1"), "an open quote": ('40,1,"12,8\n', "not a .csv"),
     "a failed formula": ("40,1,#DIV/0!,8\n", "C1"), "another separator": ("40;1;12;8\n61;2;3;\n", "text alone"), "titles alone": (TITLES, "text alone"),
 }
+MEMBER_COLUMNS = 5
 
 
 def csv_checks(folder):
     path = folder / "sheet.csv"
     for name, (given, wanted) in CSV_MADE.items():
         path.write_bytes(given.encode())
-        yield f"csv: {name}", made(run(folder, path.name, 4), wanted)
+        yield f"csv: {name}", made(run(folder, path.name, MEMBER_COLUMNS), wanted)
     for name, (given, words) in CSV_FAULTY.items():
         path.write_bytes(given.encode())
-        yield f"csv: {name}: an error", faulty(run(folder, path.name, 4), "sheet.csv: ", words)
+        yield f"csv: {name}: an error", faulty(run(folder, path.name, MEMBER_COLUMNS), "sheet.csv: ", words)
     path.write_bytes(ROWS.replace(",", ";").encode())
-    yield "csv: separated by semicolons", made(run(folder, path.name, 4, "--separator", ";"), MEMBERS)
+    yield "csv: separated by semicolons", made(run(folder, path.name, MEMBER_COLUMNS, "--separator", ";"), MEMBERS)
     path.write_bytes(b"40,1,\xff,8\n")
-    yield "csv: bytes that are no text: an error", faulty(run(folder, path.name, 4), "not a .csv")
+    yield "csv: bytes that are no text: an error", faulty(run(folder, path.name, MEMBER_COLUMNS), "not a .csv")
     path.write_text("age,q,i\n40,0.00153,0.001421\n41,1,0\n")
     yield "csv: three columns", made(run(folder, path.name, 3), RATES)
 
 
-MEMBER_ROWS = (numbers(40, 1, 12, 8), row(*map(number, (61, 2, 3)), empty(1021)))
+MEMBER_ROWS = (numbers(40, 1, 12, 8, 1), row(*map(number, (61, 2, 3)), empty(), number(30), empty(1019)))
 END = row(empty(1024), repeated=1048000)
 
 ODS_MADE = {
     "rows": ((table(*MEMBER_ROWS),), MEMBERS), "titles": ((table(row(text("age"), text("group")), *MEMBER_ROWS, END),), MEMBERS),
     "empty rows first": ((table(row(empty(9), repeated=4), *MEMBER_ROWS),), MEMBERS),
-    "a row four times": ((table(row(*map(number, (40, 1, 12, 8)), repeated=4)),), MEMBERS[:32] * 4),
-    "a number in three columns": ((table(row(number(40), number(2).replace("<table:table-cell", '<table:table-cell table:number-columns-repeated="3"'))),),
-                                  struct.pack("<4d", 40, 2, 2, 2)),
+    "a row four times": ((table(row(*map(number, (40, 1, 12, 8, 1)), repeated=4)),), MEMBERS[:40] * 4),
+    "no fifth column": ((table(numbers(40, 1, 12, 8), row(*map(number, (61, 2, 3)), empty(1021))),), FOUR_COLUMNS),
+    "a number in four columns": ((table(row(number(40), number(2).replace("<table:table-cell", '<table:table-cell table:number-columns-repeated="4"'))),),
+                                 struct.pack("<5d", 40, 2, 2, 2, 2)),
     "rows in groups": ((table(f"<table:table-header-rows>{row(text('age'))}</table:table-header-rows>",
                               f"<table:table-row-group>{MEMBER_ROWS[0]}</table:table-row-group>", MEMBER_ROWS[1]),), MEMBERS),
-    "a percentage and a currency": ((table(row(number(40), number(1, "percentage"), number(12, "currency"), number(8)), MEMBER_ROWS[1]),), MEMBERS),
+    "a percentage and a currency": ((table(row(number(40), number(1, "percentage"), number(12, "currency"), number(8), number(1)), MEMBER_ROWS[1]),), MEMBERS),
     "a note at a cell": ((table(row(number(40, inner="<office:annotation><text:p>note</text:p></office:annotation>"), number(1), number(12),
-                                    number(8)), MEMBER_ROWS[1]),), MEMBERS),
-    "an empty text": ((table(MEMBER_ROWS[0], row(*map(number, (61, 2, 3)), text(""))),), MEMBERS),
-    "a covered cell": ((table(MEMBER_ROWS[0], row(*map(number, (61, 2, 3)), "<table:covered-table-cell/>")),), MEMBERS),
-    "more columns": ((table(row(*map(number, (40, 1, 12, 8)), text("note")), MEMBER_ROWS[1]),), MEMBERS),
-    "the first of two sheets": ((table(*MEMBER_ROWS), table(numbers(1, 1, 1, 1), name="two")), MEMBERS),
-    "exponents": ((table(row(number("4E+1"), number("1"), number("1.2E1"), number("8")), MEMBER_ROWS[1]),), MEMBERS),
+                                    number(8), number(1)), MEMBER_ROWS[1]),), MEMBERS),
+    "an empty text": ((table(MEMBER_ROWS[0], row(*map(number, (61, 2, 3)), text(""), number(30))),), MEMBERS),
+    "a covered cell": ((table(MEMBER_ROWS[0], row(*map(number, (61, 2, 3)), "<table:covered-table-cell/>", number(30))),), MEMBERS),
+    "more columns": ((table(row(*map(number, (40, 1, 12, 8, 1)), text("note")), MEMBER_ROWS[1]),), MEMBERS),
+    "the first of two sheets": ((table(*MEMBER_ROWS), table(numbers(1, 1, 1, 1, 1), name="two")), MEMBERS),
+    "exponents": ((table(row(number("4E+1"), number("1"), number("1.2E1"), number("8"), number("1E0")), MEMBER_ROWS[1]),), MEMBERS),
     "no rows": ((table(),), b""), "empty rows alone": ((table(END),), b""),
 }
 ODS_FAULTY = {
@@ -161,37 +166,38 @@ def ods_checks(folder):
     path = folder / "sheet.ods"
     for name, (tables, wanted) in ODS_MADE.items():
         ods(path, *tables)
-        yield f"ods: {name}", made(run(folder, path.name, 4), wanted)
+        yield f"ods: {name}", made(run(folder, path.name, MEMBER_COLUMNS), wanted)
     for name, (tables, words) in ODS_FAULTY.items():
         ods(path, *tables)
-        yield f"ods: {name}: an error", faulty(run(folder, path.name, 4), "sheet.ods: ", words)
-    ods(path, table(numbers(1, 1, 1, 1)), table(*MEMBER_ROWS, name="two"))
-    yield "ods: a sheet by its name", made(run(folder, path.name, 4, "--sheet", "two"), MEMBERS)
-    yield "ods: no sheet of that name: an error", faulty(run(folder, path.name, 4, "--sheet", "three"), "no sheet three", "one, two")
+        yield f"ods: {name}: an error", faulty(run(folder, path.name, MEMBER_COLUMNS), "sheet.ods: ", words)
+    ods(path, table(numbers(1, 1, 1, 1, 1)), table(*MEMBER_ROWS, name="two"))
+    yield "ods: a sheet by its name", made(run(folder, path.name, MEMBER_COLUMNS, "--sheet", "two"), MEMBERS)
+    yield "ods: no sheet of that name: an error", faulty(run(folder, path.name, MEMBER_COLUMNS, "--sheet", "three"), "no sheet three", "one, two")
     ods(path, table(numbers(40, "0.00153", "0.001421"), numbers(41, 1, 0)))
     yield "ods: three columns", made(run(folder, path.name, 3), RATES)
     ods(path, table(), part="other.xml")
-    yield "ods: another archive: an error", faulty(run(folder, path.name, 4), "not an .ods")
+    yield "ods: another archive: an error", faulty(run(folder, path.name, MEMBER_COLUMNS), "not an .ods")
     path.write_bytes(b"40,1,12,8\n")
-    yield "ods: no archive: an error", faulty(run(folder, path.name, 4), "not an .ods")
+    yield "ods: no archive: an error", faulty(run(folder, path.name, MEMBER_COLUMNS), "not an .ods")
 
 
 def use_checks(folder):
     (folder / "sheet.txt").write_text(ROWS)
     (folder / "sheet.csv").write_text(ROWS)
     ods(folder / "sheet.ods", table(*MEMBER_ROWS))
-    yield "use: another ending: an error", faulty(run(folder, "sheet.txt", 4), "neither .ods nor .csv")
-    yield "use: no file: an error", faulty(run(folder, "none.csv", 4), "none.csv: No such file")
-    yield "use: five columns: an error", faulty(run(folder, "sheet.csv", 5), "--columns")
-    yield "use: a separator of two characters: an error", faulty(run(folder, "sheet.csv", 4, "--separator", "ab"), "one character")
-    yield "use: a separator for .ods: an error", faulty(run(folder, "sheet.ods", 4, "--separator", ";"), "is for .csv")
-    yield "use: a sheet for .csv: an error", faulty(run(folder, "sheet.csv", 4, "--sheet", "one"), "is for .ods")
-    yield "use: how many rows", run(folder, "sheet.csv", 4)[1] == "2 rows of 4 cells\n"
+    yield "use: another ending: an error", faulty(run(folder, "sheet.txt", 5), "neither .ods nor .csv")
+    yield "use: no file: an error", faulty(run(folder, "none.csv", 5), "none.csv: No such file")
+    yield "use: four columns: an error", faulty(run(folder, "sheet.csv", 4), "--columns")
+    yield "use: six columns: an error", faulty(run(folder, "sheet.csv", 6), "--columns")
+    yield "use: a separator of two characters: an error", faulty(run(folder, "sheet.csv", 5, "--separator", "ab"), "one character")
+    yield "use: a separator for .ods: an error", faulty(run(folder, "sheet.ods", 5, "--separator", ";"), "is for .csv")
+    yield "use: a sheet for .csv: an error", faulty(run(folder, "sheet.csv", 5, "--sheet", "one"), "is for .ods")
+    yield "use: how many rows", run(folder, "sheet.csv", 5)[1] == "2 rows of 5 cells\n"
 
 
 def example_checks(folder):
     """The example's sheets give its bytes, and the bytes the answer of the file."""
-    for name, columns in (("rates", 3), ("members", 4)):
+    for name, columns in (("rates", 3), ("members", MEMBER_COLUMNS)):
         (folder / f"{name}.ods").write_bytes((EXAMPLE / f"{name}.ods").read_bytes())
         yield f"example: {name}", made(run(folder, f"{name}.ods", columns), (EXAMPLE / f"{name}.sheet").read_bytes())
     data = (ROOT / "examples" / "sixty-members.fund").read_bytes()
