@@ -32,11 +32,11 @@ extern "C" {
 enum miguepo_number {
     MIGUEPO_ACCEPTED = 0,
     MIGUEPO_FORM = 1,       /* a line breaks the spelling or the order, is missing, or bytes follow; at a line */
-    MIGUEPO_RANGE = 2,      /* a number, a row count, the age order, q + i or the end count breaks its limit; at a line */
+    MIGUEPO_RANGE = 2,      /* a number, row count, lives in all, age order, q + i or end count breaks its limit; at a line */
     MIGUEPO_EDITION = 3,    /* the two editions differ */
     MIGUEPO_DEDUCTIBLE = 4, /* the deductible is above the horizon and one */
-    MIGUEPO_UNMATCHED = 5,  /* a member's age is below the first rate row's, or there is none; at a line */
-    MIGUEPO_HALF = 6,       /* a group 1 member's q + i is at least a half; at a line */
+    MIGUEPO_UNMATCHED = 5,  /* a member's age is below the first rate row's, or there is none; at its line */
+    MIGUEPO_HALF = 6,       /* a group 1 member's q + i is at least a half; at its line */
     MIGUEPO_LOAD = 7,       /* the load is above 8 x 10^12 units */
     MIGUEPO_ORDER = 8,      /* the truncation figure is above 10^8 units */
     MIGUEPO_SHORT = 9,      /* one of the five result slices has fewer cells than the horizon and one */
@@ -66,7 +66,9 @@ struct miguepo_result {
     uint64_t quantile;   /* the place of the quantile, the smallest x with F(x) at least the level; 0 where there is none */
 };
 
-/* Prices a fund file.
+/* Prices a fund file. A member line stands for as many lives as its last number says,
+ * 1 to 1,000, and is priced as so many copies of itself in its spot; all lines
+ * together have at most 1,000 lives.
  *
  *   file, file_length        the bytes of the fund file
  *   level                    the level that is asked for, in units
@@ -106,14 +108,15 @@ void miguepo_price(const uint8_t *file, size_t file_length,
 /* Prices a header text with two sheets.
  *
  *   header, header_length    the header lines of a fund file, each with its line feed
- *   rates, rates_length      rows of three cells: age, q, i
- *   members, members_length  rows of four cells: age, group, amount at death, amount at disability
+ *   rates, rates_length      rows of three cells, 24 bytes: age, q, i
+ *   members, members_length  rows of five cells, 40 bytes: age, group, amount at death, amount at disability, lives
  *   the others               as for a fund file
  *
  * A cell is an IEEE 754 binary64 of eight bytes, least byte first, at any address.
- * A NaN is a blank. An age, a group and an amount are whole numbers in their
- * ranges; a rate is the binary64 quotient of some k by 1,000,000, k from 0 to
- * 1,000,000, and k is the rate in millionths. A blank amount is 0. Minus zero is 0.
+ * A NaN is a blank. An age, a group, an amount and a number of lives are whole
+ * numbers in their ranges; a rate is the binary64 quotient of some k by 1,000,000,
+ * k from 0 to 1,000,000, and k is the rate in millionths. A blank amount is 0, no
+ * other cell may be blank. Minus zero is 0.
  *
  * Sheets whose cells are all taken are priced as the fund file with the header
  * text and the same rows: number, place, figures, quantile and every cell are that
