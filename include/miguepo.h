@@ -7,7 +7,7 @@
  *
  * The calls take every sequence of bytes, every level and result slices of every
  * length, and always return. They keep no state, allocate nothing, need less
- * than 200 KiB of stack, and may run in several threads at once on different
+ * than 250 KiB of stack, and may run in several threads at once on different
  * results.
  *
  * What only the caller can get wrong:
