@@ -1,5 +1,5 @@
 -- What acceptance says: none of the refusals' conditions holds (accepts).
-use mathlib.Core.Path.{_≡_, refl, ap}
+use mathlib.Core.Path.{_≡_, refl, ap, subst}
 use mathlib.Core.Bool.{Bool, true, false, _||_}
 use mathlib.Core.List.{List, [], _∷_, _++_, map}
 use mathlib.Core.Option.{Option, none, some}
@@ -13,13 +13,14 @@ use Rattle.fund.specs.declared.ModelPoint.{ModelPoint}
 use Rattle.fund.specs.declared.Refusal.{Refusal}
 use Rattle.fund.specs.declared.Verdict.{Verdict}
 use Rattle.fund.specs.declared.Verdict.the-variants.{Accepted}
-use Rattle.fund.specs.Base.{if_then_else_}
+use Rattle.fund.specs.Base.{if_then_else_, table}
 use Rattle.fund.specs.Limits.{half-rate, most-load, most-truncation, most-bound}
 use Rattle.fund.specs.Reading.{FundFile}
 use Rattle.fund.specs.Folding.{points, copies, lives, claim, single}
 use Rattle.fund.specs.Transform.{load, truncation}
 use Rattle.fund.specs.Recursion.{Cell}
 use Rattle.fund.specs.Refusals.{first, unmatched, half, halfLine, wide, Lengths, anyShort, short, refuse, at0, valued, matched, verdict}
+use Rattle.laws.specs.Tables.{table-first}
 
 -- a fact of every element of a list
 abbrev pub All : {A : Type 0} → (A → Type 0) → List A → Type 0
@@ -41,6 +42,12 @@ all-front P (a ∷ l) m h = (h .0, all-front P l m (h .1))
 pub all-of : {A B : Type 0} (P : B → Type 0) (f : A → B) → ((a : A) → P (f a)) → (l : List A) → All P (map f l)
 all-of P f h [] = tt
 all-of P f h (a ∷ l) = (h a, all-of P f h l)
+
+pub all-table : {A : Type 0} (P : A → Type 0) (n : ℕ) (g : ℕ → A) → All P (table n g) → (x : ℕ) → x < n → P (g x)
+unfolding table
+all-table P zero g h x l = absurd (omega arith)
+all-table P (suc n) g h zero l = subst (All P) (table-first n g) h .0
+all-table P (suc n) g h (suc x) l = all-table P n (λ k. g (suc k)) (subst (All P) (table-first n g) h .1) x (omega arith)
 
 pub all-replicate : {A : Type 0} (P : A → Type 0) (n : ℕ) (a : A) → P a → All P (replicate n a)
 all-replicate P zero a h = tt

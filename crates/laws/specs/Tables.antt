@@ -1,5 +1,5 @@
--- Laws of lists given by a sequence: table n g is g(0) to g(n-1), downFrom g x is g(x) to g(0). And of sums over lists: over two, and over one
--- element many times.
+-- Laws of lists given by a sequence: table n g is g(0) to g(n-1), downFrom g x is g(x) to g(0). And of sums over lists: over two, over a
+-- sequence, and over one element many times.
 use mathlib.Core.Path.{_≡_, refl, sym, _∙_, ap}
 use mathlib.Core.Logic.{⊎-elim}
 use mathlib.Core.List.{List, [], _∷_, _++_, map, reverse, reverse-cons, map-append}
@@ -8,6 +8,7 @@ use native.Mathlib.Nat.{eq-or-lt-of-le, le-of-suc-le-suc, zero-mul, suc-mul}
 use native.Mathlib.Omega.{arith}
 use lib.ListN.{length, getD, replicate, length-append, List·getD-append}
 use lib.Seq.{getD-at}
+use Rattle.algebra.specs.NatSum.{sumN}
 use Rattle.fund.specs.Base.{total, table}
 
 pub length-table : {A : Type 0} (n : ℕ) (g : ℕ → A) → length (table n g) ≡ n
@@ -49,6 +50,11 @@ pub total-append : {A : Type 0} (f : A → ℕ) (xs ys : List A) → total f (xs
 unfolding total
 total-append f [] ys = omega arith
 total-append f (x ∷ xs) ys = omega (arith, total-append f xs ys)
+
+pub total-table : {A : Type 0} (f : A → ℕ) (n : ℕ) (g : ℕ → A) → total f (table n g) ≡ sumN n (λ k. f (g k))
+unfolding total table
+total-table f zero g = refl
+total-table f (suc n) g = total-append f (table n g) (g n ∷ []) ∙ omega (arith, total-table f n g)
 
 pub total-replicate : {A : Type 0} (f : A → ℕ) (n : ℕ) (a : A) → total f (replicate n a) ≡ n * f a
 unfolding total

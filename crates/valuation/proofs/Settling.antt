@@ -25,8 +25,7 @@ use Rattle.fund.specs.Tariff.{gross}
 use Rattle.fund.specs.Refusals.{Lengths, first, wide, refuse, valued}
 use Rattle.fund.specs.Quantile.{runningSum}
 use Rattle.fund.specs.Answer.{Answer, part, noFigures, fundTerms, fundStart, fundCells, fundTruncation, fundMean, fundPremium, fundWithin, fundFigures, lent, refused, accepted}
-use Rattle.laws.specs.Accepted.{All, all-map, first-none, Long, long-of}
-use Rattle.laws.specs.Tables.{table-first}
+use Rattle.laws.specs.Accepted.{All, all-map, all-table, first-none, Long, long-of}
 use Rattle.laws.specs.Slices.{table-ext}
 use Rattle.laws.specs.Valued.{valued-rest}
 use Rattle.laws.specs.Answer.{fundCell, fundCells-are, f-cell, R-cell}
@@ -70,12 +69,6 @@ same-answer : {d d′ f f′ s s′ : List ℤ} {h h′ r r′ : List ℕ} {e e�
 same-answer a b c q s x y z u g = λ i. left (record { verdict = Accepted; figures = record { truncation = x i; mean = y i; premium = z i; within = u i; gross = g i } }) (a i) (b i) (c i) (q i) (s i)
 
 -- a search that found none
-all-table : {A : Type 0} (P : A → Type 0) (n : ℕ) (g : ℕ → A) → All P (table n g) → (x : ℕ) → x < n → P (g x)
-unfolding table
-all-table P zero g h x l = absurd (omega arith)
-all-table P (suc n) g h zero l = subst (All P) (table-first n g) h .0
-all-table P (suc n) g h (suc x) l = all-table P n (λ k. g (suc k)) (subst (All P) (table-first n g) h .1) x (omega arith)
-
 none-of : {A : Type 0} (met : A → Bool) (at n : ℕ) (g : ℕ → A) → first met at (table n g) ≡ none → (x : ℕ) → x < n → met (g x) ≡ false
 none-of met at n g e x l = all-table (λ a. met a ≡ false) n g (first-none met at (table n g) e) x l
 

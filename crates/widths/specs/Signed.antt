@@ -1,11 +1,11 @@
--- Whole numbers in a word with a sign: a sum is at most the sum of the sizes, and a cell with an amount added or
--- subtracted (`Shifted`), and a sum of two (`Added`), is the number itself where the sizes fit.
+-- Whole numbers in a word with a sign: a sum and a difference are at most the sum of the sizes, and a cell with an amount added or
+-- subtracted (`Shifted`), a sum of two (`Added`) and a difference of two (`Subtracted`) are the number itself where the sizes fit.
 use mathlib.Core.Path.{_≡_, refl, _∙_, ap, ap₂}
 use mathlib.Core.Bool.{Bool, true, false, not, cond}
-use Prim.Native.Nat.{ℕ, zero, suc, _+_, _-_, _≤_, _<_, _^_}
+use Prim.Native.Nat.{ℕ, zero, suc, _+_, _-_, _*_, _≤_, _<_, _^_}
 use native.Mathlib.Omega.{arith}
 use lib.Dec.{T, ltb, ltb→lt, nltb→le}
-use lib.IntN.{ℤ, pos, negsuc, negℤ, natAbs, subℕ, _+ℤ_, _-ℤ_}
+use lib.IntN.{ℤ, pos, negsuc, negℤ, natAbs, subℕ, _+ℤ_, _-ℤ_, _*ℤ_}
 use mir.Syntax.{w64}
 use mir.Val.{SFits, toZ, ofZ}
 use mir.Facts.{toZ-ofZ, toZ-pos}
@@ -29,6 +29,13 @@ natAbs-neg (pos zero) = refl
 natAbs-neg (pos (suc a)) = refl
 natAbs-neg (negsuc a) = refl
 
+pub natAbs-less : (a b : ℤ) → natAbs (a -ℤ b) ≤ natAbs a + natAbs b
+natAbs-less a b = omega (arith, natAbs-add a (negℤ b), natAbs-neg b)
+
+pub natAbs-times : (n : ℕ) (z : ℤ) → natAbs (pos n *ℤ z) ≡ n * natAbs z
+natAbs-times n (pos m) = refl
+natAbs-times n (negsuc m) = natAbs-neg (pos (n * suc m))
+
 pub natAbs-signed : (minus : Bool) (size : ℕ) → natAbs (signed minus size) ≡ size
 natAbs-signed true size = natAbs-neg (pos size)
 natAbs-signed false size = refl
@@ -46,6 +53,17 @@ pub added : (a b : ℤ) → natAbs a + natAbs b ≤ 2 ^ 62 → Added a b
 added a b h =
     let e : toZ w64 (ofZ w64 a) +ℤ toZ w64 (ofZ w64 b) ≡ a +ℤ b = ap₂ _+ℤ_ (toZ-ofZ (fits-small a (omega arith))) (toZ-ofZ (fits-small b (omega arith))) in
     let f : SFits w64 (a +ℤ b) = fits-small (a +ℤ b) (omega (arith, natAbs-add a b)) in
+    record { fits = rw e f; is = ap (λ z. toZ w64 (ofZ w64 z)) e ∙ toZ-ofZ f }
+
+-- and their difference
+pub record Subtracted (a b : ℤ) : Type 0 where
+  pub fits : SFits w64 (toZ w64 (ofZ w64 a) -ℤ toZ w64 (ofZ w64 b))
+  pub is : toZ w64 (ofZ w64 (toZ w64 (ofZ w64 a) -ℤ toZ w64 (ofZ w64 b))) ≡ a -ℤ b
+
+pub subtracted : (a b : ℤ) → natAbs a + natAbs b ≤ 2 ^ 62 → Subtracted a b
+subtracted a b h =
+    let e : toZ w64 (ofZ w64 a) -ℤ toZ w64 (ofZ w64 b) ≡ a -ℤ b = ap₂ _-ℤ_ (toZ-ofZ (fits-small a (omega arith))) (toZ-ofZ (fits-small b (omega arith))) in
+    let f : SFits w64 (a -ℤ b) = fits-small (a -ℤ b) (omega (arith, natAbs-less a b)) in
     record { fits = rw e f; is = ap (λ z. toZ w64 (ofZ w64 z)) e ∙ toZ-ofZ f }
 
 pub record Shifted (cell z : ℤ) (minus : Bool) (size : ℕ) : Type 0 where

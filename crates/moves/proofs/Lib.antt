@@ -1,0 +1,3 @@
+pub mod Lines
+pub mod GrossExcess
+pub mod FiguresRange

@@ -1,0 +1,120 @@
+-- `moves::files::first_member_line`. The invariant: what is left to compare are the lines from k on.
+use mathlib.Core.Path.{_≡_, sym, _∙_}
+use Prim.Native.Nat.{_≤_, _<_, _-_}
+use native.Mathlib.Omega.{arith}
+use lib.ListN.{length, getD, take, length-take}
+use lib.Seq.{getD-take}
+use borrow.Author.Tests.{not-true, not-false}
+use borrow.Author.Needs.{needs}
+use Rattle.fund.specs.Limits.{most-members}
+use Rattle.laws.specs.Rows.{blankMember}
+use Rattle.moves.specs.Differences.{sameMember}
+use Rattle.moves.proofs.Lines.{Ahead, ahead-all, ahead-step, ahead-none, ahead-old, ahead-new, ahead-other}
+use Rattle.moves.proofs.files.first_member_line.Statement.{statement}
+use Rattle.moves.proofs.files.first_member_line.Tie as tie
+
+abbrev Inv-loop : tie.InvT-loop
+Inv-loop enrolled others old new k₀ k = (k ≤ most-members) × Ahead (take enrolled old) (take others new) k
+
+abbrev μ-loop : tie.MeasureT-loop
+μ-loop enrolled others old new k₀ k = most-members - k
+
+loop-holds : tie.Need-loop-holds Inv-loop μ-loop
+loop-holds c = (omega arith, ahead-all _ _)
+
+add-next : tie.Need-add-next Inv-loop μ-loop
+add-next c = omega arith
+
+returns : tie.Need-returns Inv-loop μ-loop
+returns c =
+    let l = c .before .before .before in
+    let a = l .before .args in
+    (sym (ahead-none _ _ (l .loop .k) (l .loop .inv .1) (omega (arith, length-take (a .enrolled) (a .t1))) (omega (arith, length-take (a .others) (a .t3)))), omega arith)
+
+returns-2 : tie.Need-returns-2 Inv-loop μ-loop
+returns-2 c =
+    let l = c .before .before .before in
+    let a = l .before .args in
+    (sym (ahead-new _ _ (l .loop .k) (l .loop .inv .1) (omega (arith, length-take (a .enrolled) (a .t1))) (omega (arith, length-take (a .others) (a .t3)))), omega arith)
+
+returns-3 : tie.Need-returns-3 Inv-loop μ-loop
+returns-3 c =
+    let l = c .before .before .before in
+    let a = l .before .args in
+    (sym (ahead-old _ _ (l .loop .k) (l .loop .inv .1) (omega (arith, length-take (a .enrolled) (a .t1))) (omega (arith, length-take (a .others) (a .t3)))), omega arith)
+
+mul-is-same : tie.Need-mul-is-same Inv-loop μ-loop
+mul-is-same c = search needs
+
+array-copy-out-is-same : tie.Need-array-copy-out-is-same Inv-loop μ-loop
+array-copy-out-is-same c = search needs
+
+mul-is-same-2 : tie.Need-mul-is-same-2 Inv-loop μ-loop
+mul-is-same-2 c = search needs
+
+array-copy-out-is-same-2 : tie.Need-array-copy-out-is-same-2 Inv-loop μ-loop
+array-copy-out-is-same-2 c = search needs
+
+is-same-requires : tie.Need-is-same-requires Inv-loop μ-loop
+is-same-requires c κs = search needs
+
+-- behind the comparison of line k: both files have it, and what the comparison says of the two lines
+abbrev at : tie.After-is-same Inv-loop μ-loop → tie.At-loop Inv-loop μ-loop
+at c = c .before .before .before .before .before .before
+
+old-has : (c : tie.After-is-same Inv-loop μ-loop) → let a = at c .before .args in at c .loop .k < length (take (a .enrolled) (a .t1))
+old-has c = let a = at c .before .args in omega (arith, length-take (a .enrolled) (a .t1))
+
+new-has : (c : tie.After-is-same Inv-loop μ-loop) → let a = at c .before .args in at c .loop .k < length (take (a .others) (a .t3))
+new-has c = let a = at c .before .args in omega (arith, length-take (a .others) (a .t3))
+
+says : (c : tie.After-is-same Inv-loop μ-loop) → let a = at c .before .args in let k = at c .loop .k in
+    sameMember (getD (take (a .enrolled) (a .t1)) k blankMember) (getD (take (a .others) (a .t3)) k blankMember) ≡ c .is-same .result
+says c =
+    let a = at c .before .args in
+    let k = at c .loop .k in
+    rw (getD-take (a .enrolled) (a .t1) k blankMember (omega arith), getD-take (a .others) (a .t3) k blankMember (omega arith)) (sym (c .is-same .ensures))
+
+returns-4 : tie.Need-returns-4 Inv-loop μ-loop
+returns-4 c =
+    let s = c .before in
+    (sym (ahead-other _ _ _ (at s .loop .inv .1) (old-has s) (new-has s) (says s ∙ not-true _ (c .if4 .taken))), omega arith)
+
+add-k : tie.Need-add-k Inv-loop μ-loop
+add-k c = omega arith
+
+loop-less : tie.Need-loop-less Inv-loop μ-loop
+loop-less c = omega arith
+
+loop-again : tie.Need-loop-again Inv-loop μ-loop
+loop-again c =
+    let s = c .before in
+    (omega arith, ahead-step _ _ _ (at s .loop .inv .1) (old-has s) (new-has s) (says s ∙ not-false _ (c .if4 .left)))
+
+returns-5 : tie.Need-returns-5 Inv-loop μ-loop
+returns-5 c =
+    let l = c .before in
+    let a = l .before .args in
+    (sym (ahead-none _ _ (l .loop .k) (l .loop .inv .1) (omega (arith, length-take (a .enrolled) (a .t1))) (omega (arith, length-take (a .others) (a .t3)))), omega arith)
+
+pub first-member-line-spec : {M : Type 1} → statement M
+first-member-line-spec =
+    tie.close
+    (tie.spec
+    Inv-loop
+    μ-loop
+    loop-holds
+    add-next
+    returns
+    returns-2
+    returns-3
+    mul-is-same
+    array-copy-out-is-same
+    mul-is-same-2
+    array-copy-out-is-same-2
+    is-same-requires
+    returns-4
+    add-k
+    loop-less
+    loop-again
+    returns-5)
