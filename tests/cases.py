@@ -6,6 +6,8 @@
     python3 tests/cases.py check-stream DIR
     python3 tests/cases.py sheet-stream DIR N SEED
     python3 tests/cases.py check-sheet-stream DIR
+    python3 tests/cases.py comparison-stream DIR N SEED
+    python3 tests/cases.py check-comparison-stream DIR
     python3 tests/cases.py programs CRATES
     python3 tests/cases.py check-programs CRATES
 
@@ -28,9 +30,16 @@ its member sheet, six decimal digits and a space each, and its level as above, t
 three one after the other; the part that is handed back is one of the header text.  The
 first cases are those of sheet_funds.py that are short.
 
+In a stream of comparisons each case has the lengths of the old and of the new file, six
+decimal digits each with a space between and a line feed behind, then the two files one
+after the other.  stdout has each listing of a comparison and an empty line.  The first
+cases are those of comparison_funds.py; then come generated ones, and the full fund under
+other rates with its last member changed.
+
 The programs `listing` and `overlong` of CRATES are one program, run on a full fund
 and on a file that is longer than what is read; `level` is asked at the level in its
-file args; `sheets` is run on the three files that its args name, in its folder data.
+file args; `sheets` is run on the three files that its args name, in its folder data,
+and `compare` on the two: the fund of sixty members, and it under a new edition.
 """
 
 import random
@@ -38,10 +47,13 @@ import sys
 from itertools import zip_longest
 from pathlib import Path
 
+import comparison
+import comparison_funds
 import distribution_funds
 import document_funds
 import frequency_funds
 import generate
+import generate_pairs
 import generate_sheets
 import lives_funds
 import pricing
@@ -57,6 +69,7 @@ LONGEST = 65536      # what the program that reads a stream has room for
 MOST_LEVEL = 9999999999999      # thirteen digits
 HEAD = 21            # bytes before each file of a stream
 SHEET_HEAD = 35      # bytes before each header text of a stream of sheets
+COMPARISON_HEAD = 14     # bytes before each old file of a stream of comparisons
 GAPS = 40            # funds with rates for some ages only
 
 
@@ -240,17 +253,61 @@ def check_sheet_stream(directory):
     return check_stored(directory, sheet_pairs_of, sheet_stream_of)
 
 
+# Streams of comparisons
+
+def comparison_of(old, new):
+    return comparison.listing(comparison.compare(old, new))
+
+
+def comparison_stream_of(pairs):
+    """stdin and stdout for pairs of files."""
+    return (b"".join(b"%06d %06d\n" % (len(old), len(new)) + old + new for old, new in pairs),
+            b"".join(comparison_of(old, new) + b"\n" for old, new in pairs))
+
+
+def comparison_pairs_of(stream):
+    """The pairs of files of a stream."""
+    pairs, at = [], 0
+    while at < len(stream):
+        old_size, new_size = (int(word) for word in stream[at:at + COMPARISON_HEAD].split())
+        start = at + COMPARISON_HEAD
+        at = start + old_size + new_size
+        pairs.append((stream[start:start + old_size], stream[start + old_size:at]))
+    return pairs
+
+
+def comparison_stream_pairs(count, seed):
+    """The pairs worked by hand, so many generated ones, one in ten of them long, and the full pair."""
+    made = generate_pairs.random_pairs(seed, count - count // 10) + generate_pairs.long_pairs(seed, count // 10)
+    pairs = [(old, new) for _, old, new, _ in comparison_funds.PAIRS]
+    pairs += [(pair.old, pair.new) for pair in [*made, generate_pairs.full_pair()]]
+    return [pair for pair in pairs if max(map(len, pair)) <= LONGEST]
+
+
+def write_comparison_stream(directory, count, seed):
+    pairs = comparison_stream_pairs(count, seed)
+    store(directory, *comparison_stream_of(pairs))
+    return len(pairs)
+
+
+def check_comparison_stream(directory):
+    return check_stored(directory, comparison_pairs_of, comparison_stream_of)
+
+
 # Programs
+
+EXAMPLES = Path(__file__).resolve().parent.parent / "examples"
+
 
 def programs():
     """The programs of one file with their input and, for one that is asked at a level, the level."""
-    worked = Path(__file__).resolve().parent.parent / "examples" / "sixty-members.fund"
     return {"listing": (generate.full_fund().data(), None),
             "overlong": (generate.overlong_file().data(), None),
-            "level": (worked.read_bytes(), 990000000000)}
+            "level": ((EXAMPLES / "sixty-members.fund").read_bytes(), 990000000000)}
 
 
 SHEET_FILES = ("header", "rates", "members")
+COMPARED_FILES = ("old", "new")
 
 
 def sheet_program():
@@ -258,14 +315,27 @@ def sheet_program():
     return generate_sheets.other_zeros(random.Random(2030), generate_sheets.full_sheets()).sheets()
 
 
-def write_sheet_program(folder):
-    """In the folder of a crate that is there."""
-    three = sheet_program()
-    (folder / "data").mkdir(exist_ok=True)
-    for name, data in zip(SHEET_FILES, three):
+def compared_program():
+    """The fund of sixty members, and it under a new edition."""
+    return tuple((EXAMPLES / name).read_bytes() for name in ("sixty-members.fund", "sixty-members-2031.fund"))
+
+
+def store_with_data(folder, names, files, wanted):
+    (folder / "data").mkdir(parents=True, exist_ok=True)
+    for name, data in zip(names, files, strict=True):
         (folder / "data" / name).write_bytes(data)
-    (folder / "args").write_text("".join(f"{name}\n" for name in SHEET_FILES))
-    (folder / "stdout").write_bytes(printed(sheets.price_sheets(*three)))
+    (folder / "args").write_text("".join(f"{name}\n" for name in names))
+    (folder / "stdout").write_bytes(wanted)
+
+
+def write_sheet_program(folder):
+    three = sheet_program()
+    store_with_data(folder, SHEET_FILES, three, printed(sheets.price_sheets(*three)))
+
+
+def write_compared_program(folder):
+    two = compared_program()
+    store_with_data(folder, COMPARED_FILES, two, comparison_of(*two))
 
 
 def write_programs(crates):
@@ -275,21 +345,28 @@ def write_programs(crates):
         if level is not None:
             (crates / name / "args").write_text(f"{level}\n")
     write_sheet_program(crates / "sheets")
-    return len(programs()) + 1
+    write_compared_program(crates / "compare")
+    return len(programs()) + 2
+
+
+def wanted_of_data(folder):
+    """What a program should print for the files that its args name: two are compared, three are a fund."""
+    names = (folder / "args").read_text().splitlines()
+    files = [(folder / "data" / name).read_bytes() for name in names]
+    return comparison_of(*files) if len(files) == len(COMPARED_FILES) else printed(sheets.price_sheets(*files))
 
 
 def wanted_of(folder):
     """What a program should print for what its folder holds."""
     if (folder / "data").exists():
-        return printed(sheets.price_sheets(*((folder / "data" / name).read_bytes()
-                                             for name in (folder / "args").read_text().split("\n")[:-1])))
+        return wanted_of_data(folder)
     data = (folder / "stdin").read_bytes()
     arguments = folder / "args"
     return level_line(data, int(arguments.read_text())) if arguments.exists() else listing_of(data)
 
 
 def check_programs(crates):
-    names = [*programs(), "sheets"]
+    names = [*programs(), "sheets", "compare"]
     bad = [name for name in names if wanted_of(crates / name) != (crates / name / "stdout").read_bytes()]
     for name in bad:
         print(f"differs: {name}")
@@ -316,6 +393,12 @@ def main(arguments):
         return 0
     if len(arguments) == 2 and arguments[0] == "check-sheet-stream":
         return check_sheet_stream(Path(arguments[1]))
+    if len(arguments) == 4 and arguments[0] == "comparison-stream":
+        count = write_comparison_stream(Path(arguments[1]), int(arguments[2]), int(arguments[3]))
+        print(f"{count} cases written")
+        return 0
+    if len(arguments) == 2 and arguments[0] == "check-comparison-stream":
+        return check_comparison_stream(Path(arguments[1]))
     if len(arguments) == 2 and arguments[0] == "programs":
         print(f"{write_programs(Path(arguments[1]))} programs written")
         return 0

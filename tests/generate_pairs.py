@@ -313,6 +313,14 @@ def long_pairs(seed, count):
     return pairs
 
 
+def full_pair():
+    """The full fund, and it with its rates moved, fewer rows and its last member changed."""
+    rng, old = random.Random(2031), generate.full_fund()
+    age, group, d, e, lives = old.member_rows[-1]
+    new = new_edition(rng, moved_a_little(rng, with_row(old, len(old.member_rows) - 1, (age, group, d, e - 1, lives))))
+    return Pair("full", old.data(), replace(new, rate_rows=new.rate_rows[:110]).data())
+
+
 if __name__ == "__main__":
     for pair in random_pairs(1, 80) + long_pairs(1, 10):
         print(pair.name, len(pair.old), len(pair.new), pricing.price(pair.old).number, pricing.price(pair.new).number)

@@ -1,0 +1,207 @@
+"""All checks of the comparison of two files.  Run: python3 tests/test_comparison.py
+
+A check is a pair (name, holds).  The last line printed counts them.
+"""
+
+import subprocess
+import sys
+import tempfile
+import time
+from collections import Counter
+from pathlib import Path
+
+import cases
+import comparison
+import comparison_funds
+import comparison_mutations
+import generate_pairs
+import pricing
+
+ROOT = Path(__file__).resolve().parent.parent
+OLD, NEW = ROOT / "examples" / "sixty-members.fund", ROOT / "examples" / "sixty-members-2031.fund"
+SMALL, LONG = 12000, 1200        # pairs compared with exact values
+MUTATED = 400                    # pairs that each wrong program is tried on
+KINDS = Counter()                # of the pairs compared with exact values
+
+
+# Pairs from a seed
+
+def kind_of(pair):
+    move = comparison.compare(pair.old, pair.new).move
+    if move is None:
+        return "a file refused"
+    words = [word for word, differs in (("header", move.header), ("members", move.member)) if differs]
+    return " and ".join(words) or "rates alone"
+
+
+def exact_checks(pairs):
+    checks = []
+    for pair in pairs:
+        KINDS[kind_of(pair)] += 1
+        broken = comparison.check_move(pair.old, pair.new)
+        checks.append((f"exact: {pair.name} {broken}", not broken))
+    return checks
+
+
+def exchanged_holds(pair):
+    """From new to old every move is the opposite, every interval too, and the same lines differ."""
+    there, back = comparison.compare(pair.old, pair.new), comparison.compare(pair.new, pair.old)
+    if (there.old, there.new) != (back.new, back.old) or (there.move is None) != (back.move is None):
+        return False
+    if there.move is None:
+        return True
+    one, two = there.move, back.move
+    return ((one.premium, one.least, one.most, one.arithmetic) == (-two.premium, -two.most, -two.least, two.arithmetic)
+            and (one.gross, one.gross_least, one.gross_most) == (-two.gross, -two.gross_most, -two.gross_least)
+            and (one.header, one.member, one.old_line, one.new_line) == (two.header, two.member, two.new_line, two.old_line))
+
+
+def twice_holds(data):
+    """A file beside itself: no move, and nothing else differs."""
+    move = comparison.compare(data, data).move
+    return move is None or (move.premium, move.gross, move.header, move.member, move.least) == (0, 0, 0, 0, -move.arithmetic)
+
+
+def with_point(figure, digits):
+    """A figure of a listing, in whole units, as decimals."""
+    size = figure.lstrip("-").zfill(digits + 1)
+    return ("-" if figure.startswith("-") else "") + size[:-digits] + "." + size[-digits:]
+
+
+def own_lines(name, data):
+    """The block of a file, from the listing of the file."""
+    own = dict(line.split("=") for line in pricing.listing(pricing.price(data)).splitlines() if not line.startswith("cell="))
+    if "refused" in own:
+        return [f"{name}-refused={own['refused']}"]
+    return [f"{name}-{key}={with_point(own[key], digits)}" for key, digits in (("premium", 12), ("within", 12), ("gross", 2))]
+
+
+def own_figures_hold(pair):
+    """The block of a file says what the listing of the file does, whatever it is compared with."""
+    lines = comparison.listing(comparison.compare(pair.old, pair.new)).decode("ascii").splitlines()
+    wanted = own_lines("old", pair.old) + own_lines("new", pair.new)
+    return lines[:len(wanted)] == wanted
+
+
+def turning_checks(pairs):
+    return ([(f"exchanged: {pair.name}", exchanged_holds(pair)) for pair in pairs]
+            + [(f"twice: {pair.name}", twice_holds(pair.new)) for pair in pairs])
+
+
+# Wrong programs
+
+def mutation_checks(pairs):
+    """Each is told apart by a pair worked by hand; how many pairs from a seed notice is printed."""
+    by_hand, checks = dict(comparison_mutations.told_apart()), []
+    right = [comparison.listing(comparison.compare(pair.old, pair.new)) for pair in pairs]
+    for name, target, value in comparison_mutations.MUTATIONS:
+        with comparison_mutations.mutated(target, value):
+            other = sum(comparison.listing(comparison.compare(pair.old, pair.new)) != listing for pair, listing in zip(pairs, right))
+        print(f"  {name}: {len(by_hand[name])} by hand, {other} of {len(pairs)} from a seed")
+        checks.append((f"told apart by hand: {name}", bool(by_hand[name])))
+    return checks
+
+
+def unsound_checks(pairs):
+    """Wrong intervals are noticed by the exact values alone."""
+    checks = []
+    for name in ("the difference of the bounds", "an interval about 0", "the interval's ends exchanged", "the excess without one centime",
+                 "the gross interval's ends exchanged", "old and new swapped in the move", "the new bound alone"):
+        target, value = next(row[1:] for row in comparison_mutations.MUTATIONS if row[0] == name)
+        with comparison_mutations.mutated(target, value):
+            noticed = sum(bool(comparison.check_move(pair.old, pair.new)) for pair in pairs)
+        print(f"  {name}: the exact values of {noticed} of {len(pairs)} pairs notice")
+        checks.append((f"the exact values notice: {name}", noticed > 0))
+    return checks
+
+
+# The worked pair and the programs
+
+def worked_checks():
+    old, new = OLD.read_bytes(), NEW.read_bytes()
+    found, page = comparison.compare(old, new), (ROOT / "docs" / "COMPARING.md").read_text()
+    shown = "".join(f"    {line}\n" for line in comparison.listing(found).decode("ascii").splitlines())
+    return [("the worked pair: accepted", found.move is not None),
+            ("the worked pair: the rates alone", comparison.renewed(old, new) == new and found.move.header == found.move.member == 0),
+            ("the worked pair: every rate line differs", not set(comparison.rate_lines(old)) & set(comparison.rate_lines(new))),
+            ("the worked pair: shown in docs/COMPARING.md", shown in page)]
+
+
+def run(*arguments):
+    done = subprocess.run([sys.executable, "tests/comparison.py", *map(str, arguments)], cwd=ROOT, capture_output=True)
+    return done.returncode, done.stdout, bool(done.stderr)
+
+
+def program_checks():
+    text = comparison.listing(comparison.compare(OLD.read_bytes(), NEW.read_bytes()))
+    missing = ROOT / "examples" / "no.fund"
+    return [("program: a pair", run(OLD, NEW) == (0, text, False)),
+            ("program: two pairs", run(OLD, NEW, OLD, NEW) == (0, text + b"\n" + text, False)),
+            ("program: the new file unreadable", run(OLD, missing) == (0, b"unreadable=new\n", True)),
+            ("program: the old file unreadable", run(missing, NEW, OLD, NEW) == (0, b"unreadable=old\n\n" + text, True)),
+            ("program: both unreadable", run(ROOT, missing) == (0, b"unreadable=old\nunreadable=new\n", True)),
+            ("program: an odd number of files", run(OLD)[:2] == (2, b"")),
+            ("program: no files", run()[:2] == (2, b""))]
+
+
+def stream_checks():
+    pairs = cases.comparison_stream_pairs(40, 3)
+    given, wanted = cases.comparison_stream_of(pairs)
+    old, new = pairs[0]
+    return [("stream of comparisons: the files are read back", cases.comparison_pairs_of(given) == pairs),
+            ("stream of comparisons: the same seed gives the same", cases.comparison_stream_pairs(40, 3) == pairs),
+            ("stream of comparisons: its first bytes", given.startswith(b"%06d %06d\n" % (len(old), len(new)) + old + new)),
+            ("stream of comparisons: its first answer", wanted.startswith(comparison_funds.PAIRS[0][3] + b"\n")),
+            ("stream of comparisons: an empty line behind each", wanted.endswith(b"\n\n") and wanted.count(b"\n\n") == len(pairs)),
+            ("stream of comparisons: none too long", max(len(data) for pair in pairs for data in pair) <= cases.LONGEST),
+            ("stream of comparisons: pairs worked by hand", [pair for pair in comparison_funds.PAIRS if pair[1:3] not in pairs] == [])]
+
+
+def stored_program_checks():
+    with tempfile.TemporaryDirectory() as directory:
+        folder = Path(directory) / "compare"
+        cases.write_compared_program(folder)
+        printed = (folder / "stdout").read_bytes()
+        checks = [("program compare: its arguments", (folder / "args").read_text() == "old\nnew\n"),
+                  ("program compare: its files", [(folder / "data" / name).read_bytes() for name in ("old", "new")]
+                   == [OLD.read_bytes(), NEW.read_bytes()]),
+                  ("program compare: does not differ", cases.wanted_of(folder) == printed)]
+        (folder / "data" / "new").write_bytes(OLD.read_bytes())
+        return checks + [("program compare: another file differs", cases.wanted_of(folder) != printed)]
+
+
+def sections():
+    small, long = generate_pairs.random_pairs(2031, SMALL), generate_pairs.long_pairs(2031, LONG)
+    yield "pairs worked by hand", comparison_funds.checks()
+    yield "pairs from a seed against exact values", exact_checks(small)
+    yield "long pairs against exact values", exact_checks(long)
+    yield "old and new exchanged", turning_checks(small[::6] + long[::20])
+    yield "the files' own figures", [(f"own figures: {pair.name}", own_figures_hold(pair)) for pair in small[1::6] + long[1::20]]
+    yield "the worked pair", worked_checks()
+    yield "program", program_checks()
+    yield "stored cases", stream_checks() + stored_program_checks()
+    yield "wrong programs", mutation_checks(small[:MUTATED])
+    yield "wrong programs against exact values", unsound_checks(small[:MUTATED])
+
+
+def main():
+    passed = failed = 0
+    started = time.monotonic()
+    for name, checks in sections():
+        for check, holds in checks:
+            if not holds:
+                print(f"  FAILED {check}")
+        bad = sum(not holds for _, holds in checks)
+        passed, failed = passed + len(checks) - bad, failed + bad
+        print(f"{name}: {len(checks) - bad} passed, {bad} failed")
+        if not checks:
+            failed += 1
+            print(f"  FAILED {name}: no checks")
+    print("compared with exact values: " + ", ".join(f"{count} with {kind}" for kind, count in KINDS.most_common()))
+    print(f"{time.monotonic() - started:.0f} seconds")
+    print(f"{passed} passed, {failed} failed")
+    return 1 if failed else 0
+
+
+if __name__ == "__main__":
+    sys.exit(main())
