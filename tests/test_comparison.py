@@ -117,14 +117,37 @@ def unsound_checks(pairs):
 
 # The worked pair and the programs
 
+CHANGED_MEMBER = b"member=61,1,35,17,1", b"member=61,1,35,12,1"
+
+
+def shown(old, new, lines=slice(None)):
+    """A listing, or some of its lines, as docs/COMPARING.md shows it."""
+    return "".join(f"    {line}\n" for line in comparison.listing(comparison.compare(old, new)).decode("ascii").splitlines()[lines])
+
+
+def old_with(old, new, column):
+    """The new file with one of the old file's two rates on each rate line."""
+    old_rows, new_rows = ([line.split(b",") for line in comparison.rate_lines(data)] for data in (old, new))
+    rows = [b",".join(one if at == column else two for at, (one, two) in enumerate(zip(*pair))) for pair in zip(old_rows, new_rows)]
+    lines = comparison.lines_of(new)
+    return b"".join(line + b"\n" for line in lines[:7] + rows + lines[7 + len(rows):])
+
+
 def worked_checks():
     old, new = OLD.read_bytes(), NEW.read_bytes()
+    changed = new.replace(*CHANGED_MEMBER)
     found, page = comparison.compare(old, new), (ROOT / "docs" / "COMPARING.md").read_text()
-    shown = "".join(f"    {line}\n" for line in comparison.listing(found).decode("ascii").splitlines())
+    middle = old_with(old, new, 2)          # the old disability rates
+    deaths, disabilities = comparison.compare(old, middle).move.premium, comparison.compare(middle, new).move.premium
     return [("the worked pair: accepted", found.move is not None),
             ("the worked pair: the rates alone", comparison.renewed(old, new) == new and found.move.header == found.move.member == 0),
             ("the worked pair: every rate line differs", not set(comparison.rate_lines(old)) & set(comparison.rate_lines(new))),
-            ("the worked pair: shown in docs/COMPARING.md", shown in page)]
+            ("docs/COMPARING.md: the worked pair", shown(old, new) in page),
+            ("docs/COMPARING.md: a member changed", new.count(CHANGED_MEMBER[0]) == 1 and shown(old, changed, slice(6, None)) in page),
+            ("docs/COMPARING.md: the file between", comparison.renewed(old, changed) == new),
+            ("docs/COMPARING.md: the second step", shown(new, changed) in page),
+            ("docs/COMPARING.md: a file refused", shown(old, new.replace(b"members=2031", b"members=2030")) in page),
+            ("docs/COMPARING.md: deaths and disabilities", (round(deaths, -8), round(disabilities, -8)) == (-41500000000, 81000000000))]
 
 
 def run(*arguments):
