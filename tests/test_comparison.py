@@ -3,6 +3,7 @@
 A check is a pair (name, holds).  The last line printed counts them.
 """
 
+import random
 import subprocess
 import sys
 import tempfile
@@ -86,6 +87,20 @@ def own_figures_hold(pair):
 def turning_checks(pairs):
     return ([(f"exchanged: {pair.name}", exchanged_holds(pair)) for pair in pairs]
             + [(f"twice: {pair.name}", twice_holds(pair.new)) for pair in pairs])
+
+
+def terms_checks(count):
+    """Horizon, order and worth do not enter the exact premium: the exact move is then the rates' too."""
+    rng, checks = random.Random(2031), []
+    for index in range(count):
+        old = generate_pairs.base_text(rng)
+        change = (generate_pairs.other_horizon, generate_pairs.other_order, generate_pairs.other_worth)[index % 3]
+        new = change(rng, generate_pairs.moved_a_little(rng, old))
+        if not any(pricing.price(text.data()).number for text in (old, new)):
+            kept = comparison.renewed(old.data(), new.data())
+            same = comparison.exact_premium(new.data())[0] == comparison.exact_premium(kept)[0]
+            checks.append((f"exact premium: {change.__name__} {index}", same))
+    return checks
 
 
 # Wrong programs
@@ -200,6 +215,7 @@ def sections():
     yield "long pairs against exact values", exact_checks(long)
     yield "old and new exchanged", turning_checks(small[::6] + long[::20])
     yield "the files' own figures", [(f"own figures: {pair.name}", own_figures_hold(pair)) for pair in small[1::6] + long[1::20]]
+    yield "what enters no exact premium", terms_checks(600)
     yield "the worked pair", worked_checks()
     yield "program", program_checks()
     yield "stored cases", stream_checks() + stored_program_checks()
