@@ -20,9 +20,9 @@ import pricing
 
 ROOT = Path(__file__).resolve().parent.parent
 OLD, NEW = ROOT / "examples" / "sixty-members.fund", ROOT / "examples" / "sixty-members-2031.fund"
-SMALL, LONG = 12000, 1200        # pairs compared with exact values
+SMALL, LONG = 12000, 1200        # pairs from a seed, against exact values
 MUTATED = 400                    # pairs that each wrong program is tried on
-KINDS = Counter()                # of the pairs compared with exact values
+KINDS = Counter()                # of the pairs from a seed
 
 
 # Pairs from a seed
@@ -236,7 +236,7 @@ def main():
         if not checks:
             failed += 1
             print(f"  FAILED {name}: no checks")
-    print("compared with exact values: " + ", ".join(f"{count} with {kind}" for kind, count in KINDS.most_common()))
+    print("what differs, or a refusal: " + ", ".join(f"{count} {kind}" for kind, count in KINDS.most_common()))
     print(f"{time.monotonic() - started:.0f} seconds")
     print(f"{passed} passed, {failed} failed")
     return 1 if failed else 0
