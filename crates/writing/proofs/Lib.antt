@@ -1,0 +1,5 @@
+pub mod Putting
+pub mod Decimal
+pub mod Pointed
+pub mod Signed
+pub mod Sizes
