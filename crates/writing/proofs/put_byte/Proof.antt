@@ -7,7 +7,7 @@ use Rattle.writing.proofs.put_byte.Statement.{statement}
 use Rattle.writing.proofs.put_byte.Tie as tie
 
 returns-2 : tie.Need-returns-2
-returns-2 c = record { stored = sym (set-out _ _ _ (c .if1 .left)); behind = omega arith }
+returns-2 c = record { stored = sym (set-out _ _ _ (omega arith)); behind = omega arith }
 
 pub put-byte-spec : {M : Type 1} → statement M
 put-byte-spec =
