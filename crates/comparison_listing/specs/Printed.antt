@@ -1,0 +1,28 @@
+-- What `listing` and `print` write, where the text has room for every listing of a comparison.
+use mathlib.Core.List.{List, []}
+use Prim.Native.Nat.{ℕ}
+use lib.Dec.{leb}
+use Rattle.fund.specs.Base.{if_then_else_}
+use Rattle.fund.specs.Reading.{reading}
+use Rattle.fund.specs.Answer.{answer}
+use Rattle.fund.specs.Listing.{enough}
+use Rattle.comparison.specs.declared.Compared.{Compared}
+use Rattle.comparison.specs.declared.Comparison.{Comparison}
+use Rattle.comparison.specs.Comparison.{compared}
+use Rattle.comparison_listing.specs.Lines.{comparisonLines}
+
+abbrev pub comparison-room : ℕ
+comparison-room = 512
+
+unfoldable pub listingOf : Compared → ℕ → List ℕ
+listingOf c size = if leb comparison-room size then comparisonLines (c .old .verdict) (c .old .figures) (c .new .verdict) (c .new .figures) (c .comparison) else []
+
+-- The comparison of two files, priced into slices that are long enough for every horizon.
+unfoldable pub comparisonOf : List ℕ → List ℕ → Comparison
+comparisonOf old new = compared (reading old) (answer old enough) (reading new) (answer new enough)
+
+unfoldable pub comparisonListing : List ℕ → List ℕ → List ℕ
+comparisonListing old new = comparisonLines (answer old enough .verdict) (answer old enough .figures) (answer new enough .verdict) (answer new enough .figures) (comparisonOf old new)
+
+unfoldable pub shownComparison : List ℕ → List ℕ → ℕ → List ℕ
+shownComparison old new size = if leb comparison-room size then comparisonListing old new else []
