@@ -21,7 +21,7 @@ use Rattle.fund.specs.Distance.{WithinBounds, NeverBelow, QuantileWithin}
 use Rattle.laws.specs.Ranges.{FundOk, read-ranges}
 use Rattle.distance.specs.Distance.{distance, level-within}
 use Rattle.text.specs.Shown.{room}
-use Rattle.text.specs.Writing.{Written}
+use Rattle.writing.specs.Writing.{Written}
 use Rattle.printing.specs.declared.PrintedInput.{PrintedInput}
 use Rattle.printing.specs.Input.{PrintsInput, PrintsLevelInput}
 use Rattle.printing.specs.Printed.{shownTo, levelLineTo, shownLevelTo}

@@ -38,7 +38,7 @@ ghost use Rattle.totals.specs.Tests.{testedOf};
 ghost use Rattle.valuation.specs.Valued.{left as leftOf, lengths, valuation};
 ghost use Rattle.text.specs.Shown.{shownAnswer, listingOf};
 ghost use Rattle.text.specs.Level.{levelLineOf};
-ghost use Rattle.text.specs.Writing.{Written};
+ghost use Rattle.writing.specs.Writing.{Written};
 
 // The named constants are the definitions' limits.
 pub fn claimed_limits() -> Limits

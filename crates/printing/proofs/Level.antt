@@ -13,7 +13,7 @@ use Rattle.fund.specs.Folding.{lives}
 use Rattle.fund.specs.Refusals.{Lengths, verdict}
 use Rattle.fund.specs.Answer.{Answer, fundCells, refused, answerOf, answerTo}
 use Rattle.fund.specs.Listing.{horizonIn, enough}
-use Rattle.text.specs.Writing.{Written}
+use Rattle.writing.specs.Writing.{Written}
 use Rattle.text.specs.Level.{answerLine, level-room, levelLineOf}
 use Rattle.pricing.specs.declared.Priced.{Priced}
 use Rattle.pricing.specs.Priced.{left, Answers}

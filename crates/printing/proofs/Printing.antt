@@ -17,7 +17,7 @@ use Rattle.fund.specs.Refusals.{Lengths}
 use Rattle.fund.specs.Answer.{Answer, answerTo}
 use Rattle.fund.specs.Listing.{listed, printed, horizonIn, enough, listingTo}
 use Rattle.laws.specs.Ranges.{FundOk}
-use Rattle.text.specs.Writing.{Written}
+use Rattle.writing.specs.Writing.{Written}
 use Rattle.text.specs.Shown.{room, shownAnswer, printable, listingOf}
 use Rattle.valuation.specs.Valued.{lengths}
 use Rattle.pricing.specs.declared.Priced.{Priced}

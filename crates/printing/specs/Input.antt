@@ -7,7 +7,7 @@ use Prim.Native.Nat.{ℕ, _≤_, _<_}
 use lib.IntN.{ℤ, pos, negsuc}
 use lib.ListN.{length, take}
 use Rattle.prefix.specs.Prefix.{most-bytes}
-use Rattle.text.specs.Writing.{Written}
+use Rattle.writing.specs.Writing.{Written}
 use Rattle.printing.specs.declared.PrintedInput.{PrintedInput}
 use Rattle.printing.specs.declared.input.Input.{Input}
 use Rattle.printing.specs.declared.input.FileBytes.{FileBytes}

@@ -12,7 +12,7 @@ pub use sheets::print_sheets_level;
 ghost use mathlib.Core.Path.{_≡_};
 ghost use Prim.Native.Nat.{_≤_};
 ghost use lib.ListN.{length, take};
-ghost use Rattle.text.specs.Writing.{Written};
+ghost use Rattle.writing.specs.Writing.{Written};
 ghost use Rattle.printing.specs.Printed.{shown, shownLevel};
 ghost use Rattle.printing.specs.Input.{HoldsFirst, PrintsFirst, PrintsInput, PrintsLevelFirst, PrintsLevelInput};
 

@@ -4,7 +4,7 @@ ghost use mathlib.Core.Path.{_≡_};
 ghost use Prim.Native.Nat.{_≤_};
 ghost use lib.ListN.{length, take};
 ghost use Rattle.fund.specs.Sheets.{sheetReading};
-ghost use Rattle.text.specs.Writing.{Written};
+ghost use Rattle.writing.specs.Writing.{Written};
 ghost use Rattle.printing.specs.Printed.{shownTo, shownLevelTo};
 
 // Prices the fund of a header text and two sheets and writes its listing, as `print` does of a file.

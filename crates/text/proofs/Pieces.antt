@@ -1,9 +1,10 @@
 -- The lines of a listing as the pieces that are put one behind the other, and the test of the bounds R(x): as a fact of each
 -- (bounded-at), one by one, and as a fact of their sums (sum-most).
-use mathlib.Core.Path.{_≡_, refl, ap}
+use mathlib.Core.Path.{_≡_, refl, sym, ap, _∙_}
 use mathlib.Core.Bool.{Bool, true, false, _&&_}
-use mathlib.Core.List.{List, [], _∷_, _++_, append-assoc}
-use Prim.Native.Nat.{ℕ, zero, suc, _+_, _-_, _*_, _≤_, _<_}
+use mathlib.Core.List.{List, [], _∷_, _++_, append-assoc, append-nil}
+use Prim.Native.Nat.{ℕ, zero, suc, _+_, _*_, _≤_, _<_}
+use native.Mathlib.Nat.{add-zero, zero-add, add-suc, suc-add}
 use native.Mathlib.Numerals.{add-one}
 use native.Mathlib.Omega.{arith}
 use borrow.Author.Tests.{leb-true, le-leb, lt-leb}
@@ -20,7 +21,7 @@ use Rattle.fund.specs.Limits.{most-bound}
 use Rattle.fund.specs.Refusals.{numberOf}
 use Rattle.fund.specs.Distribution.{distributionBound}
 use Rattle.fund.specs.Listing.{decimal, joined, cellLine, cellLines, refusedLine}
-use Rattle.text.specs.Writing.{Put}
+use Rattle.writing.specs.Writing.{Puts}
 use Rattle.text.specs.Shown.{bounded}
 use Rattle.text.specs.Pieces.{boundedText, cellText}
 
@@ -31,7 +32,7 @@ cell-pieces x f within F bound = simp append-assoc
 
 -- The code holds f and F as words.
 pub cell-words : {text : List ℕ} {at : ℕ} (x : ℕ) (f : ℤ) (within : ℕ) (F : ℤ) (bound : ℕ) {after : List ℕ} {next : ℕ} → SFits w64 f → SFits w64 F
-    → Put text at (cellText x (toZ w64 (ofZ w64 f)) within (toZ w64 (ofZ w64 F)) bound) after next → Put text at (cellText x f within F bound) after next
+    → Puts text at (cellText x (toZ w64 (ofZ w64 f)) within (toZ w64 (ofZ w64 F)) bound) after next → Puts text at (cellText x f within F bound) after next
 cell-words x f within F bound g G p = rw (toZ-ofZ g, toZ-ofZ G) at p
 
 pub refusal-pieces : (why : Refusal) (place n : ℕ) → n ≡ numberOf why
@@ -47,12 +48,20 @@ pub bound-step : (E : ℕ) (R : List ℕ) (x : ℕ) → boundBefore E R (x + 1) 
 unfolding sum
 bound-step E R x = rw add-one (omega arith)
 
--- The lines of the cells from x on: that of x, and those behind it.
-pub cells-step : (E : ℕ) (f : List ℤ) (R : List ℕ) (F : List ℤ) (x n bound : ℕ) → x < n → bound ≡ boundBefore E R x
-    → cellLines E f R F x (n - x)
-    ≡ cellText x (getD f x (pos 0)) (getD R x 0 + 2 * E) (getD F x (pos 0)) (bound + getD R x 0) ++ cellLines E f R F (x + 1) (n - (x + 1))
-unfolding cellLines cellLine cellText distributionBound
-cells-step E f R F x n bound h e = let k : n - x ≡ suc (n - (x + 1)) = omega arith in rw (k, e, ← bound-step, add-one)
+lines-more : (E : ℕ) (f : List ℤ) (R : List ℕ) (F : List ℤ) (x n : ℕ)
+    → cellLines E f R F x (suc n) ≡ cellLines E f R F x n ++ cellLine E f R F (x + n)
+unfolding cellLines
+lines-more E f R F x zero = append-nil _ ∙ ap (cellLine E f R F) (sym (add-zero x))
+lines-more E f R F x (suc n) =
+    ap (λ l. cellLine E f R F x ++ l) (lines-more E f R F (suc x) n) ∙ sym (append-assoc (cellLine E f R F x) (cellLines E f R F (suc x) n) _)
+    ∙ ap (λ y. cellLines E f R F x (suc n) ++ cellLine E f R F y) (suc-add x n ∙ sym (add-suc x n))
+
+-- The lines of the cells up to x: those before it, and that of x.
+pub cells-step : (E : ℕ) (f : List ℤ) (R : List ℕ) (F : List ℤ) (x bound : ℕ) → bound ≡ boundBefore E R x
+    → cellLines E f R F 0 (x + 1)
+    ≡ cellLines E f R F 0 x ++ cellText x (getD f x (pos 0)) (getD R x 0 + 2 * E) (getD F x (pos 0)) (bound + getD R x 0)
+unfolding cellLine cellText distributionBound
+cells-step E f R F x bound e = rw (add-one, lines-more, zero-add, e, ← bound-step, add-one)
 
 pub and-left : (a b : Bool) → a && b ≡ true → a ≡ true
 and-left true b e = refl

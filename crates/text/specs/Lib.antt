@@ -1,4 +1,3 @@
-pub mod Writing
 pub mod Shown
 pub mod Level
 pub mod Pieces

@@ -5,12 +5,15 @@ use fund::Fund;
 use fund::Quantile;
 use fund::Refusal;
 use fund::Verdict;
+use writing::put_figure;
+use writing::put_key;
+use writing::put_line;
+use writing::put_signed_figure;
 ghost use mathlib.Core.Path.{_≡_};
-ghost use mathlib.Core.List.{[], _∷_, _++_};
-ghost use Prim.Native.Nat.{_+_, _*_, _<_, _≤_};
+ghost use Prim.Native.Nat.{_*_, _≤_};
 ghost use lib.ListN.{length};
-ghost use Rattle.fund.specs.Listing.{decimal, signedDecimal, joined, cellLines, refusedLine};
-ghost use Rattle.text.specs.Writing.{HasRoom, Put, Written};
+ghost use Rattle.fund.specs.Listing.{cellLines, refusedLine};
+ghost use Rattle.writing.specs.Writing.{Puts, Written};
 ghost use Rattle.text.specs.Pieces.{boundedText, cellText, head, premiumLines, foot, acceptedLines, PrintableCells};
 ghost use Rattle.text.specs.Shown.{most-cell-line, room, shownAnswer, bounded, printable, listingOf};
 ghost use Rattle.text.specs.Level.{quantileLine, level-room, levelLineOf};
@@ -69,93 +72,9 @@ pub fn level_line(verdict: Verdict, quantile: Quantile, text: &mut [u8]) -> usiz
     }
 }
 
-// Writes the byte.
-fn put_byte(byte: u8, text: &mut [u8], at: usize) -> usize
-    requires { ⌜ HasRoom (now text) at (byte ∷ []) ⌝ }
-    ensures { λ next. ⌜ Put (now (text .entry)) at (byte ∷ []) (now (text .exit)) next ⌝ }
-{
-    text[at] = byte;
-    at + 1
-}
-
-// Writes the key's bytes.
-fn put_key(key: &[u8], text: &mut [u8], at: usize) -> usize
-    requires { ⌜ HasRoom (now text) at (now key) ⌝ }
-    ensures { λ next. ⌜ Put (now (text .entry)) at (now (key .entry)) (now (text .exit)) next ⌝ }
-{
-    let mut next = at;
-    let mut i = 0;
-    while i < key.len() {
-        next = put_byte(key[i], text, next);
-        i += 1;
-    }
-    next
-}
-
-// Writes one digit.
-fn put_digit(digit: u64, text: &mut [u8], at: usize) -> usize
-    requires { ⌜ (digit < 10) × HasRoom (now text) at ((48 + digit) ∷ []) ⌝ }
-    ensures { λ next. ⌜ Put (now (text .entry)) at ((48 + digit) ∷ []) (now (text .exit)) next ⌝ }
-{
-    put_byte(b'0' + digit as u8, text, at)
-}
-
-// Writes the number in decimal: the digits before the last, then the last.
-fn put_decimal(n: u64, text: &mut [u8], at: usize) -> usize
-    requires { ⌜ HasRoom (now text) at (decimal n) ⌝ }
-    ensures { λ next. ⌜ Put (now (text .entry)) at (decimal n) (now (text .exit)) next ⌝ }
-{
-    if n < 10 {
-        return put_digit(n, text, at);
-    }
-    let last = put_decimal(n / 10, text, at);
-    put_digit(n % 10, text, last)
-}
-
-// Writes the number in decimal, a negative one with its sign.
-fn put_signed(z: i64, text: &mut [u8], at: usize) -> usize
-    requires { ⌜ HasRoom (now text) at (signedDecimal z) ⌝ }
-    ensures { λ next. ⌜ Put (now (text .entry)) at (signedDecimal z) (now (text .exit)) next ⌝ }
-{
-    let n = whole::magnitude(z);
-    if z < 0 {
-        let digits = put_byte(b'-', text, at);
-        return put_decimal(n, text, digits);
-    }
-    put_decimal(n, text, at)
-}
-
-// Writes the number and the byte behind it: a comma, or the line feed.
-fn put_figure(n: u64, end: u8, text: &mut [u8], at: usize) -> usize
-    requires { ⌜ HasRoom (now text) at (decimal n ++ (end ∷ [])) ⌝ }
-    ensures { λ next. ⌜ Put (now (text .entry)) at (decimal n ++ (end ∷ [])) (now (text .exit)) next ⌝ }
-{
-    let behind = put_decimal(n, text, at);
-    put_byte(end, text, behind)
-}
-
-// The same for a number that may be negative.
-fn put_signed_figure(z: i64, end: u8, text: &mut [u8], at: usize) -> usize
-    requires { ⌜ HasRoom (now text) at (signedDecimal z ++ (end ∷ [])) ⌝ }
-    ensures { λ next. ⌜ Put (now (text .entry)) at (signedDecimal z ++ (end ∷ [])) (now (text .exit)) next ⌝ }
-{
-    let behind = put_signed(z, text, at);
-    put_byte(end, text, behind)
-}
-
-// Writes a line with one figure.
-fn put_line(key: &[u8], n: u64, text: &mut [u8], at: usize) -> usize
-    requires { ⌜ HasRoom (now text) at (now key ++ joined (decimal n) []) ⌝ }
-    ensures { λ next. ⌜ Put (now (text .entry)) at (now (key .entry) ++ joined (decimal n) []) (now (text .exit)) next ⌝ }
-{
-    let figure = put_key(key, text, at);
-    put_figure(n, b'\n', text, figure)
-}
-
 // Writes a figure that may be negative, its bound behind a comma, and the byte behind both.
 fn put_bounded(z: i64, bound: u64, end: u8, text: &mut [u8], at: usize) -> usize
-    requires { ⌜ HasRoom (now text) at (boundedText z bound end) ⌝ }
-    ensures { λ next. ⌜ Put (now (text .entry)) at (boundedText z bound end) (now (text .exit)) next ⌝ }
+    ensures { λ next. ⌜ Puts (now (text .entry)) at (boundedText z bound end) (now (text .exit)) next ⌝ }
 {
     let bound_at = put_signed_figure(z, b',', text, at);
     put_figure(bound, end, text, bound_at)
@@ -163,8 +82,7 @@ fn put_bounded(z: i64, bound: u64, end: u8, text: &mut [u8], at: usize) -> usize
 
 // Writes the line of a cell: x, f(x) and its bound, F(x) and its bound.
 fn put_cell(x: u64, f: i64, within: u64, sum: i64, bound: u64, text: &mut [u8], at: usize) -> usize
-    requires { ⌜ HasRoom (now text) at (cellText x f within sum bound) ⌝ }
-    ensures { λ next. ⌜ Put (now (text .entry)) at (cellText x f within sum bound) (now (text .exit)) next ⌝ }
+    ensures { λ next. ⌜ Puts (now (text .entry)) at (cellText x f within sum bound) (now (text .exit)) next ⌝ }
 {
     let x_at = put_key(b"cell=", text, at);
     let f_at = put_figure(x, b',', text, x_at);
@@ -182,9 +100,9 @@ fn put_cells(
     text: &mut [u8],
     at: usize,
 ) -> usize
-    requires { ⌜ PrintableCells truncation (now f) (now r) (now sums) count × (at + most-cell-line * count ≤ length (now text)) ⌝ }
-    ensures { λ next. ⌜ Put (now (text .entry)) at (cellLines truncation (now (f .entry)) (now (r .entry)) (now (sums .entry)) 0 count) (now (text .exit)) next ⌝ }
-    ensures { λ next. ⌜ next ≤ at + most-cell-line * count ⌝ }
+    requires { ⌜ PrintableCells truncation (now f) (now r) (now sums) count ⌝ }
+    ensures { λ next. ⌜ Puts (now (text .entry)) at (cellLines truncation (now (f .entry)) (now (r .entry)) (now (sums .entry)) 0 count) (now (text .exit)) next ⌝ }
+    ensures { λ next. ⌜ length (cellLines truncation (now (f .entry)) (now (r .entry)) (now (sums .entry)) 0 count) ≤ most-cell-line * count ⌝ }
 {
     let cut = 2 * truncation;
     let mut bound = cut;
@@ -202,8 +120,7 @@ fn put_cells(
 
 // Writes the lines before the cells.
 fn put_head(figures: Figures, text: &mut [u8]) -> usize
-    requires { ⌜ HasRoom (now text) 0 (head figures) ⌝ }
-    ensures { λ next. ⌜ Put (now (text .entry)) 0 (head figures) (now (text .exit)) next ⌝ }
+    ensures { λ next. ⌜ Puts (now (text .entry)) 0 (head figures) (now (text .exit)) next ⌝ }
 {
     let next = put_line(b"truncation=", figures.truncation, text, 0);
     put_line(b"mean=", figures.mean, text, next)
@@ -211,8 +128,7 @@ fn put_head(figures: Figures, text: &mut [u8]) -> usize
 
 // Writes the lines of the premium and of its bound.
 fn put_premium(figures: Figures, text: &mut [u8], at: usize) -> usize
-    requires { ⌜ HasRoom (now text) at (premiumLines figures) ⌝ }
-    ensures { λ next. ⌜ Put (now (text .entry)) at (premiumLines figures) (now (text .exit)) next ⌝ }
+    ensures { λ next. ⌜ Puts (now (text .entry)) at (premiumLines figures) (now (text .exit)) next ⌝ }
 {
     let figure = put_key(b"premium=", text, at);
     let next = put_signed_figure(figures.premium, b'\n', text, figure);
@@ -221,8 +137,7 @@ fn put_premium(figures: Figures, text: &mut [u8], at: usize) -> usize
 
 // Writes the lines behind the cells.
 fn put_foot(figures: Figures, text: &mut [u8], at: usize) -> usize
-    requires { ⌜ HasRoom (now text) at (foot figures) ⌝ }
-    ensures { λ next. ⌜ Put (now (text .entry)) at (foot figures) (now (text .exit)) next ⌝ }
+    ensures { λ next. ⌜ Puts (now (text .entry)) at (foot figures) (now (text .exit)) next ⌝ }
 {
     let next = put_premium(figures, text, at);
     put_line(b"gross=", figures.gross, text, next)

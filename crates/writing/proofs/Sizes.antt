@@ -1,5 +1,4 @@
 -- How long a piece can be: a word has at most 20 digits, a signed one at most 19 and its sign, and a point takes one byte more.
-use mathlib.Core.List.{List}
 use Prim.Native.Nat.{ℕ, suc, _+_, _/_, _^_, _≤_, _<_}
 use native.Mathlib.Omega.{arith}
 use lib.IntN.{ℤ, pos, negsuc}
@@ -7,7 +6,7 @@ use lib.ListN.{length, length-append}
 use mir.Syntax.{w64}
 use mir.Val.{SFits}
 use Rattle.fund.specs.Listing.{decimal, signedDecimal}
-use Rattle.writing.specs.Pointed.{padded, pointed, signedPointed}
+use Rattle.writing.specs.Pointed.{pointed, signedPointed}
 use Rattle.writing.proofs.Decimal.{decimal-length}
 use Rattle.writing.proofs.Pointed.{padded-length}
 

@@ -4,7 +4,7 @@ use mathlib.Core.List.{List}
 use Prim.Native.Nat.{ℕ}
 use borrow.Author.Needs.{needs}
 use lib.ListN.{length}
-use Rattle.text.specs.Writing.{Written}
+use Rattle.writing.specs.Writing.{Written}
 use Rattle.printing.proofs.Printing.{written-within}
 use Rattle.printing.proofs.Level.{level-is}
 use Rattle.printing.proofs.print_level.Statement.{statement}

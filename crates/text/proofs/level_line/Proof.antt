@@ -1,6 +1,6 @@
 -- `text::level_line` meets its contract: the room decides whether a line is written, and the verdict which.
 use borrow.Author.Needs.{needs}
-use Rattle.text.proofs.Putting.{written-none, written-as}
+use Rattle.writing.proofs.Putting.{written-none, written-as}
 use Rattle.text.proofs.Level.{level-short, level-accepted, level-refused}
 use Rattle.text.proofs.level_line.Statement.{statement}
 use Rattle.text.proofs.level_line.Tie as tie

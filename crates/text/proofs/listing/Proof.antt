@@ -5,7 +5,7 @@ use native.Mathlib.Omega.{arith}
 use borrow.Author.Tests.{not-true, not-false}
 use lib.ListN.{length}
 use Rattle.text.specs.Shown.{printable}
-use Rattle.text.proofs.Putting.{written-none, written-as}
+use Rattle.writing.proofs.Putting.{written-none, written-as}
 use Rattle.text.proofs.Range.{Printable, in-range, given, listing-out, listing-accepted, listing-refused}
 use borrow.Author.Needs.{needs}
 use Rattle.text.proofs.listing.Statement.{statement}

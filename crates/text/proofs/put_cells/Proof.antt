@@ -1,18 +1,21 @@
--- `text::put_cells` meets its contract. The invariant: `bound` is the bound before x, what is left to put is the lines of the cells from x
--- on, and the lines before them have at most 73 bytes each.
+-- `text::put_cells` meets its contract. The invariant: `bound` is the bound before x, and the lines of the cells before x are put, which have
+-- at most `most-cell-line` bytes each.
 use mathlib.Core.Path.{_≡_}
 use Prim.Native.Nat.{_≤_, _-_, _+_, _*_}
-use native.Mathlib.Nat.{sub-zero}
 use native.Mathlib.Omega.{arith}
-use lib.ListN.{getD}
+use lib.IntN.{pos}
+use lib.ListN.{length, getD}
+use mir.Syntax.{w64}
+use mir.Val.{SFits}
 use borrow.Author.Needs.{needs, sfits-of}
 use Rattle.fund.specs.Base.{sum}
 use Rattle.fund.specs.Limits.{most-horizon, most-truncation, most-bound}
 use Rattle.fund.specs.Listing.{cellLines}
 use Rattle.text.specs.Shown.{most-cell-line}
-use Rattle.text.proofs.Putting.{room-most, put-most, Left, left-all, left-step, left-none}
+use Rattle.writing.specs.Writing.{Puts}
+use Rattle.writing.proofs.Putting.{puts-none, puts-length, puts-then}
 use Rattle.text.proofs.Pieces.{cell-words, boundBefore, bound-step, cells-step, bounded-before, sum-most}
-use Rattle.text.proofs.Sizes.{cell-size}
+use Rattle.text.proofs.Sizes.{cells-size}
 use Rattle.text.proofs.put_cells.Statement.{statement}
 use Rattle.text.proofs.put_cells.Tie as tie
 
@@ -20,8 +23,8 @@ abbrev Inv-loop : tie.InvT-loop
 Inv-loop truncation f r sums count text₀ at cut bound₀ next₀ x₀ text bound next x =
     (x ≤ count)
     × (bound ≡ boundBefore truncation r x)
-    × (next ≤ at + most-cell-line * x)
-    × Left text₀ at (cellLines truncation f r sums 0 count) text next (cellLines truncation f r sums x (count - x))
+    × (length (cellLines truncation f r sums 0 x) ≤ most-cell-line * x)
+    × Puts text₀ at (cellLines truncation f r sums 0 x) text next
 
 abbrev μ-loop : tie.MeasureT-loop
 μ-loop truncation f r sums count text₀ at cut bound₀ next₀ x₀ text bound next x = count - x
@@ -34,16 +37,16 @@ bounds : (c : tie.In-loop Inv-loop μ-loop) → (getD (start c .args .r .now) (c
 bounds c =
     let s = start c in
     let l = c .before .loop in (
-      bounded-before _ _ (s .pre .0 .bounds) (l .x) (c .loop-test .taken),
-      omega (arith, sum-most (s .args .count) (s .args .r .now) (s .pre .0 .bounds) (l .x) (l .inv .0)),
+      bounded-before _ _ (s .pre .bounds) (l .x) (c .loop-test .taken),
+      omega (arith, sum-most (s .args .count) (s .args .r .now) (s .pre .bounds) (l .x) (l .inv .0)),
     )
 
 mul-cut : tie.Need-mul-cut Inv-loop μ-loop
 mul-cut c = omega arith
 
 loop-holds : tie.Need-loop-holds Inv-loop μ-loop
-unfolding sum
-loop-holds c = (omega arith, omega arith, omega arith, rw sub-zero (left-all _ _ _))
+unfolding sum cellLines
+loop-holds c = (omega arith, omega arith, omega arith, puts-none _ _)
 
 mul-cell-bound : tie.Need-mul-cell-bound Inv-loop μ-loop
 mul-cell-bound c = omega arith
@@ -70,9 +73,7 @@ shared-slice-copy-out-put-cell-2 : tie.Need-shared-slice-copy-out-put-cell-2 Inv
 shared-slice-copy-out-put-cell-2 c = omega arith
 
 put-cell-requires : tie.Need-put-cell-requires Inv-loop μ-loop
-put-cell-requires c κs =
-    let b = bounds (c .before .before .before .before) in
-    room-most (cell-size _ _ _ _ _ (omega arith) (search needs) (omega arith) (search needs) (omega arith)) (omega arith)
+put-cell-requires c κs = search needs
 
 add-x : tie.Need-add-x Inv-loop μ-loop
 add-x c = omega arith
@@ -88,23 +89,23 @@ loop-again c =
     let l = t .before .loop in
     let b = bounds t in
     let p = c .before .before .put-cell .ensures in
-    let step = cells-step (s .truncation) (s .f .now) (s .r .now) (s .sums .now) (l .x) (s .count) (l .bound) (t .loop-test .taken) (l .inv .1) in (
+    let step = cells-step (s .truncation) (s .f .now) (s .r .now) (s .sums .now) (l .x) (l .bound) (l .inv .1) in
+    let f : SFits w64 (getD (s .f .now) (l .x) (pos 0)) = sfits-of (a .before .put-cell-arg .given) in
+    let F : SFits w64 (getD (s .sums .now) (l .x) (pos 0)) = sfits-of (a .put-cell-arg2 .given) in (
       omega arith,
       omega (arith, bound-step (s .truncation) (s .r .now) (l .x)),
-      omega (arith, put-most p (cell-size _ _ _ _ _ (omega arith) (search needs) (omega arith) (search needs) (omega arith))),
-      left-step _ _ (rw step at (l .inv .3)) (cell-words _ _ _ _ _ (sfits-of (a .before .put-cell-arg .given)) (sfits-of (a .put-cell-arg2 .given)) p),
+      cells-size (s .truncation) (s .f .now) (s .r .now) (s .sums .now) (l .x) (l .bound) (l .inv .1) (l .inv .2) (omega arith) f (omega arith) F (omega arith),
+      rw step (puts-then (l .inv .3) (cell-words _ _ _ _ _ f F p)),
     )
 
 same-length : tie.Need-same-length Inv-loop μ-loop
-same-length c = c .before .loop .inv .3 .size
+same-length c = puts-length (c .before .loop .inv .3)
 
 returns : tie.Need-returns Inv-loop μ-loop
-unfolding cellLines
 returns c =
-    let s = c .before .before .before .before in
     let l = c .before .loop in
-    let done : s .args .count - l .x ≡ 0 = omega arith in
-    (left-none (rw done at (l .inv .3)), omega arith)
+    let done : l .x ≡ c .before .before .before .before .args .count = omega arith in
+    (rw done at (l .inv .3), rw done at (l .inv .2))
 
 pub put-cells-spec : {M : Type 1} → statement M
 put-cells-spec =

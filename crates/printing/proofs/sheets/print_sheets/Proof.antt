@@ -5,7 +5,7 @@ use Prim.Native.Nat.{ℕ}
 use borrow.Author.Needs.{needs}
 use lib.ListN.{length}
 use Rattle.laws.specs.SheetRanges.{sheet-ranges}
-use Rattle.text.specs.Writing.{Written}
+use Rattle.writing.specs.Writing.{Written}
 use Rattle.printing.proofs.Printing.{written-within, cells-length, signed-length, shown-is}
 use Rattle.printing.proofs.sheets.print_sheets.Statement.{statement}
 use Rattle.printing.proofs.sheets.print_sheets.Tie as tie
