@@ -3,10 +3,7 @@
 use mathlib.Core.Path.{_≡_}
 use Prim.Native.Nat.{_≤_, _-_, _+_, _*_}
 use native.Mathlib.Omega.{arith}
-use lib.IntN.{pos}
 use lib.ListN.{length, getD}
-use mir.Syntax.{w64}
-use mir.Val.{SFits}
 use borrow.Author.Needs.{needs, sfits-of}
 use Rattle.fund.specs.Base.{sum}
 use Rattle.fund.specs.Limits.{most-horizon, most-truncation, most-bound}
@@ -23,8 +20,8 @@ abbrev Inv-loop : tie.InvT-loop
 Inv-loop truncation f r sums count text₀ at cut bound₀ next₀ x₀ text bound next x =
     (x ≤ count)
     × (bound ≡ boundBefore truncation r x)
-    × (length (cellLines truncation f r sums 0 x) ≤ most-cell-line * x)
     × Puts text₀ at (cellLines truncation f r sums 0 x) text next
+    × (length (cellLines truncation f r sums 0 x) ≤ most-cell-line * x)
 
 abbrev μ-loop : tie.MeasureT-loop
 μ-loop truncation f r sums count text₀ at cut bound₀ next₀ x₀ text bound next x = count - x
@@ -46,7 +43,7 @@ mul-cut c = omega arith
 
 loop-holds : tie.Need-loop-holds Inv-loop μ-loop
 unfolding sum cellLines
-loop-holds c = (omega arith, omega arith, omega arith, puts-none _ _)
+loop-holds c = (omega arith, omega arith, puts-none _ _, omega arith)
 
 mul-cell-bound : tie.Need-mul-cell-bound Inv-loop μ-loop
 mul-cell-bound c = omega arith
@@ -89,23 +86,22 @@ loop-again c =
     let l = t .before .loop in
     let b = bounds t in
     let p = c .before .before .put-cell .ensures in
-    let step = cells-step (s .truncation) (s .f .now) (s .r .now) (s .sums .now) (l .x) (l .bound) (l .inv .1) in
-    let f : SFits w64 (getD (s .f .now) (l .x) (pos 0)) = sfits-of (a .before .put-cell-arg .given) in
-    let F : SFits w64 (getD (s .sums .now) (l .x) (pos 0)) = sfits-of (a .put-cell-arg2 .given) in (
+    let step = cells-step (s .truncation) (s .f .now) (s .r .now) (s .sums .now) (l .x) (l .bound) (l .inv .1) in (
       omega arith,
       omega (arith, bound-step (s .truncation) (s .r .now) (l .x)),
-      cells-size (s .truncation) (s .f .now) (s .r .now) (s .sums .now) (l .x) (l .bound) (l .inv .1) (l .inv .2) (omega arith) f (omega arith) F (omega arith),
-      rw step (puts-then (l .inv .3) (cell-words _ _ _ _ _ f F p)),
+      rw step (puts-then (l .inv .2) (cell-words _ _ _ _ _ (sfits-of (a .before .put-cell-arg .given)) (sfits-of (a .put-cell-arg2 .given)) p)),
+      cells-size (s .truncation) (s .f .now) (s .r .now) (s .sums .now) (l .x) (l .bound) (l .inv .1) (l .inv .3)
+          (omega arith) (sfits-of (a .before .put-cell-arg .given)) (omega arith) (sfits-of (a .put-cell-arg2 .given)) (omega arith),
     )
 
 same-length : tie.Need-same-length Inv-loop μ-loop
-same-length c = puts-length (c .before .loop .inv .3)
+same-length c = puts-length (c .before .loop .inv .2)
 
 returns : tie.Need-returns Inv-loop μ-loop
 returns c =
     let l = c .before .loop in
     let done : l .x ≡ c .before .before .before .before .args .count = omega arith in
-    (rw done at (l .inv .3), rw done at (l .inv .2))
+    (rw done at (l .inv .2), rw done at (l .inv .3))
 
 pub put-cells-spec : {M : Type 1} → statement M
 put-cells-spec =
