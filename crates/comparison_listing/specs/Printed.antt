@@ -1,14 +1,21 @@
--- What `listing` and `print` write, where the text has room for every listing of a comparison.
+-- What `listing` and `print` write, where the text has room for every listing of a comparison; and what is said of the exact move.
+use mathlib.Core.Path.{_≡_}
 use mathlib.Core.List.{List, []}
 use Prim.Native.Nat.{ℕ}
 use lib.Dec.{leb}
+use lib.ListN.{length}
 use Rattle.fund.specs.Base.{if_then_else_}
-use Rattle.fund.specs.Reading.{reading}
+use Rattle.fund.specs.Reading.{FundFile, read, reading}
 use Rattle.fund.specs.Answer.{answer}
 use Rattle.fund.specs.Listing.{enough}
+use Rattle.writing.specs.Writing.{Written}
+use Rattle.moves.specs.declared.Move.{Move}
+use Rattle.moves.specs.declared.files.Differences.{Differences}
 use Rattle.comparison.specs.declared.Compared.{Compared}
 use Rattle.comparison.specs.declared.Comparison.{Comparison}
+use Rattle.comparison.specs.declared.Comparison.the-variants.{Moved}
 use Rattle.comparison.specs.Comparison.{compared}
+use Rattle.comparison.specs.Exact.{ExactMove, RatesAlone}
 use Rattle.comparison_listing.specs.Lines.{comparisonLines}
 
 abbrev pub comparison-room : ℕ
@@ -26,3 +33,12 @@ comparisonListing old new = comparisonLines (answer old enough .verdict) (answer
 
 unfoldable pub shownComparison : List ℕ → List ℕ → ℕ → List ℕ
 shownComparison old new size = if leb comparison-room size then comparisonListing old new else []
+
+-- What `print` leaves: the listing. Of a move that it shows, the exact move is where the listing says; and where no header line but the editions' and no
+-- member line differs, it is that of the rates.
+pub record PrintsComparison (old new before after : List ℕ) (size : ℕ) : Type 0 where
+  pub written : Written (shownComparison old new (length before)) before after size
+  pub exact : (f g : FundFile) → reading old ≡ read f → reading new ≡ read g → (v : Move) (d : Differences) → comparisonOf old new ≡ Moved v d →
+      ExactMove f (answer old enough) g (answer new enough) v
+  pub rates : (f g : FundFile) → reading old ≡ read f → reading new ≡ read g → (v : Move) (d : Differences) → comparisonOf old new ≡ Moved v d → d .header ≡ 0 → d .member ≡ 0 →
+      RatesAlone f (answer old enough) g (answer new enough) v

@@ -1,7 +1,8 @@
-// The bytes of a comparison's listing.
+// The listing of a comparison: from two fund files, or from what a comparison answers, to its bytes.
 use comparison::Compared;
 use comparison::Comparison;
 use fund::Figures;
+use fund::Fund;
 use fund::Refusal;
 use fund::Verdict;
 use moves::Differences;
@@ -15,22 +16,25 @@ use writing::put_signed_pointed;
 ghost use mathlib.Core.Path.{_≡_};
 ghost use mathlib.Core.List.{_++_};
 ghost use Prim.Native.Nat.{_+_, _*_, _≤_};
-ghost use lib.ListN.{length};
+ghost use lib.ListN.{length, take};
 ghost use Rattle.fund.specs.Listing.{refusedLine};
 ghost use Rattle.writing.specs.Writing.{Puts, Written};
 ghost use Rattle.comparison_listing.specs.Lines.{pointedLine, signedLine, intervalLine, figureLines, fundLines, nothingElse, otherHeader, otherMember, otherLines, intervalLines, moveLines};
-ghost use Rattle.comparison_listing.specs.Printed.{listingOf};
+ghost use Rattle.comparison_listing.specs.Printed.{listingOf, PrintsComparison};
 
 // Bytes enough for the listing of every comparison.
 pub const ROOM: usize = 512;
 
-// The digits behind the point of units of 10^-12, and of centimes.
-const UNITS: u64 = 12;
+// Cells enough for every horizon.
+const CELLS: usize = Fund::MOST_HORIZON as usize + 1;
 
-const CENTIMES: u64 = 2;
+// The digits behind the point of units of 10^-12, and of centimes.
+const UNITS: u8 = 12;
+
+const CENTIMES: u8 = 2;
 
 // Puts a line with one number that is not negative.
-fn put_pointed_line(key: &[u8], places: u64, n: u64, text: &mut [u8], at: usize) -> usize
+fn put_pointed_line(key: &[u8], places: u8, n: u64, text: &mut [u8], at: usize) -> usize
     ensures { λ next. ⌜ Puts (now (text .entry)) at (pointedLine (now (key .entry)) places n) (now (text .exit)) next ⌝ }
 {
     let figure = put_key(key, text, at);
@@ -39,7 +43,7 @@ fn put_pointed_line(key: &[u8], places: u64, n: u64, text: &mut [u8], at: usize)
 }
 
 // The same for a number that may be negative.
-fn put_signed_line(key: &[u8], places: u64, z: i64, text: &mut [u8], at: usize) -> usize
+fn put_signed_line(key: &[u8], places: u8, z: i64, text: &mut [u8], at: usize) -> usize
     ensures { λ next. ⌜ Puts (now (text .entry)) at (signedLine (now (key .entry)) places z) (now (text .exit)) next ⌝ }
 {
     let figure = put_key(key, text, at);
@@ -48,7 +52,7 @@ fn put_signed_line(key: &[u8], places: u64, z: i64, text: &mut [u8], at: usize) 
 }
 
 // Puts a line with the two ends of an interval.
-fn put_interval(key: &[u8], places: u64, least: i64, most: i64, text: &mut [u8], at: usize) -> usize
+fn put_interval(key: &[u8], places: u8, least: i64, most: i64, text: &mut [u8], at: usize) -> usize
     ensures { λ next. ⌜ Puts (now (text .entry)) at (intervalLine (now (key .entry)) places least most) (now (text .exit)) next ⌝ }
 {
     let figure = put_key(key, text, at);
@@ -207,4 +211,38 @@ pub fn listing(compared: Compared, text: &mut [u8]) -> usize
     let second = put_fund(b"old-", old_verdict, old_figures, text, 0);
     let move_at = put_fund(b"new-", new_verdict, new_figures, text, second);
     put_comparison(comparison, text, move_at)
+}
+
+// Compares two fund files and writes the listing from the start of the text; returns its size. A text that has no room for every such listing is left as it
+// is. No listing shows an answer at a level.
+pub fn print(old: &[u8], new: &[u8], text: &mut [u8]) -> usize
+    ensures { λ size. ⌜ PrintsComparison (now (old .entry)) (now (new .entry)) (now (text .entry)) (now (text .exit)) size ⌝ }
+    ensures { λ size. ⌜ (size ≤ length (now (text .exit))) × (size ≡ length (take size (now (text .exit)))) ⌝ }
+{
+    let mut old_transform = [0i64; CELLS];
+    let mut old_h = [0u64; CELLS];
+    let mut old_f = [0i64; CELLS];
+    let mut old_r = [0u64; CELLS];
+    let mut old_sums = [0i64; CELLS];
+    let mut new_transform = [0i64; CELLS];
+    let mut new_h = [0u64; CELLS];
+    let mut new_f = [0i64; CELLS];
+    let mut new_r = [0u64; CELLS];
+    let mut new_sums = [0i64; CELLS];
+    let compared = comparison::compare(
+        old,
+        new,
+        0,
+        &mut old_transform,
+        &mut old_h,
+        &mut old_f,
+        &mut old_r,
+        &mut old_sums,
+        &mut new_transform,
+        &mut new_h,
+        &mut new_f,
+        &mut new_r,
+        &mut new_sums,
+    );
+    listing(compared, text)
 }

@@ -87,11 +87,11 @@ pub fn put_line(key: &[u8], n: u64, text: &mut [u8], at: usize) -> usize
 }
 
 // The number without its last digits, so many as there are places.
-fn without_places(places: u64, n: u64) -> u64
+fn without_places(places: u8, n: u64) -> u64
     ensures { λ r. ⌜ r ≡ n / 10 ^ places ⌝ }
 {
     let mut left = n;
-    let mut i: u64 = 0;
+    let mut i: u8 = 0;
     while i < places {
         left = left / 10;
         i += 1;
@@ -100,11 +100,11 @@ fn without_places(places: u64, n: u64) -> u64
 }
 
 // Puts the last digits of the number, so many as there are places, from the first of them on.
-fn put_padded(places: u64, n: u64, text: &mut [u8], at: usize) -> usize
+fn put_padded(places: u8, n: u64, text: &mut [u8], at: usize) -> usize
     ensures { λ next. ⌜ Puts (now (text .entry)) at (padded places n) (now (text .exit)) next ⌝ }
 {
     let mut next = at;
-    let mut i: u64 = 0;
+    let mut i: u8 = 0;
     while i < places {
         i += 1;
         let left = without_places(places - i, n);
@@ -114,7 +114,7 @@ fn put_padded(places: u64, n: u64, text: &mut [u8], at: usize) -> usize
 }
 
 // Puts the number with a point before its last digits, so many as there are places.
-pub fn put_pointed(places: u64, n: u64, text: &mut [u8], at: usize) -> usize
+pub fn put_pointed(places: u8, n: u64, text: &mut [u8], at: usize) -> usize
     ensures { λ next. ⌜ Puts (now (text .entry)) at (pointed places n) (now (text .exit)) next ⌝ }
 {
     let whole = without_places(places, n);
@@ -124,7 +124,7 @@ pub fn put_pointed(places: u64, n: u64, text: &mut [u8], at: usize) -> usize
 }
 
 // The same for a number that may be negative.
-pub fn put_signed_pointed(places: u64, z: i64, text: &mut [u8], at: usize) -> usize
+pub fn put_signed_pointed(places: u8, z: i64, text: &mut [u8], at: usize) -> usize
     ensures { λ next. ⌜ Puts (now (text .entry)) at (signedPointed places z) (now (text .exit)) next ⌝ }
 {
     let n = whole::magnitude(z);
