@@ -31,7 +31,7 @@ copy_file() { # COPY [FILE]
     elif [ ! -r "$2" ]; then
         reason="a file that cannot be read: $(shown_name "$2")"
     else
-        said=$( (head -c "$most_bytes" <"$2" >"$1") 2>&1) || reason="a read that failed (${said##*: }): $(shown_name "$2")"
+        said=$( (head -c "$most_bytes" "$2" >"$1") 2>&1) || reason="a read that failed (${said##*: }): $(shown_name "$2")"
     fi
     [ ! "$reason" ]
 }

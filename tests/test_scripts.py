@@ -1,0 +1,660 @@
+"""Checks of ./price, ./compare, ./reprice and scripts/build.
+
+    python3 tests/test_scripts.py
+
+The scripts are copied to a folder of their own, with the programs that are built (target/bin), so nothing of the repository is
+touched; a program that is not there is built first. Where target/bin/compare is not there, the variable COMPARE_STAND_IN may name
+a program that writes the same listings. What the programs should write comes from the independent calculation.
+
+A check is a pair (name, holds).  The last line printed counts them.
+"""
+
+import csv
+import io
+import os
+import pty
+import random
+import re
+import shutil
+import signal
+import struct
+import subprocess
+import sys
+import tempfile
+import time
+from pathlib import Path
+
+import generate
+import pricing
+import sheets
+
+ROOT = Path(__file__).resolve().parent.parent
+EXAMPLES = ROOT / "examples"
+NOBODY = 65534
+MEMORY = Path("/proc/self/mem")      # a regular file that can be opened, and not be read from its start
+
+
+class Room:
+    """A copy of the scripts, with programs, and a folder for temporary files that must be empty after each run."""
+
+    def __init__(self, folder):
+        self.root, self.temporary = folder / "root", folder / "temporary"
+        self.temporary.mkdir()
+        self.temporary.chmod(0o777)
+        (self.root / "target" / "bin").mkdir(parents=True)
+        for name in ("price", "compare", "reprice", "crates.txt"):
+            shutil.copy(ROOT / name, self.root)
+        shutil.copytree(ROOT / "scripts", self.root / "scripts")
+
+    def run(self, *words, given=b"", path=None, **options):
+        """Status, standard output, standard error."""
+        environment = {**os.environ, "TMPDIR": str(self.temporary), "PYTHONDONTWRITEBYTECODE": "1"}
+        if path:
+            environment["PATH"] = f"{path}:{environment['PATH']}"
+        command = [os.path.join(os.fsencode(self.root), os.fsencode(words[0])), *words[1:]]
+        done = subprocess.run(command, input=given, capture_output=True, env=environment, timeout=300, check=False, **options)
+        return done.returncode, done.stdout, done.stderr.decode(errors="replace")
+
+    def is_clean(self):
+        return not list(self.temporary.iterdir())
+
+    def put_program(self, name, text):
+        """A program of the test's own in the place of a built one."""
+        file = self.root / "target" / "bin" / name
+        file.unlink(missing_ok=True)
+        file.write_text(text)
+        file.chmod(0o755)
+
+
+def add_programs(room):
+    for name in ("listing", "level", "sheets", "compare"):
+        program = ROOT / "target" / "bin" / name
+        stand_in = os.environ.get("COMPARE_STAND_IN") if name == "compare" else None
+        if not program.exists() and stand_in:
+            program = Path(stand_in)
+        elif not program.exists():
+            subprocess.run([ROOT / "scripts" / "build", name], check=True)
+        shutil.copy(program, room.root / "target" / "bin" / name)
+
+
+# Funds
+
+def text(**changes):
+    """One member, ten lines."""
+    given = {"horizon": 2, "order": 3, "rate_rows": ((40, 100000, 0),), "member_rows": ((40, 1, 1, 0, 1),), **changes}
+    return generate.Text(**given)
+
+
+def fund(**changes):
+    return text(**changes).data()
+
+
+def with_line(data, place, line):
+    """With another line in this place, or without it."""
+    lines = data.split(b"\n")
+    lines[place - 1:place] = [] if line is None else [line]
+    return b"\n".join(lines)
+
+
+GOOD = fund()
+CERTAIN = ((40, 1000000, 0),)
+
+# name, file, number, place, the word, the line that is shown, some of what is said
+REFUSED = [
+    ("a leading zero", with_line(GOOD, 3, b"horizon=020"), 1, 3, "form", "horizon=020", "write horizon=NUMBER here"),
+    ("one frequency", with_line(GOOD, 5, b"frequency=1000"), 1, 5, "form", "frequency=1000", "write two numbers"),
+    ("no worth", with_line(GOOD, 7, None), 1, 7, "form", "rate=40,100000,0", "write worth=NUMBER here"),
+    ("no lives", with_line(GOOD, 9, b"member=40,1,12,8"), 1, 9, "form", "member=40,1,12,8", "takes ,1 behind it"),
+    ("nothing at all", b"", 1, 1, "form", None, "the line is missing, the file ends before it"),
+    ("the file ends early", b"".join(GOOD.splitlines(True)[:6]), 1, 7, "form", None, "the line that belongs there: worth=NUMBER"),
+    ("no end line", b"".join(GOOD.splitlines(True)[:9]), 1, 10, "form", None, "end=COUNT"),
+    ("no line feed at the end", GOOD[:-1], 1, 10, "form", "end=1", "the last line has no line feed"),
+    ("carriage returns", GOOD.replace(b"\n", b"\r\n"), 1, 1, "form", "rates=2030\\r", "the line ends in a carriage return"),
+    ("something behind the end", GOOD + b"end=1\n", 1, 11, "form", "end=1", "something follows end="),
+    ("an empty line behind the end", GOOD + b"\n", 1, 11, "form", "(an empty line)", "something follows end="),
+    ("a rate behind a member", fund(member_rows=((40, 1, 1, 0, 1),) * 2).replace(b"end=2", b"rate=50,1,1\nend=2"), 1, 11, "form",
+     "rate=50,1,1", "in front of the first member line"),
+    ("a space behind", with_line(GOOD, 4, b"order=3 "), 1, 4, "form", "order=3\\040", "write order=NUMBER here"),
+    ("bytes", b"\x00\x1b[2J\xff\\\t\x7f\n" + GOOD, 1, 1, "form", "\\000\\033[2J\\377\\\\\\t\\177", "write rates=NUMBER here"),
+    ("a long line", with_line(GOOD, 4, b"order=" + b"3" * 500), 1, 4, "form", "order=" + "3" * 154 + " .. (506 bytes)", "one to seven digits"),
+    ("a line without an end", with_line(GOOD, 4, b"order=" + b"3" * 70000), 1, 4, "form", None, "one to seven digits"),
+    ("an order of 13", with_line(GOOD, 4, b"order=13"), 2, 4, "range", "order=13", "order= takes 1 to 12"),
+    ("lives of 0", with_line(GOOD, 9, b"member=40,1,12,8,0"), 2, 9, "range", "member=40,1,12,8,0", "lives 1 to 1,000"),
+    ("lives of 999 and 2", fund(member_rows=((40, 2, 1, 0, 999), (40, 2, 1, 0, 2))), 2, 10, "range", "member=40,2,1,0,2",
+     "a fund of more than 1,000 lives is priced in parts"),
+    ("a wrong count", with_line(fund(member_rows=((40, 2, 1, 0, 3),) * 2), 11, b"end=6"), 2, 11, "range", "end=6", "write end=2:"),
+    ("ages that do not rise", fund(rate_rows=((40, 1, 1), (40, 1, 1))), 2, 9, "range", "rate=40,1,1", "the age is not above the one before"),
+    ("two editions", fund(members=2031), 3, 0, "edition", "line 2: members=2031", "use member data of the edition of the rates"),
+    ("a deductible above", fund(deductible=4), 4, 0, "deductible", "line 6: deductible=4", "raise the horizon"),
+    ("a member of 19", fund(rate_rows=((20, 1000, 0),), member_rows=((20, 1, 1, 0), (19, 1, 1, 0))), 5, 10, "unmatched",
+     "member=19,1,1,0,1", "below that of the first rate line"),
+    ("rates of a half", fund(rate_rows=((40, 250000, 250000),), member_rows=((40, 1, 1, 2, 1),)), 6, 9, "half", "member=40,1,1,2,1", "take the member in group 2"),
+    ("nine certain claims", fund(rate_rows=CERTAIN, member_rows=((40, 2, 1, 0, 9),)), 7, 0, "load", None, "price the fund in parts"),
+    ("twenty of 0.3", fund(rate_rows=((40, 300000, 0),), member_rows=((40, 1, 1, 0, 20),)), 7, 0, "load", None, "the load is above 8"),
+    ("an order too low", fund(order=2), 8, 0, "order", "line 4: order=2", "raise the order"),
+    ("eight certain claims", fund(horizon=6, rate_rows=CERTAIN, member_rows=((40, 2, 1, 0, 8),)), 10, 6, "wide", "line 3: horizon=6",
+     "total claim 6 is above 250,000 units"),
+]
+
+
+def says(answer, program, where, number, word, shown, words):
+    """That standard error has the place, the word, the line and what to do, and nothing that garbles a terminal."""
+    lines = answer[2].splitlines()
+    return (len(lines) >= 2 and lines[0].startswith(f"{program}: {where}: {word} ({number}): ") and lines[-1].startswith("what to do: ")
+            and words in answer[2] and (shown is None or "    " + shown in lines)
+            and all(mark == "\n" or mark.isprintable() for mark in answer[2]))
+
+
+def where_of(name, number, place):
+    return f"{name}, line {place}" if number in (1, 2, 5, 6) else name
+
+
+# ./price
+
+def price_checks(room, folder):
+    file = folder / "a fund.fund"
+    for name, data, number, place, word, shown, words in REFUSED:
+        line = b"refused=%d,%d\n" % (number, place)
+        yield f"price: {name}: the calculation", pricing.listing(pricing.price(data)).encode() == line
+        file.write_bytes(data)
+        for way, answer, who in (("file", room.run("price", file), file), ("standard input", room.run("price", given=data), "standard input"),
+                                 ("level", room.run("price", "--level", "0.99", file), file)):
+            yield f"price: {name}: {way}: listing and status", answer[:2] == (1, line)
+            yield f"price: {name}: {way}: words", says(answer, "price", where_of(who, number, place), number, word, shown, words)
+            yield f"price: {name}: {way}: nothing left", room.is_clean()
+
+
+def accepted_checks(room, folder):
+    for path in sorted(EXAMPLES.glob("*.fund")):
+        data = path.read_bytes()
+        answer = pricing.price(data, level=990000000000)
+        if answer.number == 0:
+            yield f"price: {path.name}", room.run("price", path) == (0, pricing.listing(answer).encode(), "")
+            yield f"price: {path.name}: standard input", room.run("price", given=data) == (0, pricing.listing(answer).encode(), "")
+            quantile = b"quantile=%s\n" % (b"none" if answer.quantile is None else b"%d" % answer.quantile)
+            yield f"price: {path.name}: level", room.run("price", "--level", "0.99", path) == (0, quantile, "")
+    yield "price: accepted: nothing left", room.is_clean()
+    yield "price: an endless file", room.run("price", "/dev/zero")[:2] == (1, b"refused=1,1\n")
+    pipe = folder / "pipe"
+    os.mkfifo(pipe)
+    with subprocess.Popen(["sh", "-c", 'exec cat "$1" >"$2"', "sh", EXAMPLES / "half.fund", pipe]):
+        answer = room.run("price", pipe)
+    yield "price: a pipe", answer[:2] == (1, b"refused=6,9\n") and "    member=40,1,1,0,1\n" in answer[2]
+
+
+def not_read(answer, words):
+    return answer[0] == 2 and answer[1] == b"" and words in answer[2]
+
+
+def unread_checks(room, folder):
+    yield "price: no such file", not_read(room.run("price", folder / "none"), "price: no such file: ")
+    yield "price: a folder", not_read(room.run("price", folder), "price: a folder, not a file: ")
+    yield "price: a folder as standard input", not_read(room.run("price", stdin=os.open(folder, os.O_RDONLY), given=None), "price: a read that failed")
+    yield "price: a read that fails", not_read(room.run("price", MEMORY), "price: a read that failed (Input/output error): /proc/self/mem")
+    yield "price: a name that garbles", not_read(room.run("price", "a\x1b[2Jb"), "price: no such file: a?[2Jb\n")
+    file = folder / "closed.fund"
+    file.write_bytes(GOOD)
+    file.chmod(0)
+    yield "price: a file that may not be read", not_read(room.run("price", file, user=NOBODY if os.geteuid() == 0 else None), "cannot be read")
+    yield "price: a header that is not there", not_read(room.run("price", "--sheets", folder / "none", file, file), "no such file")
+    yield "price: members that are not there", not_read(room.run("price", "--sheets", file, file, folder / "none"), "no such file")
+    for words in (["--level"], ["--level", "2"], ["--level", "0.x"], ["--other"], ["a", "b"], ["--sheets", "a", "b"]):
+        yield f"price: usage: {' '.join(words)}", not_read(room.run("price", *words), "usage: ./price")
+    yield "price: help", room.run("price", "--help")[::2] == (0, "") and b"usage: ./price" in room.run("price", "--help")[1]
+    yield "price: not read: nothing left", room.is_clean()
+    with open("/dev/full", "wb") as full:
+        done = subprocess.run([room.root / "price", EXAMPLES / "one-member.fund"], stdout=full, stderr=subprocess.DEVNULL, check=False)
+    yield "price: an output that cannot be written", done.returncode == 2
+    run = subprocess.Popen([room.root / "price"], stdin=subprocess.PIPE, stderr=subprocess.DEVNULL, start_new_session=True,
+                           env={**os.environ, "TMPDIR": str(room.temporary)})
+    while room.is_clean():
+        time.sleep(0.01)
+    time.sleep(0.5)          # it reads now
+    os.killpg(run.pid, signal.SIGTERM)
+    yield "price: a signal: the status", run.wait(20) != 0
+    yield "price: a signal: nothing left", room.is_clean()
+    run.stdin.close()
+
+
+def floats(*rows):
+    return b"".join(struct.pack(f"<{len(row)}d", *row) for row in rows)
+
+
+def sheet_answer(room, folder, header, rates, members, *level):
+    files = [folder / name for name in ("header.txt", "rates.sheet", "members.sheet")]
+    for file, data in zip(files, (header, rates, members)):
+        file.write_bytes(data)
+    return room.run("price", *level, "--sheets", *files)
+
+
+RATE = (40.0, 0.1, 0.0)
+MEMBER = (40.0, 1.0, 1.0, 0.0, 1.0)
+HEADER = text().header()
+
+# name, header, rate rows, member rows, number, place, file, where in it, the word, what is shown, some of what is said
+REFUSED_SHEETS = [
+    ("a third rate row", HEADER, floats(RATE, (41.0, 0.1, 0.0), (40.5, 0.1, 0.0)), floats(MEMBER), 11, 3, "rates.sheet", "row 3", "cell",
+     "40.5, 0.1, 0", "a cell is not taken"),
+    ("a second member row", HEADER, floats(RATE), floats(MEMBER, (40.0, 3.0, 1.0, float("nan"), 1.0)), 11, 3, "members.sheet", "row 2", "cell",
+     "40, 3, 1, blank, 1", "a cell is not taken"),
+    ("rates cut short", HEADER, floats(RATE, RATE)[:-8], floats(MEMBER), 11, 2, "rates.sheet", "row 2", "cell", None, "16 bytes, where a row has 24"),
+    ("members cut short", HEADER, floats(RATE), floats(MEMBER, MEMBER)[:-39], 11, 3, "members.sheet", "row 2", "cell", None,
+     "1 bytes, where a row has 40"),
+    ("no rates, a member", HEADER, b"", floats((40.5, *MEMBER[1:])), 11, 1, "members.sheet", "row 1", "cell", "40.5, 1, 1, 0, 1", "a cell"),
+    ("ages that do not rise", HEADER, floats(RATE, RATE), floats(MEMBER), 2, 9, "rates.sheet", "row 2 (line 9 of the file with these rows)",
+     "range", "40, 0.1, 0", "the age is not above"),
+    ("999 lives and 2", HEADER, floats(RATE), floats((*MEMBER[:4], 999.0), (*MEMBER[:4], 2.0)), 2, 10, "members.sheet",
+     "row 2 (line 10 of the file with these rows)", "range", "40, 1, 1, 0, 2", "more than 1,000 in all"),
+    ("unmatched", HEADER, floats(RATE), floats(MEMBER, (39.0, *MEMBER[1:])), 5, 10, "members.sheet",
+     "row 2 (line 10 of the file with these rows)", "unmatched", "39, 1, 1, 0, 1", "add a rate line"),
+    ("half", HEADER, floats((40.0, 0.5, 0.0)), floats(MEMBER), 6, 9, "members.sheet", "row 1 (line 9 of the file with these rows)", "half",
+     "40, 1, 1, 0, 1", "take the member in group 2"),
+    ("a header out of range", with_line(HEADER, 4, b"order=13"), floats(RATE), floats(MEMBER), 2, 4, "header.txt", "line 4", "range", "order=13",
+     "order= takes 1 to 12"),
+    ("a header cut", HEADER[:HEADER.index(b"worth")], floats(RATE), floats(MEMBER), 1, 7, "header.txt", "line 7", "form", None, "is missing"),
+    ("a header with more", HEADER + b"rate=1,1,1\n", floats(RATE), floats(MEMBER), 1, 8, "header.txt", "line 8", "form", "rate=1,1,1",
+     "something follows the seventh line"),
+    ("editions", text(members=2031).header(), floats(RATE), floats(MEMBER), 3, 0, "header.txt", "", "edition", "line 2: members=2031", "differ"),
+    ("deductible", text(deductible=4).header(), floats(RATE), floats(MEMBER), 4, 0, "header.txt", "", "deductible", "line 3: horizon=2", "horizon"),
+    ("load", HEADER, floats((40.0, 1.0, 0.0)), floats((40.0, 2.0, 1.0, 0.0, 9.0)), 7, 0, "header.txt", "", "load", None, "above 8"),
+    ("order", text(order=2).header(), floats(RATE), floats(MEMBER), 8, 0, "header.txt", "", "order", "line 4: order=2", "raise the order"),
+    ("wide", text(horizon=6).header(), floats((40.0, 1.0, 0.0)), floats((40.0, 2.0, 1.0, 0.0, 8.0)), 10, 6, "header.txt", "", "wide",
+     "line 3: horizon=6", "lower the horizon"),
+]
+
+
+def sheet_checks(room, folder):
+    for name, header, rates, members, number, place, file, spot, word, shown, words in REFUSED_SHEETS:
+        line = b"refused=%d,%d\n" % (number, place)
+        yield f"sheets: {name}: the calculation", pricing.listing(sheets.price_sheets(header, rates, members)).encode() == line
+        for level in ((), ("--level", "0.5")):
+            answer = sheet_answer(room, folder, header, rates, members, *level)
+            yield f"sheets: {name}: listing and status {level}", answer[:2] == (1, line)
+            where = f"{folder / file}, {spot}" if spot else str(folder / file)
+            yield f"sheets: {name}: words {level}", says(answer, "price", where, number, word, shown, words)
+    answer = sheet_answer(room, folder, HEADER, floats(RATE), floats(MEMBER))
+    yield "sheets: accepted", answer == (0, pricing.listing(pricing.price(GOOD)).encode(), "")
+    yield "sheets: nothing left", room.is_clean()
+
+
+# The comparison, from the calculation
+
+def pointed(units, digits=12):
+    size = abs(units)
+    return f"{'-' if units < 0 else ''}{size // 10 ** digits}.{size % 10 ** digits:0{digits}d}"
+
+
+def file_lines(side, answer):
+    if answer.number:
+        return [f"{side}-refused={answer.number},{answer.place}"]
+    return [f"{side}-premium={pointed(answer.premium)}", f"{side}-within={pointed(answer.bound)}", f"{side}-gross={pointed(answer.gross, 2)}"]
+
+
+def excess(answer, read):
+    return pricing.up(2 * answer.bound * read.worth * pricing.loading(read.deductible), pricing.GROSS_DIVISOR) + 1
+
+
+def member_numbers(read):
+    return [(row.age, row.group, row.d, row.e, row.lives) for row in read.member_rows]
+
+
+def header_difference(old, new):
+    pairs = [(old.horizon, new.horizon), (old.order, new.order), (old.frequency, new.frequency), (old.deductible, new.deductible),
+             (old.worth, new.worth)]
+    return next((place for place, (one, other) in enumerate(pairs, 3) if one != other), None)
+
+
+def member_difference(old, new):
+    ours, theirs = member_numbers(old), member_numbers(new)
+    if ours == theirs:
+        return None
+    return next((k for k, (one, other) in enumerate(zip(ours, theirs), 1) if one != other), min(len(ours), len(theirs)) + 1)
+
+
+def compared(old_data, new_data):
+    """The listing of two files."""
+    old, new = pricing.price(old_data), pricing.price(new_data)
+    lines = file_lines("old", old) + file_lines("new", new)
+    if not old.number and not new.number:
+        old_read, new_read = pricing.read_fund(old_data), pricing.read_fund(new_data)
+        header, member = header_difference(old_read, new_read), member_difference(old_read, new_read)
+        others = ([f"other=header,{header}"] if header else []) + (
+            [f"other=member,{member},{7 + len(old_read.rate_rows) + member},{7 + len(new_read.rate_rows) + member}"] if member else [])
+        key = "exact" if others else "rates"
+        move, within, gross = new.premium - old.premium, old.bound + new.bound, new.gross - old.gross
+        lines += [f"move={pointed(move)}", f"arithmetic={pointed(within)}", f"{key}={pointed(move - within)},{pointed(move + within)}",
+                  f"gross-move={pointed(gross, 2)}",
+                  f"gross-{key}={pointed(gross - excess(new, new_read), 2)},{pointed(gross + excess(old, old_read), 2)}",
+                  *(others or ["other=none"])]
+    return "".join(line + "\n" for line in lines).encode()
+
+
+def expected_row(name, old_data, new_data):
+    """The row of two files; a word where there is no file to read."""
+    sides = [pricing.price(data) if isinstance(data, bytes) else data for data in (old_data, new_data)]
+    numbers, figures, gross = [], [], []
+    for side in sides:
+        priced = not isinstance(side, str) and not side.number
+        numbers += [side, ""] if isinstance(side, str) else [str(side.number), str(side.place)]
+        figures += [pointed(side.premium), pointed(side.bound)] if priced else ["", ""]
+        gross.append(pointed(side.gross, 2) if priced else "")
+    move, other = ["", ""], ""
+    if all(gross):
+        move = [pointed(sides[1].premium - sides[0].premium), pointed(sides[0].bound + sides[1].bound)]
+        old, new = pricing.read_fund(old_data), pricing.read_fund(new_data)
+        found = (("header", header_difference(old, new)), ("member", member_difference(old, new)))
+        other = " ".join(f"{word} {place}" for word, place in found if place) or "none"
+    return [os.fsencode(name).decode("latin-1"), *numbers, *figures, *move, *gross, other]
+
+
+# ./compare
+
+OLD = fund(deductible=1, worth=100000, member_rows=((40, 1, 2, 0, 1), (41, 2, 1, 3, 2)))
+NEW_RATES = ((40, 90000, 0), (41, 110000, 500))
+NEW = fund(rates=2031, members=2031, deductible=1, worth=100000, rate_rows=NEW_RATES, member_rows=((40, 1, 2, 0, 1), (41, 2, 1, 3, 2)))
+REFUSED_OLD = with_line(OLD, 4, b"order=13")
+REFUSED_NEW = with_line(NEW, 2, b"members=2030")
+
+
+def compare_pair(room, folder, old, new):
+    for name, data in (("old.fund", old), ("new.fund", new)):
+        (folder / name).write_bytes(data)
+    return room.run("compare", folder / "old.fund", folder / "new.fund")
+
+
+def compare_checks(room, folder):
+    yield "compare: accepted", compare_pair(room, folder, OLD, NEW) == (0, compared(OLD, NEW), "")
+    yield "compare: the other way", compare_pair(room, folder, NEW, OLD) == (0, compared(NEW, OLD), "")
+    yield "compare: the two ways differ", compared(OLD, NEW) != compared(NEW, OLD)
+    yield "compare: itself", compare_pair(room, folder, OLD, OLD) == (0, compared(OLD, OLD), "")
+    for name, old, new, sides in (("old", REFUSED_OLD, NEW, ("old",)), ("new", OLD, REFUSED_NEW, ("new",)),
+                                  ("both", REFUSED_OLD, REFUSED_NEW, ("old", "new"))):
+        answer = compare_pair(room, folder, old, new)
+        yield f"compare: refused {name}: listing and status", answer[:2] == (1, compared(old, new))
+        said = {"old": f"compare: old file {folder / 'old.fund'}, line 4: range (2): a number is outside its limits\n    order=13\nwhat to do: correct",
+                "new": f"compare: new file {folder / 'new.fund'}: edition (3): the two editions differ\n    line 1: rates=2031\n    line 2: members=2030\n"}
+        yield f"compare: refused {name}: words", all((words in answer[2]) == (side in sides) for side, words in said.items())
+    others = (("header", NEW.replace(b"deductible=1", b"deductible=2"),
+               "header line 6 differs (line 6 of the old file: deductible=1, line 6 of the new file: deductible=2)"),
+              ("member", NEW.replace(b"member=41,2,1,3,2", b"member=41,2,1,3,3"),
+               "member 2 differs (line 10 of the old file: member=41,2,1,3,2, line 11 of the new file: member=41,2,1,3,3)"),
+              ("a member less", NEW.replace(b"member=41,2,1,3,2\n", b"").replace(b"end=2", b"end=1"),
+               "member 2 differs (line 10 of the old file: member=41,2,1,3,2, line 11 of the new file: end=1)"))
+    for name, new, words in others:
+        answer = compare_pair(room, folder, OLD, new)
+        yield f"compare: {name}: listing and status", answer[:2] == (0, compared(OLD, new)) and b"exact=" in answer[1]
+        yield f"compare: {name}: words", answer[2] == f"compare: the move is not the rates' alone: {words}\n"
+    both = NEW.replace(b"deductible=1", b"deductible=2").replace(b"member=40,1,2", b"member=40,1,1")
+    answer = compare_pair(room, folder, OLD, both)
+    yield "compare: header and member", (answer[:2] == (0, compared(OLD, both)) and answer[2].count("\n") == 1
+                                         and "header line 6 differs" in answer[2] and "member 1 differs" in answer[2])
+    good = folder / "old.fund"
+    for name, words, listing, said in (
+            ("no old file", (folder / "none", good), b"unreadable=old\n", "compare: old file: no such file"),
+            ("no new file", (good, folder / "none"), b"unreadable=new\n", "compare: new file: no such file"),
+            ("a folder", (good, folder), b"unreadable=new\n", "compare: new file: a folder, not a file"),
+            ("a read that fails", (MEMORY, good), b"unreadable=old\n", "compare: old file: a read that failed"),
+            ("neither", (folder, folder / "none"), b"unreadable=old\nunreadable=new\n", "compare: new file: no such file")):
+        answer = room.run("compare", *words)
+        yield f"compare: {name}", answer[:2] == (2, listing) and said in answer[2] and len(answer[2].splitlines()) == len(listing.splitlines())
+    for words in ((), (good,), (good, good, good), ("--other", good)):
+        yield f"compare: usage: {len(words)} words", not_read(room.run("compare", *words), "usage: ./compare OLD NEW")
+    yield "compare: help", room.run("compare", "--help")[::2] == (0, "") and b"usage: ./compare" in room.run("compare", "--help")[1]
+    yield "compare: nothing left", room.is_clean()
+
+
+# ./reprice
+
+ODD_NAMES = ["a name", "a,b", 'a"b', "a\nb", "a\r", "-dash", "--names", "--rows", os.fsdecode(b"\xff\xfe"), "Zürich", "$(x)", "a'b", "\\"]
+
+
+def pool(folder):
+    """Two folders, and the rows that they should give, sorted by name."""
+    rng = random.Random(2030)
+    old, new = folder / "old", folder / "new"
+    old.mkdir()
+    new.mkdir()
+    made = {}
+
+    def add(name, old_data, new_data):
+        for side, data in ((old, old_data), (new, new_data)):
+            if isinstance(data, bytes):
+                (side / name).write_bytes(data)
+        made[name] = (old_data, new_data)
+
+    for path in sorted(EXAMPLES.glob("*.fund")):
+        data = path.read_bytes()
+        rates = re.sub(rb"(?m)^rate=(\d+),(\d+),(\d+)$", lambda m: b"rate=%s,%d,%s" % (m[1], int(m[2]) * 9 // 10, m[3]), data)
+        add(path.name, data, rates)
+    for k, name in enumerate(ODD_NAMES):
+        add(name, OLD, NEW.replace(b"110000", b"%d" % (110000 + rng.randrange(10000) + k)))
+    add("header", OLD, NEW.replace(b"worth=100000", b"worth=99"))
+    add("member", OLD, NEW.replace(b"member=41,2,1,3,2", b"member=41,2,1,3,1"))
+    add("header and member", OLD, NEW.replace(b"worth=100000", b"worth=99").replace(b"member=41,2,1,3,2", b"member=41,2,1,3,1"))
+    add("refused old", REFUSED_OLD, NEW)
+    add("refused new", OLD, REFUSED_NEW)
+    add("refused both", REFUSED_OLD, REFUSED_NEW)
+    add("nothing in it", b"", NEW)
+    add("overlong", OLD, NEW + b"x" * 100000)
+    return old, new, made, add
+
+
+def add_unread(old, new, made, add):
+    add("missing old", "missing", NEW)
+    add("missing new", OLD, "missing")
+    add("missing new, refused old", REFUSED_OLD, "missing")
+    for name, side, data in (("failing read old", old, ("unreadable", NEW)), ("failing read new", new, (OLD, "unreadable"))):
+        add(name, *data)
+        (side / name).symlink_to(MEMORY)
+    add("a link to nowhere", "unreadable", NEW)
+    (old / "a link to nowhere").symlink_to("nowhere at all")
+    add("a folder", OLD, "unreadable")
+    (new / "a folder").mkdir()
+    add("a pipe", "unreadable", NEW)
+    os.mkfifo(old / "a pipe")
+    (old / "two folders").mkdir()
+    (new / "two folders").mkdir()
+    (new / "a link").symlink_to("refused new")
+    (old / "a link").symlink_to("refused new")
+    made["a link"] = made["refused new"]
+
+
+def table_of(output):
+    return list(csv.reader(io.StringIO(output.decode("latin-1"), newline=""), strict=True))
+
+
+def table_expected(made):
+    return [expected_row(name, *made[name]) for name in sorted(made, key=os.fsencode)]
+
+
+HEADING = "fund,old_number,old_place,new_number,new_place,old_premium,old_within,new_premium,new_within,move,arithmetic,old_gross,new_gross,other"
+
+
+def reprice_checks(room, folder):
+    old, new, made, add = pool(folder)
+    priced = {name: data for name, data in made.items() if not pricing.price(data[0]).number and not pricing.price(data[1]).number}
+    good_old, good_new = folder / "good old", folder / "good new"
+    for side, where in enumerate((good_old, good_new)):
+        where.mkdir()
+        for name, data in priced.items():
+            (where / name).write_bytes(data[side])
+    answer = room.run("reprice", good_old, good_new)
+    yield "reprice: priced: status", answer[0] == 0 and answer[2] == ""
+    yield "reprice: priced: the table", table_of(answer[1])[1:] == table_expected(priced)
+    answer = room.run("reprice", old, new)
+    yield "reprice: refused: status", answer[0] == 1 and answer[2] == ""
+    yield "reprice: refused: the heading", answer[1].startswith(HEADING.encode() + b"\n")
+    yield "reprice: refused: the table", table_of(answer[1])[1:] == table_expected(made)
+    swapped = room.run("reprice", new, old)
+    yield "reprice: the other way", table_of(swapped[1])[1:] == table_expected({name: data[::-1] for name, data in made.items()})
+    yield "reprice: the two ways differ", swapped[1] != answer[1]
+    add_unread(old, new, made, add)
+    answer = room.run("reprice", old, new)
+    yield "reprice: not read: status", answer[0] == 2 and answer[2] == ""
+    for found, expected in zip(table_of(answer[1])[1:], table_expected(made)):
+        yield f"reprice: row {expected[0]!r}", found == expected
+    yield "reprice: so many rows", len(table_of(answer[1])) == len(made) + 1
+    yield "reprice: again", room.run("reprice", old, new) == answer
+    yield "reprice: folders with a slash", room.run("reprice", f"{old}/", f"{new}/") == answer
+    shown = room.run("reprice", "--progress", old, new)
+    yield "reprice: progress", shown[:2] == answer[:2] and f"{len(made)} of {len(made)} funds" in shown[2]
+    names = room.run("reprice", "--names", old, new)
+    yield "reprice: names", names[:2] == (0, b"".join(os.fsencode(name) + b"\0" for name in sorted(made, key=os.fsencode)))
+    parts = [room.run("reprice", "--heading")[1]]
+    listed = names[1].split(b"\0")[:-1]
+    statuses = set()
+    for start in range(0, len(listed), 7):
+        part = room.run("reprice", "--rows", old, new, *listed[start:start + 7])
+        parts.append(part[1])
+        statuses.add(part[0])
+    yield "reprice: rows in parts", b"".join(parts) == answer[1] and max(statuses) == 2
+    yield "reprice: rows of a name that is nowhere", room.run("reprice", "--rows", old, new, "none")[:2] == (2, b"none,missing,,missing" + b"," * 10 + b"\n")
+    yield "reprice: no rows", room.run("reprice", "--rows", old, new) == (0, b"", "")
+    empty = folder / "empty"
+    empty.mkdir()
+    yield "reprice: empty folders", room.run("reprice", empty, empty) == (0, HEADING.encode() + b"\n", "")
+    for words in ((), (old,), (old, folder / "none"), (old, old / "header"), ("--other", old), ("--rows", old), (old, new, new)):
+        yield f"reprice: usage: {len(words)} words", not_read(room.run("reprice", *words), "usage: ./reprice")
+    yield "reprice: help", room.run("reprice", "--help")[::2] == (0, "") and b"--rows OLD NEW NAME" in room.run("reprice", "--help")[1]
+    with open("/dev/full", "wb") as full:
+        done = subprocess.run([room.root / "reprice", old, new], stdout=full, stderr=subprocess.DEVNULL, check=False)
+    yield "reprice: an output that cannot be written", done.returncode == 2
+
+
+# A program that ends by a signal, writes something else, or ends with a status, where a name says so.
+FAULTY = """#!/bin/sh
+echo "$#" >>"{log}"
+for path; do
+    case $path in
+        *killed*) kill -9 $$ ;;
+        *garbage*) echo garbage ;;
+        *status*) exit 3 ;;
+        *silent*) exit 0 ;;
+    esac
+done
+exec "{program}" "$@"
+"""
+
+
+def faulty_checks(room, folder):
+    old, new = folder / "faulty old", folder / "faulty new"
+    made = {f"{k:03}.fund": (OLD, NEW) for k in range(90)}
+    faulty = ["010 killed", "020 garbage", "030 status", "040 silent"]
+    for side, where in enumerate((old, new)):
+        where.mkdir()
+        for name, data in made.items():
+            (where / name).write_bytes(data[side])
+        for name in faulty:
+            (where / name).write_bytes(GOOD)
+    program = room.root / "target" / "bin" / "compare"
+    kept = program.rename(folder / "compare program")
+    log = folder / "runs"
+    room.put_program("compare", FAULTY.format(program=kept, log=log))
+    answer = room.run("reprice", old, new)
+    failed = {name: [name, "failed", "", "failed"] + [""] * 10 for name in faulty}
+    row = expected_row("", OLD, NEW)[1:]
+    expected = [failed.get(name) or [name, *row] for name in sorted([*made, *faulty])]
+    yield "reprice: a failing program: status", answer[0] == 2
+    yield "reprice: a failing program: the table", table_of(answer[1])[1:] == expected
+    yield "reprice: many pairs in a process", max(map(int, log.read_text().split())) >= 10
+    room.put_program("compare", "#!/bin/sh\nexit 0\n")
+    (folder / "one.fund").write_bytes(OLD)
+    answer = room.run("compare", folder / "one.fund", folder / "one.fund")
+    yield "compare: a program that writes nothing", not_read(answer, "gave no listing")
+    program.unlink()
+    kept.rename(program)
+
+
+# scripts/build
+
+PROVER = """#!/bin/sh
+[ "$1 $2" = "check listing" ] || exit 2
+echo 'fn whole::least: proved'
+for crate in {crates}; do
+    echo "rt: $crate proved ({took})"
+done
+{end}
+"""
+
+
+def build_checks(room, folder):
+    needed = next(line.split(":")[1].split() for line in (ROOT / "crates.txt").read_text().splitlines() if line.startswith("listing:"))
+    crates = [name for name in needed if name not in ("io", "libc", "os")] + ["listing"]
+    program = room.root / "target" / "bin" / "listing"
+    kept = program.rename(folder / "listing program")
+    tools = folder / "tools"
+    tools.mkdir()
+
+    def prover(end, took="3 s"):
+        (tools / "rt").write_text(PROVER.format(crates=" ".join(crates), took=took, end=end))
+        (tools / "rt").chmod(0o755)
+
+    good, listing = EXAMPLES / "one-member.fund", pricing.listing(pricing.price(GOOD)).encode()
+    prover("exit 1")
+    answer = room.run("price", good, path=tools)
+    yield "build: failed: status, no listing", answer[:2] == (2, b"")
+    yield "build: failed: what the prover said", "fn whole::least: proved\nrt: algebra proved (3 s)\n" in answer[2]
+    prover("exit 0")
+    yield "build: no program: status", room.run("price", good, path=tools)[:2] == (2, b"")
+    prover(f'cp "{kept}" "{program}"')
+    answer = room.run("price", good, path=tools)
+    yield "build: status and listing", answer[:2] == (0, listing)
+    count = len(crates)
+    lines = answer[2].splitlines()
+    yield "build: a line for each crate", len(lines) == count + 1 and all(
+        line.startswith(f"[{k:2} of {count}] {name} proved") for k, (line, name) in enumerate(zip(lines[1:], crates), 1))
+    yield "build: how long is left", f"{count} crates, about 4 minutes left" in lines[0] and all(" left" in line for line in lines[1:-1])
+    yield "build: what the prover says else is not shown", "whole::least" not in answer[2]
+    program.unlink()
+    prover(f'cp "{kept}" "{program}"', "unchanged since it was last proved")
+    yield "build: unchanged crates are not shown", room.run("price", good, path=tools)[2].count("\n") == 1
+    program.unlink()
+    prover(f'cp "{kept}" "{program}"')
+    shown = on_terminal([room.root / "scripts" / "build", "listing"], tools)
+    yield "build: one line on a terminal", shown.count(b"\n") == 1 and shown.count(b"\r\x1b[K[") == count
+    program.unlink(missing_ok=True)
+    kept.rename(program)
+    yield "build: nothing left", room.is_clean()
+
+
+def on_terminal(command, tools):
+    """What a command writes to a terminal."""
+    ours, theirs = pty.openpty()
+    environment = {**os.environ, "PATH": f"{tools}:{os.environ['PATH']}"}
+    with subprocess.Popen(command, stdin=subprocess.DEVNULL, stdout=theirs, stderr=theirs, env=environment):
+        os.close(theirs)
+        found = b""
+        try:
+            while part := os.read(ours, 4096):
+                found += part
+        except OSError:
+            pass                 # the other side is closed
+    os.close(ours)
+    return found
+
+
+def checks():
+    found = []
+    with tempfile.TemporaryDirectory() as directory:
+        folder = Path(directory).resolve()
+        folder.chmod(0o755)
+        room = Room(folder)
+        add_programs(room)
+        for part in (price_checks, accepted_checks, unread_checks, sheet_checks, compare_checks, reprice_checks, faulty_checks, build_checks):
+            own = folder / part.__name__
+            own.mkdir()
+            found += part(room, own)
+    return found
+
+
+def main():
+    found = checks()
+    bad = [name for name, holds in found if not holds]
+    for name in bad:
+        print(f"  FAILED {name}")
+    print(f"{len(found) - len(bad)} passed, {len(bad)} failed")
+    return 1 if bad else 0
+
+
+if __name__ == "__main__":
+    sys.exit(main())
