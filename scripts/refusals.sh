@@ -17,7 +17,7 @@ make_work() {
 
 # A name without what could garble a terminal.
 shown_name() {
-    printf '%s' "$1" | LC_ALL=C tr '[:cntrl:]' '?'
+    printf '%s' "$1" | LC_ALL=C tr '[:cntrl:]' '[?*]'
 }
 
 # Copies what is read of a file, or of standard input where it has no name. Where it cannot be read, sets reason and fails.

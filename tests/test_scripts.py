@@ -448,6 +448,8 @@ def add_unread(old, new, made, add):
         (side / name).symlink_to(MEMORY)
     add("a link to nowhere", "unreadable", NEW)
     (old / "a link to nowhere").symlink_to("nowhere at all")
+    add("a link to itself", "unreadable", NEW)
+    (old / "a link to itself").symlink_to("a link to itself")
     add("a folder", OLD, "unreadable")
     (new / "a folder").mkdir()
     add("a pipe", "unreadable", NEW)
