@@ -57,7 +57,7 @@ read_line() { # COPY PLACE
         }
         END {
             if (bytes > 160)
-                text = text " .. (" bytes " bytes)"
+                text = text " .. (cut)"
             sub(/^ /, "\\040", text)
             sub(/ $/, "\\040", text)
             print (ended ? "ended" : bytes ? "open" : "missing") " " text
@@ -95,6 +95,7 @@ explain_form() { # COPY PLACE [header]
     if [ "$state" = missing ]; then
         wrong='the line is missing, the file ends before it'
         advice="write the line that belongs there: $expected"
+        [ "$2" -le 7 ] || advice="end the file with end= and the number of its member lines; if these are all, end=$(grep -c '^member=' "$1")"
         return
     fi
     case $2:$before in
@@ -106,7 +107,7 @@ explain_form() { # COPY PLACE [header]
     esac
     if [ "$state" = open ] && [ "$(wc -c <"$1")" -lt "$most_bytes" ]; then
         wrong='the last line has no line feed at its end'
-        advice="end the line with a line feed, and see that it is $expected"
+        advice='end the line with a line feed; if the file was cut off there, write the rest too'
         return
     fi
     case $2:$text in

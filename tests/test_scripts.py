@@ -107,7 +107,7 @@ REFUSED = [
     ("no lives", with_line(GOOD, 9, b"member=40,1,12,8"), 1, 9, "form", "member=40,1,12,8", "takes ,1 behind it"),
     ("nothing at all", b"", 1, 1, "form", None, "the line is missing, the file ends before it"),
     ("the file ends early", b"".join(GOOD.splitlines(True)[:6]), 1, 7, "form", None, "the line that belongs there: worth=NUMBER"),
-    ("no end line", b"".join(GOOD.splitlines(True)[:9]), 1, 10, "form", None, "end=COUNT"),
+    ("no end line", b"".join(GOOD.splitlines(True)[:9]), 1, 10, "form", None, "if these are all, end=1"),
     ("no line feed at the end", GOOD[:-1], 1, 10, "form", "end=1", "the last line has no line feed"),
     ("carriage returns", GOOD.replace(b"\n", b"\r\n"), 1, 1, "form", "rates=2030\\r", "the line ends in a carriage return"),
     ("something behind the end", GOOD + b"end=1\n", 1, 11, "form", "end=1", "something follows end="),
@@ -116,8 +116,8 @@ REFUSED = [
      "rate=50,1,1", "in front of the first member line"),
     ("a space behind", with_line(GOOD, 4, b"order=3 "), 1, 4, "form", "order=3\\040", "write order=NUMBER here"),
     ("bytes", b"\x00\x1b[2J\xff\\\t\x7f\n" + GOOD, 1, 1, "form", "\\000\\033[2J\\377\\\\\\t\\177", "write rates=NUMBER here"),
-    ("a long line", with_line(GOOD, 4, b"order=" + b"3" * 500), 1, 4, "form", "order=" + "3" * 154 + " .. (506 bytes)", "one to seven digits"),
-    ("a line without an end", with_line(GOOD, 4, b"order=" + b"3" * 70000), 1, 4, "form", None, "one to seven digits"),
+    ("a long line", with_line(GOOD, 4, b"order=" + b"3" * 500), 1, 4, "form", "order=" + "3" * 154 + " .. (cut)", "one to seven digits"),
+    ("a line without an end", with_line(GOOD, 4, b"order=" + b"3" * 70000), 1, 4, "form", "order=" + "3" * 154 + " .. (cut)", "one to seven digits"),
     ("an order of 13", with_line(GOOD, 4, b"order=13"), 2, 4, "range", "order=13", "order= takes 1 to 12"),
     ("lives of 0", with_line(GOOD, 9, b"member=40,1,12,8,0"), 2, 9, "range", "member=40,1,12,8,0", "lives 1 to 1,000"),
     ("lives of 999 and 2", fund(member_rows=((40, 2, 1, 0, 999), (40, 2, 1, 0, 2))), 2, 10, "range", "member=40,2,1,0,2",
@@ -162,6 +162,35 @@ def price_checks(room, folder):
             yield f"price: {name}: {way}: listing and status", answer[:2] == (1, line)
             yield f"price: {name}: {way}: words", says(answer, "price", where_of(who, number, place), number, word, shown, words)
             yield f"price: {name}: {way}: nothing left", room.is_clean()
+
+
+def shown_line(line):
+    """A line as the scripts show it."""
+    marks = {9: "\\t", 13: "\\r", 92: "\\\\"}
+    found = "".join(marks.get(byte) or (chr(byte) if 32 <= byte < 127 else f"\\{byte:03o}") for byte in line[:160])
+    found += " .. (cut)" if len(line) > 160 else ""
+    return re.sub("^ | $", r"\\040", found) or "(an empty line)"
+
+
+def damaged_checks(room, folder):
+    """Damaged files of every kind: the listing is the calculation's, the words are of its number and place, the line is the part that it hands back."""
+    file = folder / "damaged.fund"
+    known = [case for case in generate.damaged_files() if case.lengths == generate.ENOUGH]
+    for case in random.Random(5).sample(known, 120) + generate.random_damage(5, 120):
+        file.write_bytes(case.data)
+        answer, priced = room.run("price", file), pricing.price(case.data)
+        if priced.number == 0:
+            yield f"damaged: {case.name}", answer == (0, pricing.listing(priced).encode(), "")
+            continue
+        part = case.data[priced.start:priced.start + priced.length]
+        lines = answer[2].splitlines()
+        where = where_of(file, priced.number, priced.place)
+        yield f"damaged: {case.name}: listing", answer[:2] == (1, pricing.listing(priced).encode())
+        yield f"damaged: {case.name}: words", lines[0].startswith(f"price: {where}: ") and f" ({priced.number}): " in lines[0]
+        if len(case.data) < 65536 and priced.number in (1, 2, 5, 6):
+            missing = "the line is missing, the file ends before it" in lines[0]
+            at_end = case.data.count(b"\n") < priced.place and not part
+            yield f"damaged: {case.name}: the line", missing == at_end and (missing or lines[1] == "    " + shown_line(part))
 
 
 def accepted_checks(room, folder):
@@ -642,7 +671,7 @@ def checks():
         folder.chmod(0o755)
         room = Room(folder)
         add_programs(room)
-        for part in (price_checks, accepted_checks, unread_checks, sheet_checks, compare_checks, reprice_checks, faulty_checks, build_checks):
+        for part in (price_checks, damaged_checks, accepted_checks, unread_checks, sheet_checks, compare_checks, reprice_checks, faulty_checks, build_checks):
             own = folder / part.__name__
             own.mkdir()
             found += part(room, own)
