@@ -593,6 +593,7 @@ def faulty_checks(room, folder):
     answer = room.run("compare", folder / "one.fund", folder / "one.fund")
     yield "compare: a program that writes nothing", not_read(answer, "gave no listing")
     program.unlink()
+    yield "reprice: rows without the program", not_read(room.run("reprice", "--rows", old, new, "000.fund"), "scripts/build compare")
     kept.rename(program)
 
 
