@@ -640,8 +640,20 @@ def build_checks(room, folder):
     program.unlink()
     prover(f'cp "{kept}" "{program}"', "unchanged since it was last proved")
     yield "build: unchanged crates are not shown", room.run("price", good, path=tools)[2].count("\n") == 1
+    stamps = room.root / "target" / "stamp"
+    stamps.mkdir()
+    for name in crates:
+        (stamps / name).touch()
+    program.unlink()
+    answer = room.run("price", good, path=tools)
+    yield "build: proved before, all but the program", answer[2].startswith("building the listing program, with its proof: "
+                                                                            f"{count} crates, about 20 seconds left (first: listing)\n")
     program.unlink()
     prover(f'cp "{kept}" "{program}"')
+    answer = room.run("price", good, path=tools)
+    yield "build: proved before, and changed since", answer[:2] == (0, listing) and answer[2].count("\n") == count + 1 and "4 minutes left" in answer[2]
+    shutil.rmtree(stamps)
+    program.unlink()
     shown = on_terminal([room.root / "scripts" / "build", "listing"], tools)
     yield "build: one line on a terminal", shown.count(b"\n") == 1 and shown.count(b"\r\x1b[K[") == count
     program.unlink(missing_ok=True)
