@@ -6,13 +6,19 @@
 most_bytes=65536
 reason=
 
-# Makes a folder for the copies, which is removed at the end, on a signal too.
+# Makes a folder for the copies, which is removed at the end, on a signal too: nothing lies between its making and the traps.
 make_work() {
-    work=$(mktemp -d) || exit 2
-    trap 'rm -rf "$work"' EXIT
+    work='' reader=''
+    trap 'clear_work' EXIT
     trap 'exit 129' HUP
     trap 'exit 130' INT
     trap 'exit 143' TERM
+    work=$(trap '' HUP INT TERM; exec mktemp -d) || exit 2
+}
+
+clear_work() {
+    [ ! "$reader" ] || kill "$reader" 2>/dev/null
+    [ ! "$work" ] || rm -rf "$work"
 }
 
 # A name without what could garble a terminal.
@@ -20,18 +26,34 @@ shown_name() {
     printf '%s' "$1" | LC_ALL=C tr '[:cntrl:]' '[?*]'
 }
 
+# Waits for the reader that was started last. A shell that waits is ended by a signal at once, one that runs a program is not.
+wait_for_reader() { # COPY NAME
+    reader=$!
+    wait "$reader" || reason="a read that failed ($(sed 's/.*: //' "$1.said")): $2"
+    reader=
+}
+
 # Copies what is read of a file, or of standard input where it has no name. Where it cannot be read, sets reason and fails.
 copy_file() { # COPY [FILE]
+    name_shown=$(shown_name "${2-standard input}")
     if [ $# -eq 1 ]; then
-        said=$( (head -c "$most_bytes" >"$1") 2>&1) || reason="a read that failed (${said##*: }): standard input"
+        if (exec 3<&0) 2>/dev/null; then
+            exec 3<&0
+            head -c "$most_bytes" <&3 >"$1" 2>"$1.said" &
+            wait_for_reader "$1" "$name_shown"
+            exec 3<&-
+        else
+            reason="a read that failed (it is closed): $name_shown"
+        fi
     elif [ ! -e "$2" ]; then
-        reason="no such file: $(shown_name "$2")"
+        reason="no such file: $name_shown"
     elif [ -d "$2" ]; then
-        reason="a folder, not a file: $(shown_name "$2")"
+        reason="a folder, not a file: $name_shown"
     elif [ ! -r "$2" ]; then
-        reason="a file that cannot be read: $(shown_name "$2")"
+        reason="a file that cannot be read: $name_shown"
     else
-        said=$( (head -c "$most_bytes" "$2" >"$1") 2>&1) || reason="a read that failed (${said##*: }): $(shown_name "$2")"
+        head -c "$most_bytes" "$2" >"$1" 2>"$1.said" &
+        wait_for_reader "$1" "$name_shown"
     fi
     [ ! "$reason" ]
 }

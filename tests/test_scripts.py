@@ -234,15 +234,31 @@ def unread_checks(room, folder):
     with open("/dev/full", "wb") as full:
         done = subprocess.run([room.root / "price", EXAMPLES / "one-member.fund"], stdout=full, stderr=subprocess.DEVNULL, check=False)
     yield "price: an output that cannot be written", done.returncode == 2
+    for name, kill in (("to all", os.killpg), ("to the shell alone", os.kill)):
+        for delay in (0, 0.001, 0.003, 0.1):
+            yield f"price: a signal {name}, {delay} s after its folder is made", ended_by_signal(room, kill, delay)
+    with subprocess.Popen([room.root / "price"], stdin=subprocess.PIPE, stdout=subprocess.PIPE) as run:
+        time.sleep(0.1)
+        yield "price: input that comes late", run.communicate(GOOD)[0] == pricing.listing(pricing.price(GOOD)).encode()
+    done = subprocess.run(["sh", "-c", 'exec "$0" <&-', room.root / "price"], capture_output=True, check=False)
+    yield "price: standard input that is closed", done.returncode == 2 and done.stdout == b"" and b"a read that failed" in done.stderr
+
+
+def ended_by_signal(room, kill, delay):
+    """That price, while it reads, ends soon after a signal, and leaves nothing."""
     run = subprocess.Popen([room.root / "price"], stdin=subprocess.PIPE, stderr=subprocess.DEVNULL, start_new_session=True,
                            env={**os.environ, "TMPDIR": str(room.temporary)})
     while room.is_clean():
-        time.sleep(0.01)
-    time.sleep(0.5)          # it reads now
-    os.killpg(run.pid, signal.SIGTERM)
-    yield "price: a signal: the status", run.wait(20) != 0
-    yield "price: a signal: nothing left", room.is_clean()
-    run.stdin.close()
+        pass
+    time.sleep(delay)
+    kill(run.pid, signal.SIGTERM)
+    try:
+        return run.wait(20) != 0 and room.is_clean()
+    except subprocess.TimeoutExpired:
+        return False
+    finally:
+        run.stdin.close()
+        run.wait(20)
 
 
 def floats(*rows):
