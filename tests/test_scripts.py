@@ -244,21 +244,36 @@ def unread_checks(room, folder):
     yield "price: standard input that is closed", done.returncode == 2 and done.stdout == b"" and b"a read that failed" in done.stderr
 
 
+def until(holds, seconds=20):
+    """Waits until it holds; whether it did."""
+    end = time.monotonic() + seconds
+    while not holds():
+        if time.monotonic() > end:
+            return False
+    return True
+
+
+def is_unread(pipe):
+    """That nobody reads what is written there."""
+    try:
+        os.write(pipe.fileno(), b"x")
+    except BrokenPipeError:
+        return True
+    time.sleep(0.01)
+    return False
+
+
 def ended_by_signal(room, kill, delay):
-    """That price, while it reads, ends soon after a signal, and leaves nothing."""
+    """That price, while it reads, ends soon after a signal, and leaves neither a file nor a reader."""
     run = subprocess.Popen([room.root / "price"], stdin=subprocess.PIPE, stderr=subprocess.DEVNULL, start_new_session=True,
                            env={**os.environ, "TMPDIR": str(room.temporary)})
-    while room.is_clean():
-        pass
+    made = until(lambda: not room.is_clean())
     time.sleep(delay)
     kill(run.pid, signal.SIGTERM)
-    try:
-        return run.wait(20) != 0 and room.is_clean()
-    except subprocess.TimeoutExpired:
-        return False
-    finally:
-        run.stdin.close()
-        run.wait(20)
+    ended = until(lambda: run.poll() is not None)
+    unread = ended and until(lambda: is_unread(run.stdin), 5)
+    run.stdin.close()
+    return made and ended and unread and run.wait(20) != 0 and room.is_clean()
 
 
 def floats(*rows):
