@@ -98,7 +98,7 @@ module _ (text : List ℕ) (r : Reading) (level : ℕ) (n : Lengths) (result : L
   host-demands = demands text r level n (hosted text result d h f b s) host-answered
 
 -- what is written where there is room
-shows : (least : ℕ) (shown before after : List ℕ) (size : ℕ) → Written (if leb least (length before) then shown else []) before after size → Shows least shown before after size
+pub shows : (least : ℕ) (shown before after : List ℕ) (size : ℕ) → Written (if leb least (length before) then shown else []) before after size → Shows least shown before after size
 shows least shown before after size w =
     record {
       listed = λ l. let e = ap (λ (b : Bool). if b then shown else []) (le-leb least (length before) l) in record { start = w .start ∙ e; size-is = w .whole ∙ ap length e; beyond = w .beyond };

@@ -3,3 +3,4 @@ mod Calls
 mod Tested
 mod AsFile
 mod AsWrittenOut
+mod Compared

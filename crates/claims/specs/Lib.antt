@@ -3,3 +3,4 @@ pub mod Listing
 pub mod Calls
 pub mod Sheets
 pub mod WrittenOut
+pub mod Comparison

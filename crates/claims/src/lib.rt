@@ -1,6 +1,7 @@
 // What a customer may hold us to. Each function makes one public call and promises, in the plain words of specs/, what follows from
 // that call's contract alone; how near a listing and a line at a level are to the exact figures follows from the theorem over the
 // definitions. So a promise of a call that is weakened fails here.
+mod comparing;
 mod sheets;
 mod steps;
 

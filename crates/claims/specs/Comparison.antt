@@ -1,0 +1,63 @@
+-- What a host has after a call that compares two files, and what is printed of it, in plain words.
+use mathlib.Core.Path.{_≡_}
+use mathlib.Core.List.{List}
+use Prim.Native.Nat.{ℕ, _+_, _<_}
+use lib.IntN.{ℤ, pos, _+ℤ_, _-ℤ_}
+use Rattle.fund.specs.Reading.{FundFile, read, reading}
+use Rattle.fund.specs.Refusals.{Lengths}
+use Rattle.fund.specs.Answer.{answer}
+use Rattle.fund.specs.Listing.{enough}
+use Rattle.moves.specs.declared.Move.{Move}
+use Rattle.moves.specs.declared.files.Differences.{Differences}
+use Rattle.moves.specs.Differences.{firstHeaderLine, firstMemberLine, memberLine}
+use Rattle.moves.specs.Move.{excess}
+use Rattle.comparison.specs.declared.Comparison.{Comparison}
+use Rattle.comparison.specs.declared.Comparison.the-variants.{Moved, Refused as Unpriced}
+use Rattle.comparison.specs.Exact.{ExactMove, RatesAlone}
+use Rattle.comparison_listing.specs.Printed.{comparisonOf, comparisonListing}
+use Rattle.claims.specs.Demands.{Received, Demands}
+use Rattle.claims.specs.Listing.{Shows}
+
+-- Of two funds that are accepted: the move of the figures that the host has, new less old; the sum of their two bounds; the ends of both intervals; and what differs between the files
+-- beside editions and rate lines.
+pub record SaysMove (old new : FundFile) (o p : Received) (v : Move) (d : Differences) : Type 0 where
+  pub premium : v .premium ≡ p .figures .premium -ℤ o .figures .premium
+  pub arithmetic : v .arithmetic ≡ o .figures .within + p .figures .within
+  pub least : v .least ≡ v .premium -ℤ pos (v .arithmetic)
+  pub most : v .most ≡ v .premium +ℤ pos (v .arithmetic)
+  pub gross : v .gross ≡ pos (p .figures .gross) -ℤ pos (o .figures .gross)
+  pub gross-least : v .«gross_least» ≡ v .gross -ℤ pos (excess (new .header) (p .figures .within))
+  pub gross-most : v .«gross_most» ≡ v .gross +ℤ pos (excess (old .header) (o .figures .within))
+  pub header : d .header ≡ firstHeaderLine (old .header) (new .header)
+  pub member : d .member ≡ firstMemberLine 1 (old .members) (new .members)
+  pub old-line : d .«old_line» ≡ memberLine old (d .member)
+  pub new-line : d .«new_line» ≡ memberLine new (d .member)
+
+-- The same, with the theorem: the exact move is within the sum of the bounds of the premium's move, and in both intervals; and where no header line but the editions' and no member line differs, it is
+-- that of the rates alone.
+pub record TellsMove (old new : List ℕ) (n m : Lengths) (o p : Received) (c : Comparison) : Type 0 where
+  pub old-fund : FundFile
+  pub new-fund : FundFile
+  pub old-read : reading old ≡ read old-fund
+  pub new-read : reading new ≡ read new-fund
+  pub move : Move
+  pub differences : Differences
+  pub told : c ≡ Moved move differences
+  pub says : SaysMove old-fund new-fund o p move differences
+  pub exact : ExactMove old-fund (answer old n) new-fund (answer new m) move
+  pub rates : differences .header ≡ 0 → differences .member ≡ 0 → RatesAlone old-fund (answer old n) new-fund (answer new m) move
+
+-- Both funds are priced as by themselves; where one is refused no move is told, else the move.
+pub record ComparesPlainly (old new : List ℕ) (level : ℕ) (n m : Lengths) (o p : Received) (c : Comparison) : Type 0 where
+  pub old-demands : Demands old (reading old) level n o
+  pub new-demands : Demands new (reading new) level m p
+  pub refused : 0 < o .number + p .number → c ≡ Unpriced
+  pub moved : o .number ≡ 0 → p .number ≡ 0 → TellsMove old new n m o p c
+
+-- The listing of a comparison, in a text of at least 512 bytes; of a move that it shows, the theorem.
+pub record PrintsMove (old new before after : List ℕ) (size : ℕ) : Type 0 where
+  pub shows : Shows 512 (comparisonListing old new) before after size
+  pub exact : (f g : FundFile) → reading old ≡ read f → reading new ≡ read g → (v : Move) (d : Differences) → comparisonOf old new ≡ Moved v d →
+      ExactMove f (answer old enough) g (answer new enough) v
+  pub rates : (f g : FundFile) → reading old ≡ read f → reading new ≡ read g → (v : Move) (d : Differences) → comparisonOf old new ≡ Moved v d → d .header ≡ 0 → d .member ≡ 0 →
+      RatesAlone f (answer old enough) g (answer new enough) v
