@@ -12,28 +12,6 @@ fn print_usage() {
     );
 }
 
-// Reads the file that the argument i names; how many bytes stand in the buffer, or more than it has room for where the file cannot be read.
-fn read_argument(i: usize, buffer: &mut [u8]) -> usize {
-    let mut path = io::buffer();
-    let length = os::arg(i, &mut path);
-    if os::errno() != 0 {
-        os::fail(b"path");
-        return MOST_BYTES + 1;
-    }
-    let fd = os::open_read(&path[..length]);
-    if fd < 0 {
-        os::fail(&path[..length]);
-        return MOST_BYTES + 1;
-    }
-    let read = printing::read_bytes(fd, buffer);
-    if read.failed {
-        os::fail(&path[..length]);
-        return MOST_BYTES + 1;
-    }
-    libc::close(fd);
-    read.size
-}
-
 fn print_listing(header: &[u8], rates: &[u8], members: &[u8]) {
     let mut text = [0u8; text::ROOM];
     let size = printing::print_sheets(header, rates, members, &mut text);
@@ -64,35 +42,30 @@ fn print(header: &[u8], rates: &[u8], members: &[u8]) {
     }
 }
 
-// The same of the first bytes of each buffer; nothing where a file could not be read.
-fn print_first(
-    header: &[u8],
-    first: usize,
-    rates: &[u8],
-    second: usize,
-    members: &[u8],
-    third: usize,
-) {
-    if header.len() < first {
-        return;
-    }
-    if rates.len() < second {
-        return;
-    }
-    if members.len() < third {
-        return;
-    }
-    print(&header[..first], &rates[..second], &members[..third]);
-}
-
 fn print_files() {
     let mut header = [0u8; MOST_BYTES];
     let mut rates = [0u8; MOST_BYTES];
     let mut members = [0u8; MOST_BYTES];
-    let first = read_argument(1, &mut header);
-    let second = read_argument(2, &mut rates);
-    let third = read_argument(3, &mut members);
-    print_first(&header, first, &rates, second, &members, third);
+    let first = arguments::read_argument(1, &mut header);
+    let second = arguments::read_argument(2, &mut rates);
+    let third = arguments::read_argument(3, &mut members);
+    if first.failed {
+        return;
+    }
+    if second.failed {
+        return;
+    }
+    if third.failed {
+        return;
+    }
+    let header_size = first.size;
+    let rates_size = second.size;
+    let members_size = third.size;
+    print(
+        &header[..header_size],
+        &rates[..rates_size],
+        &members[..members_size],
+    );
 }
 
 fn main() {
