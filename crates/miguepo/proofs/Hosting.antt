@@ -16,10 +16,7 @@ use Rattle.laws.specs.Numbers.{zero-accepted}
 use Rattle.pricing.specs.declared.Priced.{Priced}
 use Rattle.pricing.specs.Priced.{left, Prices}
 use Rattle.pricing.specs.Joining.{quantile-is}
-use mir.Syntax.{w64}
-use mir.Val.{SFits}
 use Rattle.miguepo.specs.Bits.{bitsOf, readSigned}
-use Rattle.miguepo.proofs.Complement.{bits-read}
 use Rattle.miguepo.specs.Host.{resultFields, pricedFields, Hosts}
 
 module _ (text : List ℕ) (r : Reading) (level : ℕ) (n : Lengths) (p : Priced) (D : List ℤ) (H : List ℕ) (f : List ℤ) (R : List ℕ) (F : List ℤ) (k : Prices text r level n p (left p D H f R F)) where
@@ -29,11 +26,11 @@ module _ (text : List ℕ) (r : Reading) (level : ℕ) (n : Lengths) (p : Priced
   zero-told : numberIn (answerTo text n r .verdict) ≡ 0 → p .verdict ≡ Accepted
   zero-told z = ap (λ (x : Answer). x .verdict) same ∙ zero-accepted (answerTo text n r .verdict) z
 
-  pub hosts : (result : List ℕ) → result ≡ pricedFields p → SFits w64 (p .figures .premium) → Hosts text r level n result D H f R F
-  hosts result e fits =
+  pub hosts : (result : List ℕ) → (result ≡ pricedFields p) × (readSigned (bitsOf (p .figures .premium)) ≡ p .figures .premium) → Hosts text r level n result D H f R F
+  hosts result e =
       record {
-        result-is = e ∙ rw (quantile-is (k .answers), k .answers .horizon) (ap (λ (y : Answer). resultFields y (horizonIn r) (quantileOf level (horizonIn r) (answerTo text n r .F) (answerTo text n r .verdict))) same);
-        premium = subst (λ (x : Answer). readSigned (bitsOf (x .figures .premium)) ≡ x .figures .premium) same (bits-read (p .figures .premium) fits);
+        result-is = e .0 ∙ rw (quantile-is (k .answers), k .answers .horizon) (ap (λ (y : Answer). resultFields y (horizonIn r) (quantileOf level (horizonIn r) (answerTo text n r .F) (answerTo text n r .verdict))) same);
+        premium = subst (λ (x : Answer). readSigned (bitsOf (x .figures .premium)) ≡ x .figures .premium) same (e .1);
         inside = subst (λ (x : Answer). x .part .start + x .part .size ≤ length text) same (omega (arith, k .answers .ordered, k .answers .inside));
         D-is = ap (λ (x : Answer). x .D) same;
         H-is = ap (λ (x : Answer). x .H) same;

@@ -1,2 +1,3 @@
 pub mod Hosting
+pub mod HostingComparison
 pub mod Complement

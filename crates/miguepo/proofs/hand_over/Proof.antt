@@ -1,8 +1,9 @@
--- `miguepo::hand_over`: each field is that of the answer.
+-- `miguepo::hand_over`: each field is that of the answer, and the premium is a word, which C reads from its bits.
 use borrow.Author.Needs.{needs, sfits-of}
 use mir.Syntax.{w64}
 use mir.Val.{SFits}
 use mir.Facts.{toZ-ofZ}
+use Rattle.miguepo.proofs.Complement.{bits-read}
 use Rattle.miguepo.proofs.hand_over.Statement.{statement}
 use Rattle.miguepo.proofs.hand_over.Tie as tie
 
@@ -14,8 +15,10 @@ returns c =
     let place = bits .before .before .before in
     let number = place .before in
     let a = number .before .before .args in
-    let fits : SFits w64 (a .priced .figures .premium) = sfits-of {w = w64} (bits .before .struct-told .given .1 .1 .0 .1) in
-    rw (number .verdict-number .ensures, place .verdict-place .ensures, rw (toZ-ofZ fits) at (bits .bits .ensures), reached-found .level-reached .ensures, place-found .quantile-place .ensures)
+    let fits : SFits w64 (a .priced .figures .premium) = sfits-of {w = w64} (bits .before .struct-told .given .1 .1 .0 .1) in (
+      rw (number .verdict-number .ensures, place .verdict-place .ensures, rw (toZ-ofZ fits) at (bits .bits .ensures), reached-found .level-reached .ensures, place-found .quantile-place .ensures),
+      bits-read _ fits,
+    )
 
 pub hand-over-spec : {M : Type 1} → statement M
 hand-over-spec =

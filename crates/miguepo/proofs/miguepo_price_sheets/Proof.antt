@@ -1,7 +1,5 @@
 -- What `pricing::price_sheets` answers is handed over.
-use borrow.Author.Needs.{needs, sfits-of}
-use mir.Syntax.{w64}
-use mir.Val.{SFits}
+use borrow.Author.Needs.{needs}
 use Rattle.miguepo.proofs.Hosting.{hosts}
 use Rattle.miguepo.proofs.miguepo_price_sheets.Statement.{statement}
 use Rattle.miguepo.proofs.miguepo_price_sheets.Tie as tie
@@ -13,8 +11,7 @@ returns : tie.Need-returns
 returns c =
     let p = c .before .before .before .before .before .before .before .before .before .price-sheets in
     let o = p .last .1 .1 .1 .1 in
-    let fits : SFits w64 (p .result .figures .premium) = sfits-of {w = w64} (p .ok .1 .1 .1 .1 .1 .1 .0 .1 .1 .1 .1 .0 .1) in
-    hosts _ _ _ _ (p .result) (o .0) (o .1 .0) (o .1 .1 .0) (o .1 .1 .1 .0) (o .1 .1 .1 .1 .0) (p .ensures) _ (c .hand-over .ensures) fits
+    hosts _ _ _ _ (p .result) (o .0) (o .1 .0) (o .1 .1 .0) (o .1 .1 .1 .0) (o .1 .1 .1 .1 .0) (p .ensures) _ (c .hand-over .ensures)
 
 pub miguepo-price-sheets-spec : {M : Type 1} → statement M
 miguepo-price-sheets-spec =
