@@ -2,19 +2,20 @@
  * on the distribution function and on the premium.
  *
  * One call prices one fund file, or one header text with two sheets, and finds
- * the fund's quantile at a level. The level and all figures but places, sizes, the
- * horizon and the gross premium are in units of 10^-12.
+ * the fund's quantile at a level; another prices two fund files, and says how the
+ * premium moved from one to the other. The level and all figures but places, lines,
+ * sizes, the horizon and the gross premium are in units of 10^-12.
  *
  * The calls take every sequence of bytes, every level and result slices of every
  * length, and always return. They keep no state, allocate nothing, need less
- * than 250 KiB of stack, and may run in several threads at once on different
- * results.
+ * than 330 KiB of stack, the one that compares less than 500, and may run in
+ * several threads at once on different results.
  *
  * What only the caller can get wrong:
  *   - no pointer is null; of a slice without cells it may point anywhere;
  *   - behind each pointer of a slice stand as many cells as its length says;
  *   - each pointer is aligned for its type;
- *   - nothing that is written (the five slices and the result) overlaps with
+ *   - nothing that is written (the result slices and the structs) overlaps with
  *     anything else that is passed, and nothing else writes to what is passed
  *     while the call runs.
  */
@@ -136,6 +137,81 @@ void miguepo_price_sheets(const uint8_t *header, size_t header_length,
                           uint64_t *r, size_t r_length,
                           int64_t *sums, size_t sums_length,
                           struct miguepo_result *result);
+
+/* How the premium moved from an old fund to a new one, and what differs between
+ * their files beside the editions and the rate lines. Each field has eight bytes. */
+struct miguepo_comparison {
+    uint64_t moved;      /* 1 where both funds are accepted; 0 where one is refused, and then every field is 0 */
+    int64_t premium;     /* the move: the new premium less the old one */
+    uint64_t arithmetic; /* the most that arithmetic can have to do with it: the two premiums' bounds together */
+    int64_t least;       /* the exact move, the exact premium of the new fund less that of the old one, */
+    int64_t most;        /* is at least `least` and at most `most` */
+    int64_t gross;       /* the new gross premium less the old one, in centimes */
+    int64_t gross_least; /* the move of the exact premium's loaded worth, in centimes, */
+    int64_t gross_most;  /* is at least `gross_least` and at most `gross_most` */
+    uint64_t header;     /* the first header line that differs, 3 for `horizon=` to 7 for `worth=`, or 0 */
+    uint64_t member;     /* the first member line that differs, counted from 1 among the member lines, or 0 */
+    uint64_t old_line;   /* where it stands in the old file and in the new one, or 0; of a file with fewer */
+    uint64_t new_line;   /* member lines it is the line of `end=` */
+};
+
+/* Prices an old fund file and a new one, each as miguepo_price does, and compares
+ * them.
+ *
+ *   old_file, new_file       the bytes of the two fund files
+ *   level                    the level that is asked for in both, in units
+ *   old_d .. old_sums        result slices of the old fund, and how many cells each has
+ *   new_d .. new_sums        those of the new fund
+ *   old_result, new_result   what miguepo_price answers of each
+ *   comparison               every field is written
+ *
+ * That the exact moves lie in their intervals is a theorem, for all files that are
+ * accepted. Where header and member are 0 the files differ in editions and rate
+ * lines alone: the exact move is then that of the rates, of the same terms and
+ * members under the old rates and under the new ones.
+ */
+void miguepo_compare(const uint8_t *old_file, size_t old_length,
+                     const uint8_t *new_file, size_t new_length,
+                     uint64_t level,
+                     int64_t *old_d, size_t old_d_length,
+                     uint64_t *old_h, size_t old_h_length,
+                     int64_t *old_f, size_t old_f_length,
+                     uint64_t *old_r, size_t old_r_length,
+                     int64_t *old_sums, size_t old_sums_length,
+                     int64_t *new_d, size_t new_d_length,
+                     uint64_t *new_h, size_t new_h_length,
+                     int64_t *new_f, size_t new_f_length,
+                     uint64_t *new_r, size_t new_r_length,
+                     int64_t *new_sums, size_t new_sums_length,
+                     struct miguepo_result *old_result,
+                     struct miguepo_result *new_result,
+                     struct miguepo_comparison *comparison);
+
+/* Cells for one fund of any horizon. */
+struct miguepo_cells {
+    int64_t d[MIGUEPO_CELLS];
+    uint64_t h[MIGUEPO_CELLS];
+    int64_t f[MIGUEPO_CELLS];
+    uint64_t r[MIGUEPO_CELLS];
+    int64_t sums[MIGUEPO_CELLS];
+};
+
+/* The same call with the cells of two such structs, 160 KiB each. */
+static inline void miguepo_compare_cells(const uint8_t *old_file, size_t old_length,
+                                         const uint8_t *new_file, size_t new_length,
+                                         uint64_t level,
+                                         struct miguepo_cells *old_cells,
+                                         struct miguepo_cells *new_cells,
+                                         struct miguepo_result *old_result,
+                                         struct miguepo_result *new_result,
+                                         struct miguepo_comparison *comparison)
+{
+    size_t all = MIGUEPO_CELLS;
+    miguepo_compare(old_file, old_length, new_file, new_length, level,
+                    old_cells->d, all, old_cells->h, all, old_cells->f, all, old_cells->r, all, old_cells->sums, all,
+                    new_cells->d, all, new_cells->h, all, new_cells->f, all, new_cells->r, all, new_cells->sums, all,
+                    old_result, new_result, comparison);
+}
 
 #ifdef __cplusplus
 }
