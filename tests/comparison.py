@@ -112,8 +112,9 @@ def moved(old, new, old_answer, new_answer):
                 header_difference(old, new), member, *lines)
 
 
-def compare(old, new):
-    answers = pricing.price(old), pricing.price(new)
+def compare(old, new, lengths=(pricing.LISTING_LENGTHS,) * 2, level=0):
+    """With the lengths of each file's result slices."""
+    answers = tuple(pricing.price(data, cells, level) for data, cells in zip((old, new), lengths))
     refused = any(answer.number for answer in answers)
     return Comparison(*answers, None if refused else moved(old, new, *answers))
 

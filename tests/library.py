@@ -7,11 +7,13 @@ each limit, funds with rates for some ages, funds about the edges of the loading
 with two frequencies, funds with wide bounds, funds with lines for several lives, cut and damaged ones, each with a
 level.  Then N funds as sheets:
 those of sheet_funds.py, and generated ones, taken, with near misses, cut and damaged.
+Then N pairs of files through the call that compares: those of comparison_funds.py and
+generated ones.
 Last every rate: each of the 1,000,001 quotients is taken with its k, and neither of its
 neighbours is.
-The five result slices have lengths from 0 on and are filled with other numbers
-before the call; behind each stand cells that must stay as they are.  Every
-figure, the place, the line, the quantile and every cell are compared.
+The result slices have lengths from 0 on and are filled with other numbers
+before the call, and so are the structs; behind each stand cells that must stay as they are.  Every
+figure, the place, the line, the quantile, every cell and every field of a comparison are compared.
 """
 
 import ctypes
@@ -22,10 +24,13 @@ import subprocess
 import sys
 from pathlib import Path
 
+import comparison
+import comparison_funds
 import distribution_funds
 import document_funds
 import frequency_funds
 import generate
+import generate_pairs
 import generate_sheets
 import lives_funds
 import pricing
@@ -37,7 +42,7 @@ import tariff_funds
 import triangle_funds
 
 ROOT = Path(__file__).resolve().parent.parent
-BEHIND = 3               # cells behind each slice
+BEHIND = 3               # cells behind each slice, structs behind each struct
 U64, I64 = ctypes.c_uint64, ctypes.c_int64
 
 
@@ -46,6 +51,13 @@ class Result(ctypes.Structure):
     _fields_ = [("number", U64), ("place", U64), ("line_start", U64), ("line_size", U64), ("horizon", U64),
                 ("truncation", U64), ("mean", U64), ("premium", I64), ("within", U64), ("gross", U64),
                 ("reached", U64), ("quantile", U64)]
+
+
+class Compared(ctypes.Structure):
+    """struct miguepo_comparison."""
+    _fields_ = [("moved", U64), ("premium", I64), ("arithmetic", U64), ("least", I64), ("most", I64), ("gross", I64),
+                ("gross_least", I64), ("gross_most", I64), ("header", U64), ("member", U64), ("old_line", U64),
+                ("new_line", U64)]
 
 
 def quantile_of(got):
@@ -67,38 +79,85 @@ def build():
 
 
 def calls():
-    """The library's call for a file, and the one for a header text and two sheets."""
+    """The library's call for a file, the one for a header text and two sheets, and the one that compares two files."""
     library = ctypes.CDLL(str(build()))
-    found = library.miguepo_price, library.miguepo_price_sheets
+    found = library.miguepo_price, library.miguepo_price_sheets, library.miguepo_compare
     for call in found:
         call.restype = None
     return found
 
 
-def answer_by(call, rng, texts, lengths, level):
-    """The answer, and whether all that stands behind the slices was kept."""
-    kinds = (I64, U64, I64, U64, I64)
-    slices = [(kind * (length + BEHIND))() for kind, length in zip(kinds, lengths)]
-    for cells in slices:
-        for k in range(len(cells)):
-            cells[k] = rng.getrandbits(62)
-    behind = [list(cells[length:]) for cells, length in zip(slices, lengths)]
-    results = (Result * (1 + BEHIND))()
-    ctypes.memmove(results, rng.randbytes(ctypes.sizeof(results)), ctypes.sizeof(results))
-    after = bytes(results)[ctypes.sizeof(Result):]
-    arguments = []
-    for text in texts:
-        arguments += [ctypes.c_char_p(text), ctypes.c_size_t(len(text))]
-    arguments.append(U64(level))
-    for cells, length in zip(slices, lengths):
-        arguments += [cells, ctypes.c_size_t(length)]
-    call(*arguments, results)
-    got = results[0]
-    left = [tuple(cells[:length]) for cells, length in zip(slices, lengths)]
-    kept = after == bytes(results)[ctypes.sizeof(Result):]
-    kept = kept and behind == [list(cells[length:]) for cells, length in zip(slices, lengths)]
+class Struct:
+    """One that is lent to a call, with others behind it; all hold other numbers before."""
+
+    def __init__(self, rng, kind):
+        self.all, self.size = (kind * (1 + BEHIND))(), ctypes.sizeof(kind)
+        ctypes.memmove(self.all, rng.randbytes(ctypes.sizeof(self.all)), ctypes.sizeof(self.all))
+        self.before = self.behind()
+
+    def behind(self):
+        return bytes(self.all)[self.size:]
+
+    def kept(self):
+        return self.before == self.behind()
+
+
+class Slices:
+    """The five of one fund, with cells behind each; all hold other numbers before."""
+
+    def __init__(self, rng, lengths):
+        self.lengths = lengths
+        self.all = [(kind * (length + BEHIND))() for kind, length in zip((I64, U64, I64, U64, I64), lengths)]
+        for cells in self.all:
+            for k in range(len(cells)):
+                cells[k] = rng.getrandbits(62)
+        self.before = self.behind()
+
+    def behind(self):
+        return [list(cells[length:]) for cells, length in zip(self.all, self.lengths)]
+
+    def kept(self):
+        return self.before == self.behind()
+
+    def arguments(self):
+        return [word for cells, length in zip(self.all, self.lengths) for word in (cells, ctypes.c_size_t(length))]
+
+    def left(self):
+        return [tuple(cells[:length]) for cells, length in zip(self.all, self.lengths)]
+
+
+def text_arguments(texts):
+    return [word for text in texts for word in (ctypes.c_char_p(text), ctypes.c_size_t(len(text)))]
+
+
+def answer_in(got, slices):
     return pricing.Answer(got.number, got.place, got.line_start if got.line_size else 0, got.line_size, got.truncation,
-                          got.mean, got.premium, got.within, got.gross, *left, got.horizon, quantile_of(got)), kept
+                          got.mean, got.premium, got.within, got.gross, *slices.left(), got.horizon, quantile_of(got))
+
+
+def answer_by(call, rng, texts, lengths, level):
+    """The answer, and whether all that stands behind what is lent was kept."""
+    slices, result = Slices(rng, lengths), Struct(rng, Result)
+    call(*text_arguments(texts), U64(level), *slices.arguments(), result.all)
+    return answer_in(result.all[0], slices), slices.kept() and result.kept()
+
+
+def move_in(got):
+    """The move where moved is 1, None where every field is 0."""
+    moved, *fields = (getattr(got, name) for name, _ in got._fields_)
+    if moved == 1:
+        return comparison.Move(*fields)
+    return (moved, *fields) if moved or any(fields) else None
+
+
+def comparison_by(call, rng, files, lengths, level):
+    """The comparison, and whether all that stands behind what is lent was kept."""
+    slices = [Slices(rng, each) for each in lengths]
+    results, told = [Struct(rng, Result) for _ in files], Struct(rng, Compared)
+    call(*text_arguments(files), U64(level), *(word for each in slices for word in each.arguments()),
+         *(result.all for result in results), told.all)
+    answers = (answer_in(result.all[0], each) for result, each in zip(results, slices))
+    return comparison.Comparison(*answers, move_in(told.all[0])), all(each.kept() for each in (*slices, *results, told))
 
 
 def random_lengths(rng, horizon):
@@ -137,6 +196,33 @@ def sheet_cases(count, seed):
     for case in generate_sheets.random_sheets(seed, max(0, count - len(known))):
         answer = sheets.price_sheets(*case.sheets())
         yield case.sheets(), random_lengths(rng, answer.horizon), generate.level_of(case, rng, answer)
+
+
+def pair_cases(count, seed):
+    """Pairs of files with the lengths of the slices of each and a level."""
+    rng = random.Random(seed)
+    known = [generate_pairs.Pair(name, old, new) for name, old, new, _ in comparison_funds.PAIRS] + [generate_pairs.full_pair()]
+    rest = max(0, count - len(known))
+    made = generate_pairs.random_pairs(seed, rest - rest // 10) + generate_pairs.long_pairs(seed, rest // 10)
+    for pair in known[:count] + made:
+        files = pair.old, pair.new
+        answers = [pricing.price(data) for data in files]
+        lengths = tuple(random_lengths(rng, answer.horizon) for answer in answers)
+        yield files, lengths, generate.level_of(generate.Case(pair.name, pair.old), rng, rng.choice(answers))
+
+
+def compared_pairs(call, made, rng):
+    """How many pairs there are, and how many differ."""
+    count = moved = bad = 0
+    for files, lengths, level in made:
+        wanted = comparison.compare(*files, lengths, level)
+        got, kept = comparison_by(call, rng, files, lengths, level)
+        count, moved = count + 1, moved + (wanted.move is not None)
+        if got != wanted or not kept:
+            bad += 1
+            print(f"differs: {[data[:200] for data in files]!r} with slices of {lengths} and level {level}")
+    print(f"{count} pairs, {moved} with a move, {bad} differ")
+    return count, bad
 
 
 def compared(name, call, calculation, made, rng):
@@ -179,9 +265,10 @@ def every_rate(call):
 
 def main(arguments):
     count, seed = (int(word) for word in arguments)
-    (price, price_sheets), rng = calls(), random.Random(seed)
+    (price, price_sheets, compare), rng = calls(), random.Random(seed)
     found = [compared("files", price, pricing.price, file_cases(count, seed), rng),
-             compared("sheets", price_sheets, sheets.price_sheets, sheet_cases(count, seed), rng)]
+             compared("sheets", price_sheets, sheets.price_sheets, sheet_cases(count, seed), rng),
+             compared_pairs(compare, pair_cases(count, seed), rng)]
     missed = every_rate(price_sheets)
     print(f"1000001 rates, {missed} not taken with their k or with a neighbour that is taken")
     return 1 if missed or any(bad or not number for number, bad in found) else 0
