@@ -1,8 +1,9 @@
 -- What a host has after a call that compares two files, and what is printed of it, in plain words.
 use mathlib.Core.Path.{_≡_}
 use mathlib.Core.List.{List}
-use Prim.Native.Nat.{ℕ, _+_, _<_}
+use Prim.Native.Nat.{ℕ, zero, suc, _+_, _<_}
 use lib.IntN.{ℤ, pos, _+ℤ_, _-ℤ_}
+use lib.ListN.{getD}
 use Rattle.fund.specs.Reading.{FundFile, read, reading}
 use Rattle.fund.specs.Refusals.{Lengths}
 use Rattle.fund.specs.Answer.{answer}
@@ -14,6 +15,7 @@ use Rattle.moves.specs.Move.{excess}
 use Rattle.comparison.specs.declared.Comparison.{Comparison}
 use Rattle.comparison.specs.declared.Comparison.the-variants.{Moved, Refused as Unpriced}
 use Rattle.comparison.specs.Exact.{ExactMove, RatesAlone}
+use Rattle.miguepo.specs.Bits.{readSigned}
 use Rattle.comparison_listing.specs.Printed.{comparisonOf, comparisonListing}
 use Rattle.claims.specs.Demands.{Received, Demands}
 use Rattle.claims.specs.Listing.{Shows}
@@ -53,6 +55,25 @@ pub record ComparesPlainly (old new : List ℕ) (level : ℕ) (n m : Lengths) (o
   pub new-demands : Demands new (reading new) level m p
   pub refused : 0 < o .number + p .number → c ≡ Unpriced
   pub moved : o .number ≡ 0 → p .number ≡ 0 → TellsMove old new n m o p c
+
+-- The fields of a comparison's struct in C, in their order, each read as its type there.
+abbrev pub movedRead : ℕ → List ℕ → Comparison
+movedRead zero fs = Unpriced
+movedRead (suc moved) fs =
+    Moved
+    (record {
+      premium = readSigned (getD fs 1 0);
+      arithmetic = getD fs 2 0;
+      least = readSigned (getD fs 3 0);
+      most = readSigned (getD fs 4 0);
+      gross = readSigned (getD fs 5 0);
+      «gross_least» = readSigned (getD fs 6 0);
+      «gross_most» = readSigned (getD fs 7 0);
+    })
+    (record { header = getD fs 8 0; member = getD fs 9 0; «old_line» = getD fs 10 0; «new_line» = getD fs 11 0 })
+
+abbrev pub comparisonRead : List ℕ → Comparison
+comparisonRead fs = movedRead (getD fs 0 0) fs
 
 -- The listing of a comparison, in a text of at least 512 bytes; of a move that it shows, the theorem.
 pub record PrintsMove (old new before after : List ℕ) (size : ℕ) : Type 0 where

@@ -12,8 +12,8 @@ ghost use Rattle.writing.specs.Writing.{Written};
 ghost use Rattle.moves.specs.Differences.{differences, fileIn};
 ghost use Rattle.moves.specs.Move.{movedOf};
 ghost use Rattle.comparison_listing.specs.Printed.{listingOf};
-ghost use Rattle.claims.specs.Calls.{priced};
-ghost use Rattle.claims.specs.Comparison.{ComparesPlainly, PrintsMove};
+ghost use Rattle.claims.specs.Calls.{priced, hosted};
+ghost use Rattle.claims.specs.Comparison.{ComparesPlainly, PrintsMove, comparisonRead};
 
 // Demands 1, 2 and 3 of both funds, the premium's move, the most that arithmetic can have to do with it, and the theorem on the exact move.
 pub fn claimed_comparison(
@@ -53,6 +53,52 @@ pub fn claimed_comparison(
         new_r,
         new_sums,
     )
+}
+
+// The same of the call for C.
+pub fn claimed_host_comparison(
+    old: &[u8],
+    new: &[u8],
+    level: u64,
+    old_transform: &mut [i64],
+    old_h: &mut [u64],
+    old_f: &mut [i64],
+    old_r: &mut [u64],
+    old_sums: &mut [i64],
+    new_transform: &mut [i64],
+    new_h: &mut [u64],
+    new_f: &mut [i64],
+    new_r: &mut [u64],
+    new_sums: &mut [i64],
+    old_result: &mut [u64; miguepo::FIELDS],
+    new_result: &mut [u64; miguepo::FIELDS],
+    comparison: &mut [u64; miguepo::COMPARISON_FIELDS],
+)
+    ensures { λ _. ⌜ ComparesPlainly (now (old .entry)) (now (new .entry)) level
+        (lengths (now («old_transform» .entry)) (now («old_h» .entry)) (now («old_f» .entry)) (now («old_r» .entry)) (now («old_sums» .entry)))
+        (lengths (now («new_transform» .entry)) (now («new_h» .entry)) (now («new_f» .entry)) (now («new_r» .entry)) (now («new_sums» .entry)))
+        (hosted (now (old .entry)) (now («old_result» .exit)) (now («old_transform» .exit)) (now («old_h» .exit)) (now («old_f» .exit)) (now («old_r» .exit)) (now («old_sums» .exit)))
+        (hosted (now (new .entry)) (now («new_result» .exit)) (now («new_transform» .exit)) (now («new_h» .exit)) (now («new_f» .exit)) (now («new_r» .exit)) (now («new_sums» .exit)))
+        (comparisonRead (now (comparison .exit))) ⌝ }
+{
+    miguepo::miguepo_compare(
+        old,
+        new,
+        level,
+        old_transform,
+        old_h,
+        old_f,
+        old_r,
+        old_sums,
+        new_transform,
+        new_h,
+        new_f,
+        new_r,
+        new_sums,
+        old_result,
+        new_result,
+        comparison,
+    );
 }
 
 // The listing of a comparison of two files.

@@ -1,0 +1,17 @@
+-- The contract of the comparison for C, in plain words.
+use borrow.Author.Needs.{needs}
+use Rattle.claims.proofs.Compared.{hosts-plainly}
+use Rattle.claims.proofs.comparing.claimed_host_comparison.Statement.{statement}
+use Rattle.claims.proofs.comparing.claimed_host_comparison.Tie as tie
+
+returns : tie.Need-returns
+returns c =
+    let lent = c .before .before .before .before .before .before .before in
+    let called = lent .before .before .before .before .before .before .before in
+    hosts-plainly _ _ _ _ _ _ _ _ (called .miguepo-compare .ensures)
+
+pub claimed-host-comparison-spec : {M : Type 1} → statement M
+claimed-host-comparison-spec =
+    tie.close
+    (tie.spec (λ c κs. search needs) (λ c. search needs) (λ c. search needs) (λ c. search needs) (λ c. search needs) (λ c. search needs)
+    (λ c. search needs) (λ c. search needs) (λ c. search needs) (λ c. search needs) (λ c. search needs) returns)
