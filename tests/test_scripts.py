@@ -2,9 +2,9 @@
 
     python3 tests/test_scripts.py
 
-The scripts are copied to a folder of their own, with the programs that are built (target/bin), so nothing of the repository is
-touched; a program that is not there is built first. Where target/bin/compare is not there, the variable COMPARE_STAND_IN may name
-a program that writes the same listings. What the programs should write comes from the independent calculation.
+It needs the programs listing, level, sheets and compare, which `rt check listing level sheets compare` builds. They and the scripts
+are copied to a folder of their own, so nothing of the repository is touched. What they should write comes from the independent
+calculation.
 
 A check is a pair (name, holds).  The last line printed counts them.
 """
@@ -24,11 +24,13 @@ import tempfile
 import time
 from pathlib import Path
 
+import comparison
 import generate
 import pricing
 import sheets
 
 ROOT = Path(__file__).resolve().parent.parent
+PROGRAMS = [ROOT / "target" / "bin" / name for name in ("listing", "level", "sheets", "compare")]
 EXAMPLES = ROOT / "examples"
 NOBODY = 65534
 MEMORY = Path("/proc/self/mem")      # a regular file that can be opened, and not be read from its start
@@ -67,14 +69,8 @@ class Room:
 
 
 def add_programs(room):
-    for name in ("listing", "level", "sheets", "compare"):
-        program = ROOT / "target" / "bin" / name
-        stand_in = os.environ.get("COMPARE_STAND_IN") if name == "compare" else None
-        if not program.exists() and stand_in:
-            program = Path(stand_in)
-        elif not program.exists():
-            subprocess.run([ROOT / "scripts" / "build", name], check=True)
-        shutil.copy(program, room.root / "target" / "bin" / name)
+    for program in PROGRAMS:
+        shutil.copy(program, room.root / "target" / "bin")
 
 
 # Funds
@@ -339,54 +335,9 @@ def sheet_checks(room, folder):
 
 # The comparison, from the calculation
 
-def pointed(units, digits=12):
-    size = abs(units)
-    return f"{'-' if units < 0 else ''}{size // 10 ** digits}.{size % 10 ** digits:0{digits}d}"
-
-
-def file_lines(side, answer):
-    if answer.number:
-        return [f"{side}-refused={answer.number},{answer.place}"]
-    return [f"{side}-premium={pointed(answer.premium)}", f"{side}-within={pointed(answer.bound)}", f"{side}-gross={pointed(answer.gross, 2)}"]
-
-
-def excess(answer, read):
-    return pricing.up(2 * answer.bound * read.worth * pricing.loading(read.deductible), pricing.GROSS_DIVISOR) + 1
-
-
-def member_numbers(read):
-    return [(row.age, row.group, row.d, row.e, row.lives) for row in read.member_rows]
-
-
-def header_difference(old, new):
-    pairs = [(old.horizon, new.horizon), (old.order, new.order), (old.frequency, new.frequency), (old.deductible, new.deductible),
-             (old.worth, new.worth)]
-    return next((place for place, (one, other) in enumerate(pairs, 3) if one != other), None)
-
-
-def member_difference(old, new):
-    ours, theirs = member_numbers(old), member_numbers(new)
-    if ours == theirs:
-        return None
-    return next((k for k, (one, other) in enumerate(zip(ours, theirs), 1) if one != other), min(len(ours), len(theirs)) + 1)
-
-
 def compared(old_data, new_data):
     """The listing of two files."""
-    old, new = pricing.price(old_data), pricing.price(new_data)
-    lines = file_lines("old", old) + file_lines("new", new)
-    if not old.number and not new.number:
-        old_read, new_read = pricing.read_fund(old_data), pricing.read_fund(new_data)
-        header, member = header_difference(old_read, new_read), member_difference(old_read, new_read)
-        others = ([f"other=header,{header}"] if header else []) + (
-            [f"other=member,{member},{7 + len(old_read.rate_rows) + member},{7 + len(new_read.rate_rows) + member}"] if member else [])
-        key = "exact" if others else "rates"
-        move, within, gross = new.premium - old.premium, old.bound + new.bound, new.gross - old.gross
-        lines += [f"move={pointed(move)}", f"arithmetic={pointed(within)}", f"{key}={pointed(move - within)},{pointed(move + within)}",
-                  f"gross-move={pointed(gross, 2)}",
-                  f"gross-{key}={pointed(gross - excess(new, new_read), 2)},{pointed(gross + excess(old, old_read), 2)}",
-                  *(others or ["other=none"])]
-    return "".join(line + "\n" for line in lines).encode()
+    return comparison.listing(comparison.compare(old_data, new_data))
 
 
 def expected_row(name, old_data, new_data):
@@ -396,15 +347,14 @@ def expected_row(name, old_data, new_data):
     for side in sides:
         priced = not isinstance(side, str) and not side.number
         numbers += [side, ""] if isinstance(side, str) else [str(side.number), str(side.place)]
-        figures += [pointed(side.premium), pointed(side.bound)] if priced else ["", ""]
-        gross.append(pointed(side.gross, 2) if priced else "")
-    move, other = ["", ""], ""
+        figures += [comparison.units(side.premium), comparison.units(side.bound)] if priced else ["", ""]
+        gross.append(comparison.centimes(side.gross) if priced else "")
+    moved = ["", "", *gross, ""]
     if all(gross):
-        move = [pointed(sides[1].premium - sides[0].premium), pointed(sides[0].bound + sides[1].bound)]
-        old, new = pricing.read_fund(old_data), pricing.read_fund(new_data)
-        found = (("header", header_difference(old, new)), ("member", member_difference(old, new)))
-        other = " ".join(f"{word} {place}" for word, place in found if place) or "none"
-    return [os.fsencode(name).decode("latin-1"), *numbers, *figures, *move, *gross, other]
+        move = comparison.compare(old_data, new_data).move
+        other = " ".join(f"{word} {place}" for word, place in (("header", move.header), ("member", move.member)) if place)
+        moved = [comparison.units(move.premium), comparison.units(move.arithmetic), *gross, other or "none"]
+    return [os.fsencode(name).decode("latin-1"), *numbers, *figures, *moved]
 
 
 # ./compare
@@ -723,6 +673,10 @@ def checks():
 
 
 def main():
+    missing = [program.name for program in PROGRAMS if not program.exists()]
+    if missing:
+        print(f"not built: {' '.join(missing)}; rt check listing level sheets compare builds them", file=sys.stderr)
+        return 2
     found = checks()
     bad = [name for name, holds in found if not holds]
     for name in bad:
