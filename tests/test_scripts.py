@@ -407,10 +407,30 @@ def compare_checks(room, folder):
             ("neither", (folder, folder / "none"), b"unreadable=old\nunreadable=new\n", "compare: new file: no such file")):
         answer = room.run("compare", *words)
         yield f"compare: {name}", answer[:2] == (2, listing) and said in answer[2] and len(answer[2].splitlines()) == len(listing.splitlines())
+    yield from compare_many_checks(room, folder)
     for words in ((), (good,), (good, good, good), ("--other", good)):
         yield f"compare: usage: {len(words)} words", not_read(room.run("compare", *words), "usage: ./compare OLD NEW")
     yield "compare: help", room.run("compare", "--help")[::2] == (0, "") and b"usage: ./compare" in room.run("compare", "--help")[1]
     yield "compare: nothing left", room.is_clean()
+
+
+def compare_many_checks(room, folder):
+    """Several pairs: the listings with an empty line between, the worst status, the words of each."""
+    other = NEW.replace(b"deductible=1", b"deductible=2")
+    files = {}
+    for name, data in (("one", OLD), ("two", NEW), ("other", other), ("refused", REFUSED_OLD)):
+        files[name] = folder / f"many {name}.fund"
+        files[name].write_bytes(data)
+    one, two = files["one"], files["two"]
+    answer = room.run("compare", one, two, two, one)
+    yield "compare: two pairs", answer == (0, compared(OLD, NEW) + b"\n" + compared(NEW, OLD), "")
+    answer = room.run("compare", files["refused"], two, one, files["other"], one, two)
+    yield "compare: three pairs: listings", answer[1] == b"\n".join((compared(REFUSED_OLD, NEW), compared(OLD, other), compared(OLD, NEW)))
+    yield "compare: three pairs: status", answer[0] == 1
+    yield "compare: three pairs: words", (f"compare: old file {files['refused']}, line 4: range (2): " in answer[2]
+                                          and f"compare: {one} and {files['other']}: the move is not the rates' alone: header line 6 " in answer[2])
+    answer = room.run("compare", one, folder / "none", files["refused"], two, one, two)
+    yield "compare: a pair that cannot be read", answer[:2] == (2, b"\n".join((b"unreadable=new\n", compared(REFUSED_OLD, NEW), compared(OLD, NEW))))
 
 
 # ./reprice
@@ -574,6 +594,8 @@ def faulty_checks(room, folder):
     answer = room.run("compare", folder / "one.fund", folder / "one.fund")
     yield "compare: a program that writes nothing", not_read(answer, "gave no listing")
     program.unlink()
+    answer = room.run("compare", folder / "one.fund", folder / "none")
+    yield "compare: a file that is not there, without the program", answer[:2] == (2, b"unreadable=new\n") and answer[2].count("\n") == 1
     yield "reprice: rows without the program", not_read(room.run("reprice", "--rows", old, new, "000.fund"), "scripts/build compare")
     kept.rename(program)
 
