@@ -8,7 +8,7 @@ reason=
 
 # Makes a folder for the copies, which is removed at the end, on a signal too: nothing lies between its making and the traps.
 make_work() {
-    work='' reader=''
+    work='' finished=''
     trap 'clear_work' EXIT
     trap 'exit 129' HUP
     trap 'exit 130' INT
@@ -16,8 +16,10 @@ make_work() {
     work=$(trap '' HUP INT TERM; exec mktemp -d) || exit 2
 }
 
+# The program started last is a reader that is still at work, or it is the one that has finished. A reader that has only just started
+# still has the traps of this shell, and no other signal than 9 would end it for certain.
 clear_work() {
-    [ ! "$reader" ] || kill "$reader" 2>/dev/null
+    [ "$!" = "$finished" ] || kill -9 "$!" 2>/dev/null
     [ ! "$work" ] || rm -rf "$work"
 }
 
@@ -28,9 +30,8 @@ shown_name() {
 
 # Waits for the reader that was started last. A shell that waits is ended by a signal at once, one that runs a program is not.
 wait_for_reader() { # COPY NAME
-    reader=$!
-    wait "$reader" || reason="a read that failed ($(sed 's/.*: //' "$1.said")): $2"
-    reader=
+    wait "$!" || reason="a read that failed ($(sed 's/.*: //' "$1.said")): $2"
+    finished=$!
 }
 
 # Copies what is read of a file, or of standard input where it has no name. Where it cannot be read, sets reason and fails.
