@@ -502,6 +502,12 @@ def table_expected(made):
 HEADING = "fund,old_number,old_place,new_number,new_place,old_premium,old_within,new_premium,new_within,move,arithmetic,old_gross,new_gross,other"
 
 
+# As docs/COMPARING.md has it, on this machine.
+BY_PARALLEL = """cd "$0" && ./reprice --heading &&
+./reprice --names "$1" "$2" | parallel -q -0 -k -n 20 --workdir "$PWD" --sshlogin : ./reprice --rows "$1" "$2"
+"""
+
+
 def reprice_checks(room, folder):
     old, new, made, add = pool(folder)
     priced = {name: data for name, data in made.items() if not pricing.price(data[0]).number and not pricing.price(data[1]).number}
@@ -540,6 +546,12 @@ def reprice_checks(room, folder):
         parts.append(part[1])
         statuses.add(part[0])
     yield "reprice: rows in parts", b"".join(parts) == answer[1] and max(statuses) == 2
+    if shutil.which("parallel"):
+        spaced = folder / "the old ones"
+        spaced.symlink_to(old)
+        done = subprocess.run(["sh", "-c", BY_PARALLEL, room.root, spaced, new], capture_output=True, check=False,
+                              env={**os.environ, "PARALLEL_HOME": str(folder), "PYTHONDONTWRITEBYTECODE": "1"})
+        yield "reprice: by GNU parallel", done.stdout == answer[1]
     yield "reprice: rows of a name that is nowhere", room.run("reprice", "--rows", old, new, "none")[:2] == (2, b"none,missing,,missing" + b"," * 10 + b"\n")
     yield "reprice: no rows", room.run("reprice", "--rows", old, new) == (0, b"", "")
     empty = folder / "empty"
