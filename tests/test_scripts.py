@@ -565,6 +565,36 @@ def reprice_checks(room, folder):
     yield "reprice: an output that cannot be written", done.returncode == 2
 
 
+# The documents
+
+def shown_in(page, output):
+    """That the page has this output, indented."""
+    return "".join(f"    {line}\n" for line in output.splitlines()) in (ROOT / page).read_text()
+
+
+def document_checks(room, folder):
+    """The examples of the documents are what the scripts print."""
+    old, new = ((EXAMPLES / name).read_bytes() for name in ("sixty-members.fund", "sixty-members-2031.fund"))
+    files = {"old.fund": old, "new.fund": new, "other.fund": new.replace(b"member=61,1,35,17,1", b"member=61,1,35,12,1"),
+             "old/sixty.fund": old, "new/sixty.fund": new, "old/half.fund": (EXAMPLES / "half.fund").read_bytes(), "fund.txt": with_line(GOOD, 4, b"order=13")}
+    for side in ("old", "new"):
+        (folder / side).mkdir()
+    for name, data in files.items():
+        (folder / name).write_bytes(data)
+    for pair in (("old.fund", "new.fund"), ("new.fund", "other.fund")):
+        yield f"documents: {pair}", shown_in("docs/COMPARING.md", room.run("compare", *pair, cwd=folder)[1].decode())
+    answer = room.run("compare", "old.fund", "other.fund", cwd=folder)
+    yield "documents: another member", shown_in("docs/COMPARING.md", answer[1].decode().split("new-gross=")[1].split("\n", 1)[1])
+    yield "documents: another member, in words", shown_in("docs/COMPARING.md", answer[2])
+    (folder / "new.fund").write_bytes(new.replace(b"members=2031", b"members=2030"))
+    answer = room.run("compare", "old.fund", "new.fund", cwd=folder)
+    yield "documents: refused", shown_in("docs/COMPARING.md", answer[1].decode()) and shown_in("docs/COMPARING.md", answer[2])
+    yield "documents: the pool", shown_in("docs/COMPARING.md", room.run("reprice", "old", "new", cwd=folder)[1].decode())
+    answer = room.run("price", "fund.txt", cwd=folder)
+    for page in ("README.md", "docs/FUND-FILE.md"):
+        yield f"documents: a refusal in words: {page}", shown_in(page, answer[1].decode() + answer[2])
+
+
 # A program that ends by a signal, writes something else, or ends with a status, where a name says so.
 FAULTY = """#!/bin/sh
 echo "$#" >>"{log}"
@@ -699,7 +729,8 @@ def checks():
         folder.chmod(0o755)
         room = Room(folder)
         add_programs(room)
-        for part in (price_checks, damaged_checks, accepted_checks, unread_checks, sheet_checks, compare_checks, reprice_checks, faulty_checks, build_checks):
+        for part in (price_checks, damaged_checks, accepted_checks, unread_checks, sheet_checks, compare_checks, reprice_checks, document_checks,
+                     faulty_checks, build_checks):
             own = folder / part.__name__
             own.mkdir()
             found += part(room, own)
