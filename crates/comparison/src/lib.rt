@@ -29,7 +29,7 @@ pub struct Compared {
 }
 
 // What is told of two files that were read and of their figures.
-fn told(old: FileRead, before: Figures, new: FileRead, after: Figures) -> Comparison
+fn told_read(old: FileRead, before: Figures, new: FileRead, after: Figures) -> Comparison
     ensures { λ r. ⌜ r ≡ toldOf old before new after ⌝ }
 {
     let old_terms = old.fund;
@@ -57,7 +57,7 @@ fn told_priced(old: &[u8], before: Priced, new: &[u8], after: Priced) -> Compari
 {
     let old_figures = before.figures;
     let new_figures = after.figures;
-    let comparison = told(
+    let comparison = told_read(
         reader::read(old),
         old_figures,
         reader::read(new),

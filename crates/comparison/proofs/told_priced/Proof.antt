@@ -9,7 +9,7 @@ returns c =
     let told = inner .before in
     let new = told .before in
     let old = new .before in
-    rw (c .if-accepted2 .ensures, inner .if-accepted .ensures, told .told .ensures, old .read .ensures, new .read2 .ensures)
+    rw (c .if-accepted2 .ensures, inner .if-accepted .ensures, told .told-read .ensures, old .read .ensures, new .read2 .ensures)
 
 pub told-priced-spec : {M : Type 1} → statement M
 told-priced-spec =

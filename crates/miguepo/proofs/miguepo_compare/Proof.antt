@@ -6,7 +6,9 @@ use Rattle.miguepo.proofs.miguepo_compare.Statement.{statement}
 use Rattle.miguepo.proofs.miguepo_compare.Tie as tie
 
 abbrev answered : tie.After-hand-over-arg → tie.After-compare
-answered c = c .before .before .before .before .before .before .before .before .before .before .before .before .before .before .before .before .before
+answered c =
+    let lent = c .before .before .before .before .before .before .before .before in
+    lent .before .before .before .before .before .before .before .before .before
 
 returns : tie.Need-returns
 returns c =
