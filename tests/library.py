@@ -67,21 +67,21 @@ def quantile_of(got):
     return (got.reached, got.quantile) if got.reached or got.quantile else None
 
 
-def build():
-    """Path of a shared library made of the archive that `rt staticlib` writes."""
-    archive = ROOT / "target" / "staticlib" / "libmiguepo.a"
-    subprocess.run(["rt", "staticlib", "miguepo"], cwd=ROOT, check=True,
+def build(crate):
+    """A shared library made of the archive that `rt staticlib` writes for the crate."""
+    archive = ROOT / "target" / "staticlib" / f"lib{crate}.a"
+    subprocess.run(["rt", "staticlib", crate], cwd=ROOT, check=True,
                    stdout=subprocess.DEVNULL, stderr=subprocess.STDOUT)
     shared = archive.with_suffix(".so")
     subprocess.run(["cc", "-shared", "-o", shared, "-Wl,--whole-archive", archive,
                     "-Wl,--no-whole-archive"], check=True)
-    return shared
+    return ctypes.CDLL(str(shared))
 
 
 def calls():
-    """The library's call for a file, the one for a header text and two sheets, and the one that compares two files."""
-    library = ctypes.CDLL(str(build()))
-    found = library.miguepo_price, library.miguepo_price_sheets, library.miguepo_compare
+    """The call for a file, the one for a header text and two sheets, and the one that compares two files."""
+    pricing = build("miguepo")
+    found = pricing.miguepo_price, pricing.miguepo_price_sheets, build("miguepo_comparison").miguepo_compare
     for call in found:
         call.restype = None
     return found

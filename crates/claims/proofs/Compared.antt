@@ -25,7 +25,7 @@ use Rattle.comparison.specs.declared.Comparison.the-variants.{Moved, Refused as
 use Rattle.comparison.specs.Comparison.{ifAccepted, compared, Compares}
 use Rattle.comparison.specs.Exact.{ExactMove, RatesAlone}
 use Rattle.comparison_listing.specs.Printed.{comparisonListing, shownComparison, PrintsComparison}
-use Rattle.miguepo.specs.HostComparison.{Handed, comparisonFields, ReadBack, HostsComparison}
+use Rattle.miguepo_comparison.specs.HostComparison.{Handed, comparisonFields, ReadBack, HostsComparison}
 use Rattle.claims.specs.Demands.{Received, Demands}
 use Rattle.claims.specs.Calls.{priced, hosted}
 use Rattle.claims.specs.Comparison.{SaysMove, TellsMove, ComparesPlainly, PrintsMove, comparisonRead}

@@ -72,7 +72,7 @@ pub fn claimed_host_comparison(
     new_sums: &mut [i64],
     old_result: &mut [u64; miguepo::FIELDS],
     new_result: &mut [u64; miguepo::FIELDS],
-    comparison: &mut [u64; miguepo::COMPARISON_FIELDS],
+    comparison: &mut [u64; miguepo_comparison::COMPARISON_FIELDS],
 )
     ensures { λ _. ⌜ ComparesPlainly (now (old .entry)) (now (new .entry)) level
         (lengths (now («old_transform» .entry)) (now («old_h» .entry)) (now («old_f» .entry)) (now («old_r» .entry)) (now («old_sums» .entry)))
@@ -81,7 +81,7 @@ pub fn claimed_host_comparison(
         (hosted (now (new .entry)) (now («new_result» .exit)) (now («new_transform» .exit)) (now («new_h» .exit)) (now («new_f» .exit)) (now («new_r» .exit)) (now («new_sums» .exit)))
         (comparisonRead (now (comparison .exit))) ⌝ }
 {
-    miguepo::miguepo_compare(
+    miguepo_comparison::miguepo_compare(
         old,
         new,
         level,

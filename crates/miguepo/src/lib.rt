@@ -1,12 +1,9 @@
-// The calls for C, as include/miguepo.h declares them.
-use comparison::Comparison;
+// The pricing calls for C, as include/miguepo.h declares them, and what an answer is handed over as.
 use fund::Quantile;
 use fund::Verdict;
-use moves::Differences;
-use moves::Move;
 use pricing::Priced;
 ghost use mathlib.Core.Path.{_≡_};
-ghost use Prim.Native.Nat.{_≤_};
+ghost use Prim.Native.Nat.{_-_};
 ghost use Rattle.fund.specs.Reading.{reading};
 ghost use Rattle.fund.specs.Refusals.{numberIn, placeIn};
 ghost use Rattle.fund.specs.Quantile.{reachedIn, quantileIn};
@@ -14,12 +11,9 @@ ghost use Rattle.fund.specs.Sheets.{sheetReading};
 ghost use Rattle.valuation.specs.Valued.{lengths};
 ghost use Rattle.miguepo.specs.Bits.{bitsOf, readSigned};
 ghost use Rattle.miguepo.specs.Host.{pricedFields, Hosts};
-ghost use Rattle.miguepo.specs.HostComparison.{handed, movedFields, SignedFields, comparisonFields, ReadBack, HostsComparison};
 
-// How many fields the structs have that C declares: of an answer, and of a comparison.
+// How many fields the struct has that C declares.
 pub const FIELDS: usize = 12;
-
-pub const COMPARISON_FIELDS: usize = 12;
 
 fn verdict_number(verdict: Verdict) -> u64
     ensures { λ r. ⌜ r ≡ numberIn verdict ⌝ }
@@ -58,7 +52,7 @@ fn quantile_place(quantile: Quantile) -> u64
 }
 
 // A signed number's two's complement.
-fn bits(z: i64) -> u64
+pub fn bits(z: i64) -> u64
     ensures { λ r. ⌜ r ≡ bitsOf z ⌝ }
 {
     if z < 0 {
@@ -68,16 +62,25 @@ fn bits(z: i64) -> u64
     z as u64
 }
 
+// How many bytes there are from start to end; none where the end stands before the start.
+fn size_between(start: usize, end: usize) -> usize
+    ensures { λ r. ⌜ r ≡ end - start ⌝ }
+{
+    if end < start {
+        return 0;
+    }
+    end - start
+}
+
 // Fills the struct with what a call answered: on this side its fields, eight bytes each, are an array.
-fn hand_over(priced: Priced, result: &mut [u64; FIELDS])
-    requires { ⌜ priced .start ≤ priced .end ⌝ }
+pub fn hand_over(priced: Priced, result: &mut [u64; FIELDS])
     ensures { λ _. ⌜ (now (result .exit) ≡ pricedFields priced) × (readSigned (bitsOf (priced .figures .premium)) ≡ priced .figures .premium) ⌝ }
 {
     let verdict = priced.verdict;
     let figures = priced.figures;
     let number = verdict_number(verdict);
     let place = verdict_place(verdict);
-    let line_size = priced.end - priced.start;
+    let line_size = size_between(priced.start, priced.end);
     let premium = bits(figures.premium);
     let quantile = priced.quantile;
     let reached = level_reached(quantile);
@@ -138,89 +141,4 @@ pub extern "C" fn miguepo_price_sheets(
 {
     let priced = pricing::price_sheets(header, rates, members, level, transform, h, f, r, sums);
     hand_over(priced, result);
-}
-
-// The fields of a move.
-fn moved_fields(m: Move, d: Differences) -> [u64; COMPARISON_FIELDS]
-    ensures { λ r. ⌜ (r ≡ movedFields m d) × SignedFields m ⌝ }
-{
-    let premium = bits(m.premium);
-    let least = bits(m.least);
-    let most = bits(m.most);
-    let gross = bits(m.gross);
-    let gross_least = bits(m.gross_least);
-    let gross_most = bits(m.gross_most);
-    [
-        1,
-        premium,
-        m.arithmetic,
-        least,
-        most,
-        gross,
-        gross_least,
-        gross_most,
-        d.header,
-        d.member,
-        d.old_line,
-        d.new_line,
-    ]
-}
-
-fn comparison_fields(comparison: Comparison) -> [u64; COMPARISON_FIELDS]
-    ensures { λ r. ⌜ (r ≡ comparisonFields comparison) × ReadBack comparison ⌝ }
-{
-    match comparison {
-        Comparison::Moved(m, d) => moved_fields(m, d),
-        Comparison::Refused => [0u64; COMPARISON_FIELDS],
-    }
-}
-
-// Prices an old fund file and a new one, each into five result slices of its own, compares them, and fills the three structs.
-#[no_mangle]
-pub extern "C" fn miguepo_compare(
-    old: &[u8],
-    new: &[u8],
-    level: u64,
-    old_transform: &mut [i64],
-    old_h: &mut [u64],
-    old_f: &mut [i64],
-    old_r: &mut [u64],
-    old_sums: &mut [i64],
-    new_transform: &mut [i64],
-    new_h: &mut [u64],
-    new_f: &mut [i64],
-    new_r: &mut [u64],
-    new_sums: &mut [i64],
-    old_result: &mut [u64; FIELDS],
-    new_result: &mut [u64; FIELDS],
-    comparison: &mut [u64; COMPARISON_FIELDS],
-)
-    ensures { λ _. ⌜ HostsComparison (now (old .entry)) (now (new .entry)) level
-        (lengths (now («old_transform» .entry)) (now («old_h» .entry)) (now («old_f» .entry)) (now («old_r» .entry)) (now («old_sums» .entry)))
-        (lengths (now («new_transform» .entry)) (now («new_h» .entry)) (now («new_f» .entry)) (now («new_r» .entry)) (now («new_sums» .entry)))
-        (handed (now («old_result» .exit)) (now («old_transform» .exit)) (now («old_h» .exit)) (now («old_f» .exit)) (now («old_r» .exit)) (now («old_sums» .exit)))
-        (handed (now («new_result» .exit)) (now («new_transform» .exit)) (now («new_h» .exit)) (now («new_f» .exit)) (now («new_r» .exit)) (now («new_sums» .exit)))
-        (now (comparison .exit)) ⌝ }
-{
-    let compared = comparison::compare(
-        old,
-        new,
-        level,
-        old_transform,
-        old_h,
-        old_f,
-        old_r,
-        old_sums,
-        new_transform,
-        new_h,
-        new_f,
-        new_r,
-        new_sums,
-    );
-    let before = compared.old;
-    let after = compared.new;
-    let told = compared.comparison;
-    hand_over(before, old_result);
-    hand_over(after, new_result);
-    *comparison = comparison_fields(told);
 }

@@ -12,11 +12,12 @@ returns c =
     let place-found = c .before in
     let reached-found = place-found .before in
     let bits = reached-found .before in
-    let place = bits .before .before .before in
+    let size = bits .before .before in
+    let place = size .before in
     let number = place .before in
     let a = number .before .before .args in
     let fits : SFits w64 (a .priced .figures .premium) = sfits-of {w = w64} (bits .before .struct-told .given .1 .1 .0 .1) in (
-      rw (number .verdict-number .ensures, place .verdict-place .ensures, rw (toZ-ofZ fits) at (bits .bits .ensures), reached-found .level-reached .ensures, place-found .quantile-place .ensures),
+      rw (number .verdict-number .ensures, place .verdict-place .ensures, size .size-between .ensures, rw (toZ-ofZ fits) at (bits .bits .ensures), reached-found .level-reached .ensures, place-found .quantile-place .ensures),
       bits-read _ fits,
     )
 

@@ -4,9 +4,6 @@ use Rattle.miguepo.proofs.Hosting.{hosts}
 use Rattle.miguepo.proofs.miguepo_price.Statement.{statement}
 use Rattle.miguepo.proofs.miguepo_price.Tie as tie
 
-ordered : tie.Need-hand-over-requires
-ordered c κs = c .before .before .before .before .before .before .before .before .price .ensures .answers .ordered
-
 returns : tie.Need-returns
 returns c =
     let p = c .before .before .before .before .before .before .before .before .before .price in
@@ -16,4 +13,4 @@ returns c =
 pub miguepo-price-spec : {M : Type 1} → statement M
 miguepo-price-spec =
     tie.close
-    (tie.spec (λ c κs. search needs) ordered (λ c. search needs) (λ c. search needs) (λ c. search needs) (λ c. search needs) (λ c. search needs) returns)
+    (tie.spec (λ c κs. search needs) (λ c κs. search needs) (λ c. search needs) (λ c. search needs) (λ c. search needs) (λ c. search needs) (λ c. search needs) returns)

@@ -13,8 +13,8 @@ use Rattle.comparison.specs.declared.Comparison.the-variants.{Moved, Refused}
 use Rattle.comparison.specs.declared.Compared.{Compared}
 use Rattle.comparison.specs.Comparison.{compared, Compares}
 use Rattle.comparison.specs.Exact.{ExactMove, RatesAlone}
 use Rattle.miguepo.specs.Host.{Hosts}
-use Rattle.miguepo.specs.HostComparison.{comparisonFields, SignedFields, ReadBack, Handed, comparisonOf, HostsComparison}
+use Rattle.miguepo_comparison.specs.HostComparison.{comparisonFields, SignedFields, ReadBack, Handed, comparisonOf, HostsComparison}
 
 pub move-read : (m : Move) (d : Differences) → SignedFields m → ReadBack (Moved m d)
 move-read m d s v e h = let is : m ≡ v = cc h in subst SignedFields is s

@@ -1,9 +1,9 @@
 -- What `comparison::compare` answers is handed over.
 use borrow.Author.Needs.{needs}
 use Rattle.miguepo.proofs.Hosting.{hosts}
-use Rattle.miguepo.proofs.HostingComparison.{hosts-comparison}
-use Rattle.miguepo.proofs.miguepo_compare.Statement.{statement}
-use Rattle.miguepo.proofs.miguepo_compare.Tie as tie
+use Rattle.miguepo_comparison.proofs.HostingComparison.{hosts-comparison}
+use Rattle.miguepo_comparison.proofs.miguepo_compare.Statement.{statement}
+use Rattle.miguepo_comparison.proofs.miguepo_compare.Tie as tie
 
 abbrev answered : tie.After-hand-over-arg → tie.After-compare
 answered c =

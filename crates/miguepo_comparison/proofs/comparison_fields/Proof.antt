@@ -1,10 +1,10 @@
--- `miguepo::comparison_fields`: a move's fields, or 0.
+-- `miguepo_comparison::comparison_fields`: a move's fields, or 0.
 use mathlib.Core.Path.{sym, _∙_, ap, subst}
 use borrow.Author.Needs.{needs}
-use Rattle.miguepo.specs.HostComparison.{comparisonFields, ReadBack}
-use Rattle.miguepo.proofs.HostingComparison.{move-read, refused-read}
-use Rattle.miguepo.proofs.comparison_fields.Statement.{statement}
-use Rattle.miguepo.proofs.comparison_fields.Tie as tie
+use Rattle.miguepo_comparison.specs.HostComparison.{comparisonFields, ReadBack}
+use Rattle.miguepo_comparison.proofs.HostingComparison.{move-read, refused-read}
+use Rattle.miguepo_comparison.proofs.comparison_fields.Statement.{statement}
+use Rattle.miguepo_comparison.proofs.comparison_fields.Tie as tie
 
 returns : tie.Need-returns
 returns c =

@@ -1,4 +1,4 @@
--- `miguepo::moved_fields`: each field is the move's or the differences', and the signed ones are words, which C reads from their bits.
+-- `miguepo_comparison::moved_fields`: each field is the move's or the differences', and the signed ones are words, which C reads from their bits.
 use mathlib.Core.Path.{_≡_, _∙_, ap}
 use Prim.Native.Nat.{ℕ}
 use lib.IntN.{ℤ}
@@ -7,11 +7,11 @@ use mir.Syntax.{w64}
 use mir.Val.{SFits, toZ, ofZ}
 use mir.Facts.{toZ-ofZ}
 use Rattle.moves.specs.declared.Move.{Move}
 use Rattle.miguepo.specs.Bits.{bitsOf}
-use Rattle.miguepo.specs.HostComparison.{SignedFields}
+use Rattle.miguepo_comparison.specs.HostComparison.{SignedFields}
 use Rattle.miguepo.proofs.Complement.{bits-read}
-use Rattle.miguepo.proofs.moved_fields.Statement.{statement}
-use Rattle.miguepo.proofs.moved_fields.Tie as tie
+use Rattle.miguepo_comparison.proofs.moved_fields.Statement.{statement}
+use Rattle.miguepo_comparison.proofs.moved_fields.Tie as tie
 
 record Words (v : Move) : Type 0 where
   premium : SFits w64 (v .premium)
