@@ -19,7 +19,7 @@ use Rattle.fund.specs.Answer.{Answer, answerTo}
 use Rattle.fund.specs.Listing.{horizonIn, enough, listingTo}
 use Rattle.fund.specs.Distance.{WithinBounds, NeverBelow, QuantileWithin}
 use Rattle.laws.specs.Ranges.{FundOk, read-ranges}
-use Rattle.distance.specs.Distance.{distance, level-within}
+use Rattle.distance.specs.Distance.{distance, level-within, never-below}
 use Rattle.text.specs.Shown.{room}
 use Rattle.writing.specs.Writing.{Written}
 use Rattle.printing.specs.declared.PrintedInput.{PrintedInput}
@@ -31,7 +31,7 @@ use Rattle.pricing.specs.Joining.{told-horizon}
 use Rattle.miguepo.specs.Host.{Hosts}
 use Rattle.claims.specs.Demands.{partBytes, Demands}
 use Rattle.claims.specs.Listing.{Shows, PrintsTo, Prints, PrintsLevelTo, PrintsLevel, PrintsRead}
-use Rattle.claims.specs.Calls.{handed, priced, quantileRead, hosted}
+use Rattle.claims.specs.Calls.{handed, priced, quantileRead, ResultStruct, hosted}
 use Rattle.claims.proofs.Deriving.{Answered, demands}
 
 module _ (text : List ℕ) (r : Reading) (level : ℕ) (n : Lengths) (p : Priced) (d : List ℤ) (h : List ℕ) (f : List ℤ) (b : List ℕ) (s : List ℤ) (k : Prices text r level n p (left p d h f b s)) where
@@ -62,6 +62,7 @@ module _ (text : List ℕ) (r : Reading) (level : ℕ) (n : Lengths) (p : Priced
         distance = λ fund e a. subst (λ (x : Answer). WithinBounds fund x) is (k .distance fund e (v ∙ a));
         level-within = λ fund e a l. subst (λ (x : Answer). QuantileWithin fund x level (p .quantile)) is (k .level-within fund e (v ∙ a) l);
         never-below = λ fund e a. subst (λ (x : Answer). NeverBelow fund x) is (k .never-below fund e (v ∙ a));
+        average = λ fund e a. k .average fund e (v ∙ a);
       }
 
   pub price-demands : Demands text r level n (priced text p d h f b s)
@@ -92,6 +93,22 @@ module _ (text : List ℕ) (r : Reading) (level : ℕ) (n : Lengths) (result : L
         distance = λ fund e a. k .distance fund e (ap numberIn a);
         level-within = λ fund e v l. rw quantile-read (k .level-within fund e (ap numberIn v) l);
         never-below = λ fund e a. k .never-below fund e (ap numberIn a);
+        average = λ fund e a. k .average fund e (ap numberIn a);
+      }
+
+  -- the two fields of the answer at the level, and the others
+  told : (q : Quantile) → (getD result 10 0 ≡ reachedIn q) × (getD result 11 0 ≡ quantileIn q) → (x : ℕ) → q ≡ At x → (getD result 10 0 ≡ 1) × (getD result 11 0 ≡ x)
+  told q e x z = (e .0 ∙ ap reachedIn z, e .1 ∙ ap quantileIn z)
+
+  pub host-struct : ResultStruct text result (hosted text result d h f b s)
+  host-struct =
+      let q = quantileOf level X (a .F) (a .verdict) in
+      let e : (getD result 10 0 ≡ reachedIn q) × (getD result 11 0 ≡ quantileIn q) = rw (k .result-is) (refl, refl) in
+      record {
+        fields = ap length (k .result-is);
+        inside = rw (k .result-is) (k .inside);
+        reached = λ x z. told q e x (sym quantile-read ∙ z);
+        none = λ z. (e .0 ∙ ap reachedIn (sym quantile-read ∙ z), e .1 ∙ ap quantileIn (sym quantile-read ∙ z));
       }
 
   pub host-demands : Demands text r level n (hosted text result d h f b s)
@@ -114,7 +131,7 @@ InRanges r = (fund : FundFile) → r ≡ read fund → FundOk fund
 
 pub prints : (text : List ℕ) (r : Reading) → InRanges r → (before after : List ℕ) (size : ℕ) → Written (shownTo text r (length before)) before after size → PrintsTo text r before after size
 prints text r ok before after size w =
-    record { shows = shows room (listingTo text r) before after size w; within = λ fund e v. distance text enough r fund (ok fund e) e v }
+    record { shows = shows room (listingTo text r) before after size w; within = λ fund e v. distance text enough r fund (ok fund e) e v; covers = λ fund e v. never-below text enough r fund (ok fund e) e v }
 
 pub prints-level : (level : ℕ) (text : List ℕ) (r : Reading) → InRanges r → (before after : List ℕ) (size : ℕ) → Written (shownLevelTo text r level (length before)) before after size → PrintsLevelTo level text r before after size
 prints-level level text r ok before after size w =

@@ -5,7 +5,7 @@ use mathlib.Core.List.{List}
 use Prim.Native.Nat.{ℕ, _+_, _<_}
 use native.Mathlib.Omega.{arith}
 use lib.IntN.{ℤ, pos, _+ℤ_, _-ℤ_}
-use lib.ListN.{getD}
+use lib.ListN.{length, getD}
 use Rattle.fund.specs.declared.Figures.{Figures}
 use Rattle.fund.specs.declared.Verdict.{Verdict}
 use Rattle.fund.specs.declared.Verdict.the-variants.{Accepted, Refused}
@@ -28,7 +28,7 @@ use Rattle.comparison_listing.specs.Printed.{comparisonListing, shownComparison
 use Rattle.miguepo_comparison.specs.HostComparison.{Handed, comparisonFields, ReadBack, HostsComparison}
 use Rattle.claims.specs.Demands.{Received, Demands}
 use Rattle.claims.specs.Calls.{priced, hosted}
-use Rattle.claims.specs.Comparison.{SaysMove, TellsMove, ComparesPlainly, PrintsMove, comparisonRead}
+use Rattle.claims.specs.Comparison.{SaysMove, TellsMove, ComparesPlainly, PrintsMove, comparisonRead, ComparisonStruct}
 use Rattle.claims.proofs.Calls.{price-demands, host-demands, shows}
 
 -- ---- the definition's comparison of two answers
@@ -69,9 +69,9 @@ says-move fund other o p a b e g =
 -- ---- from the demands
 module _ (old new : List ℕ) (level : ℕ) (n m : Lengths) (o p : Received) (c : Comparison) (first : Demands old (reading old) level n o) (second : Demands new (reading new) level m p)
     (is : c ≡ compared (reading old) (answer old n) (reading new) (answer new m))
-    (exact : (f g : FundFile) → reading old ≡ read f → reading new ≡ read g → (v : Move) (d : Differences) → compared (reading old) (answer old n) (reading new) (answer new m) ≡ Moved v d → ExactMove f (answer old n) g (answer new m) v)
-    (rates : (f g : FundFile) → reading old ≡ read f → reading new ≡ read g → (v : Move) (d : Differences) → compared (reading old) (answer old n) (reading new) (answer new m) ≡ Moved v d → d .header ≡ 0 → d .member ≡ 0 → RatesAlone f (answer old n) g (answer new m) v) where
-  tells : answer old n .verdict ≡ Accepted → answer new m .verdict ≡ Accepted → TellsMove old new n m o p c
+    (exact : (f g : FundFile) → reading old ≡ read f → reading new ≡ read g → (v : Move) (d : Differences) → compared (reading old) (answer old n) (reading new) (answer new m) ≡ Moved v d → ExactMove f g v)
+    (rates : (f g : FundFile) → reading old ≡ read f → reading new ≡ read g → (v : Move) (d : Differences) → compared (reading old) (answer old n) (reading new) (answer new m) ≡ Moved v d → d .header ≡ 0 → d .member ≡ 0 → RatesAlone f g v) where
+  tells : answer old n .verdict ≡ Accepted → answer new m .verdict ≡ Accepted → TellsMove old new o p c
   tells e g =
       let x = accepted-read old n (reading old) e in
       let y = accepted-read new m (reading new) g in
@@ -118,8 +118,7 @@ module _ (old new : List ℕ) (level : ℕ) (n m : Lengths) (c : Compared) (d : 
   compares-plainly =
       plainly old new level n m (priced old (c .old) d h f r s) (priced new (c .new) d′ h′ f′ r′ s′) (c .comparison)
       (price-demands old (reading old) level n (c .old) d h f r s (k .old-priced)) (price-demands new (reading new) level m (c .new) d′ h′ f′ r′ s′ (k .new-priced)) comparison-is
-      (λ F G x y v z t. subst (λ (w : Answer). ExactMove F w G (answer new m) v) old-is (subst (λ (w : Answer). ExactMove F (left (c .old) d h f r s) G w v) new-is (k .exact F G x y v z (comparison-is ∙ t))))
-      (λ F G x y v z t p q. subst (λ (w : Answer). RatesAlone F w G (answer new m) v) old-is (subst (λ (w : Answer). RatesAlone F (left (c .old) d h f r s) G w v) new-is (k .rates F G x y v z (comparison-is ∙ t) p q)))
+      (λ F G x y v z t. k .exact F G x y v z (comparison-is ∙ t)) (λ F G x y v z t. k .rates F G x y v z (comparison-is ∙ t))
 
 -- ---- the call for C
 -- the comparison that C reads from its fields
@@ -135,6 +134,44 @@ hosts-plainly old new level n m a b comparison k =
     plainly old new level n m (hosted old (a .result) (a .D) (a .H) (a .f) (a .R) (a .F)) (hosted new (b .result) (b .D) (b .H) (b .f) (b .R) (b .F)) (comparisonRead comparison)
     (host-demands old (reading old) level n (a .result) (a .D) (a .H) (a .f) (a .R) (a .F) (k .old-hosted)) (host-demands new (reading new) level m (b .result) (b .D) (b .H) (b .f) (b .R) (b .F) (k .new-hosted))
     (ap comparisonRead (k .comparison-is) ∙ read-back _ (k .read-back)) (k .exact) (k .rates)
+
+-- the struct's own fields
+module _ (old new : List ℕ) (level : ℕ) (n m : Lengths) (a b : Handed) (comparison : List ℕ) (k : HostsComparison old new level n m a b comparison) where
+  abbrev o : Received
+  o = hosted old (a .result) (a .D) (a .H) (a .f) (a .R) (a .F)
+
+  abbrev p : Received
+  p = hosted new (b .result) (b .D) (b .H) (b .f) (b .R) (b .F)
+
+  fields-of : (c : Comparison) → length (comparisonFields c) ≡ 12
+  fields-of (Moved v d) = refl
+  fields-of Unpriced = refl
+
+  abbrev is : Comparison
+  is = compared (reading old) (answer old n) (reading new) (answer new m)
+
+  moved-is : answer old n .verdict ≡ Accepted → answer new m .verdict ≡ Accepted → getD comparison 0 0 ≡ 1
+  moved-is e g =
+      let x = accepted-read old n (reading old) e in
+      let y = accepted-read new m (reading new) g in
+      ap (λ fs. getD fs 0 0) (k .comparison-is)
+      ∙ ap (λ c. getD (comparisonFields c) 0 0) (ap₂ (λ z w. compared z (answer old n) w (answer new m)) (x .is-read) (y .is-read) ∙ the-move (answer old n) (answer new m) (x .fund) (y .fund) e g)
+
+  old-demands : Demands old (reading old) level n o
+  old-demands = host-demands old (reading old) level n (a .result) (a .D) (a .H) (a .f) (a .R) (a .F) (k .old-hosted)
+
+  new-demands : Demands new (reading new) level m p
+  new-demands = host-demands new (reading new) level m (b .result) (b .D) (b .H) (b .f) (b .R) (b .F) (k .new-hosted)
+
+  pub comparison-struct : ComparisonStruct o p comparison
+  comparison-struct =
+      let e = old-demands .refuses .number in
+      let g = new-demands .refuses .number in
+      record {
+        fields = ap length (k .comparison-is) ∙ fields-of is;
+        moved = λ h l. moved-is (zero-accepted (answer old n .verdict) (sym e ∙ h)) (zero-accepted (answer new m .verdict) (sym g ∙ l));
+        refused = λ l. k .comparison-is ∙ ap comparisonFields (no-move (answer old n) (answer new m) (answer old n .verdict) (answer new m .verdict) refl refl (omega (arith, e, g, l)) (reading old) (reading new));
+      }
 
 -- ---- the listing
 pub prints-move : (old new before after : List ℕ) (size : ℕ) → PrintsComparison old new before after size → PrintsMove old new before after size

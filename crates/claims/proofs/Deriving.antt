@@ -19,7 +19,8 @@ use Rattle.fund.specs.Quantile.{quantileOf}
 use Rattle.fund.specs.Distribution.{distributionBound}
 use Rattle.fund.specs.Answer.{Answer, refused, fundCells, accepted, answerOf, answerTo}
 use Rattle.fund.specs.Listing.{horizonIn}
-use Rattle.fund.specs.Distance.{apart, exactSum, boundAt, WithinBounds, exactLoadedWorth, NeverBelow, QuantileWithin}
+use Rattle.fund.specs.Distance.{apart, exactSum, boundAt, WithinBounds, exactLoadedWorth, NeverBelow, QuantileWithin, AverageExcess}
+use Rattle.laws.specs.Accepted.{Accepts, accepts, accepted-where}
 use Rattle.laws.specs.Answer.{accepted-read, answer-accepted}
 use Rattle.laws.specs.Sums.{F-cell, level-says}
 use Rattle.laws.specs.Quantile.{quantile-above}
@@ -53,6 +54,7 @@ pub record Answered (text : List ℕ) (r : Reading) (level : ℕ) (n : Lengths) 
   pub distance : (fund : FundFile) → r ≡ read fund → answerTo text n r .verdict ≡ Accepted → WithinBounds fund (answerTo text n r)
   pub level-within : (fund : FundFile) → r ≡ read fund → answerTo text n r .verdict ≡ Accepted → level ≤ most-level → QuantileWithin fund (answerTo text n r) level (o .quantile)
   pub never-below : (fund : FundFile) → r ≡ read fund → answerTo text n r .verdict ≡ Accepted → NeverBelow fund (answerTo text n r)
+  pub average : (fund : FundFile) → r ≡ read fund → answerTo text n r .verdict ≡ Accepted → AverageExcess fund
 
 module _ (text : List ℕ) (r : Reading) (level : ℕ) (n : Lengths) (o : Received) (k : Answered text r level n o) where
   zero-of : RefusedAs text r n → Zero n o
@@ -87,6 +89,7 @@ module _ (text : List ℕ) (r : Reading) (level : ℕ) (n : Lengths) (o : Receiv
         sums = λ x l. rw (add-one x, m .F, m .R, m .figures) (w .sums x (omega (arith, l, X)));
         premium = rw (m .figures) (w .premium);
         gross = rw (m .figures) (k .never-below (a .fund) (a .is-read) v .gross);
+        average = k .average (a .fund) (a .is-read) v;
       }
 
   -- what is said of the definitions' answer is said of the outcome
@@ -119,10 +122,17 @@ module _ (text : List ℕ) (r : Reading) (level : ℕ) (n : Lengths) (o : Receiv
         above = λ l. k .quantile ∙ ap (quantileOf level (o .horizon) (o .F)) v ∙ quantile-above level (o .horizon) (o .F) l;
       }
 
+  -- a fund that is read is accepted just where no condition is met
+  number-zero : (fund : FundFile) → r ≡ read fund → Accepts fund n (fundCells (fund .header) (lives fund)) → numberIn (answerTo text n r .verdict) ≡ 0
+  unfolding answerTo answerOf accepted
+  number-zero fund e a = rw e (ap (λ v. numberIn (answerOf text n fund v .verdict)) (accepted-where fund n (fundCells (fund .header) (lives fund)) a))
+
   pub demands : Demands text r level n o
   demands =
       record {
         refuses = k .refuses;
+        accepts = λ fund e a. k .refuses .number ∙ number-zero fund e a;
+        accepted = λ fund e z. accepts fund n (fundCells (fund .header) (lives fund)) (answer-accepted text n r fund e (zero-accepted (answerTo text n r .verdict) (sym (k .refuses .number) ∙ z)) .verdict-is);
         zero = λ l. zero-of (refused-as text r n (subst (λ x. 0 < x) (k .refuses .number) l));
         method = k .method;
         close = λ z. close-of (zero-accepted (answerTo text n r .verdict) (sym (k .refuses .number) ∙ z));

@@ -1,7 +1,8 @@
 -- What the public calls leave, as an outcome.
+use mathlib.Core.Path.{_≡_}
 use mathlib.Core.Bool.{_&&_}
 use mathlib.Core.List.{List, []}
-use Prim.Native.Nat.{ℕ, zero, suc, _-_}
+use Prim.Native.Nat.{ℕ, zero, suc, _+_, _-_, _≤_}
 use lib.Dec.{leb}
 use lib.IntN.{ℤ}
 use lib.ListN.{length, getD, take, drop}
@@ -37,6 +38,14 @@ priced text p d h f r s =
 abbrev pub quantileRead : ℕ → ℕ → Quantile
 quantileRead zero x = None
 quantileRead (suc reached) x = At x
+
+-- The struct in C: it has twelve fields, and each is written. The line lies in the text. `reached` is 1 where there is an answer at the level, and `quantile` is its place; where
+-- there is none, both are 0.
+pub record ResultStruct (text result : List ℕ) (o : Received) : Type 0 where
+  pub fields : length result ≡ 12
+  pub inside : getD result 2 0 + getD result 3 0 ≤ length text
+  pub reached : (x : ℕ) → o .quantile ≡ At x → (getD result 10 0 ≡ 1) × (getD result 11 0 ≡ x)
+  pub none : o .quantile ≡ None → (getD result 10 0 ≡ 0) × (getD result 11 0 ≡ 0)
 
 -- The fields of a host's struct in C, in their order, each read as its type there.
 abbrev pub hosted : List ℕ → List ℕ → List ℤ → List ℕ → List ℤ → List ℕ → List ℤ → Received

@@ -3,11 +3,9 @@ use mathlib.Core.Path.{_≡_}
 use mathlib.Core.List.{List}
 use Prim.Native.Nat.{ℕ, zero, suc, _+_, _<_}
 use lib.IntN.{ℤ, pos, _+ℤ_, _-ℤ_}
-use lib.ListN.{getD}
+use lib.ListN.{length, getD, replicate}
 use Rattle.fund.specs.Reading.{FundFile, read, reading}
 use Rattle.fund.specs.Refusals.{Lengths}
-use Rattle.fund.specs.Answer.{answer}
-use Rattle.fund.specs.Listing.{enough}
 use Rattle.moves.specs.declared.Move.{Move}
 use Rattle.moves.specs.declared.files.Differences.{Differences}
 use Rattle.moves.specs.Differences.{firstHeaderLine, firstMemberLine, memberLine}
@@ -37,7 +35,7 @@ pub record SaysMove (old new : FundFile) (o p : Received) (v : Move) (d : Differ
 
 -- The same, with the theorem: the exact move is within the sum of the bounds of the premium's move, and in both intervals; and where no header line but the editions' and no member line differs, it is
 -- that of the rates alone.
-pub record TellsMove (old new : List ℕ) (n m : Lengths) (o p : Received) (c : Comparison) : Type 0 where
+pub record TellsMove (old new : List ℕ) (o p : Received) (c : Comparison) : Type 0 where
   pub old-fund : FundFile
   pub new-fund : FundFile
   pub old-read : reading old ≡ read old-fund
@@ -46,15 +44,15 @@ pub record TellsMove (old new : List ℕ) (n m : Lengths) (o p : Received) (c : 
   pub differences : Differences
   pub told : c ≡ Moved move differences
   pub says : SaysMove old-fund new-fund o p move differences
-  pub exact : ExactMove old-fund (answer old n) new-fund (answer new m) move
-  pub rates : differences .header ≡ 0 → differences .member ≡ 0 → RatesAlone old-fund (answer old n) new-fund (answer new m) move
+  pub exact : ExactMove old-fund new-fund move
+  pub rates : differences .header ≡ 0 → differences .member ≡ 0 → RatesAlone old-fund new-fund move
 
 -- Both funds are priced as by themselves; where one is refused no move is told, else the move.
 pub record ComparesPlainly (old new : List ℕ) (level : ℕ) (n m : Lengths) (o p : Received) (c : Comparison) : Type 0 where
   pub old-demands : Demands old (reading old) level n o
   pub new-demands : Demands new (reading new) level m p
   pub refused : 0 < o .number + p .number → c ≡ Unpriced
-  pub moved : o .number ≡ 0 → p .number ≡ 0 → TellsMove old new n m o p c
+  pub moved : o .number ≡ 0 → p .number ≡ 0 → TellsMove old new o p c
 
 -- The fields of a comparison's struct in C, in their order, each read as its type there.
 abbrev pub movedRead : ℕ → List ℕ → Comparison
@@ -75,10 +73,14 @@ movedRead (suc moved) fs =
 abbrev pub comparisonRead : List ℕ → Comparison
 comparisonRead fs = movedRead (getD fs 0 0) fs
 
+-- The struct of a comparison: it has twelve fields, and each is written. `moved` is 1 where both funds are accepted; where one is refused, every field is 0.
+pub record ComparisonStruct (o p : Received) (fs : List ℕ) : Type 0 where
+  pub fields : length fs ≡ 12
+  pub moved : o .number ≡ 0 → p .number ≡ 0 → getD fs 0 0 ≡ 1
+  pub refused : 0 < o .number + p .number → fs ≡ replicate 12 0
+
 -- The listing of a comparison, in a text of at least 512 bytes; of a move that it shows, the theorem.
 pub record PrintsMove (old new before after : List ℕ) (size : ℕ) : Type 0 where
   pub shows : Shows 512 (comparisonListing old new) before after size
-  pub exact : (f g : FundFile) → reading old ≡ read f → reading new ≡ read g → (v : Move) (d : Differences) → comparisonOf old new ≡ Moved v d →
-      ExactMove f (answer old enough) g (answer new enough) v
-  pub rates : (f g : FundFile) → reading old ≡ read f → reading new ≡ read g → (v : Move) (d : Differences) → comparisonOf old new ≡ Moved v d → d .header ≡ 0 → d .member ≡ 0 →
-      RatesAlone f (answer old enough) g (answer new enough) v
+  pub exact : (f g : FundFile) → reading old ≡ read f → reading new ≡ read g → (v : Move) (d : Differences) → comparisonOf old new ≡ Moved v d → ExactMove f g v
+  pub rates : (f g : FundFile) → reading old ≡ read f → reading new ≡ read g → (v : Move) (d : Differences) → comparisonOf old new ≡ Moved v d → d .header ≡ 0 → d .member ≡ 0 → RatesAlone f g v

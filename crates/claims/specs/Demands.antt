@@ -11,11 +11,13 @@ use Rattle.fund.specs.declared.Quantile.{Quantile}
 use Rattle.fund.specs.declared.Quantile.the-variants.{At, None}
 use Rattle.fund.specs.Base.{sum, sumℤ}
 use Rattle.fund.specs.Reading.{FundFile, Reading, read}
+use Rattle.fund.specs.Folding.{lives}
 use Rattle.fund.specs.Tariff.{loading}
 use Rattle.fund.specs.Refusals.{Lengths, numberIn, placeIn}
 use Rattle.fund.specs.Quantile.{QuantileSays}
-use Rattle.fund.specs.Answer.{Part, answerTo}
-use Rattle.fund.specs.Distance.{fileDenominator, exactAt, exactPremiumAt}
+use Rattle.fund.specs.Answer.{Part, fundCells, answerTo}
+use Rattle.fund.specs.Distance.{fileDenominator, exactAt, exactPremiumOf, AverageExcess}
+use Rattle.laws.specs.Accepted.{Accepts}
 
 -- What a host has after a call: number and place, the line that it is handed, the horizon, the figures, the answer at the level, and its
 -- five slices.
@@ -76,7 +78,7 @@ sumBound fund o x = fileDenominator fund * (sum (x + 1) (λ y. getD (o .R) y 0) 
 -- Demand 3, of a fund that is accepted: a fund was read; each f(x) that the host has is within R(x) + 2×E of 10^12 times the
 -- exact value at x; up to each x these distances add to at most R(0) + .. + R(x) + 2×E, and F(x) is within the same bound of 10^12 times the exact
 -- distribution function at x; and the premium is within its bound of the exact premium; all times document 01's denominator. And the gross premium is
--- never below the exact premium's loaded worth, both times 10^15 and the denominator.
+-- never below the exact premium's loaded worth, both times 10^15 and the denominator; and with lambda 0 the exact premium is the average excess over M.
 pub record Close (r : Reading) (o : Received) : Type 0 where
   pub fund : FundFile
   pub is-read : r ≡ read fund
@@ -84,8 +86,9 @@ pub record Close (r : Reading) (o : Received) : Type 0 where
   pub cell : (x : ℕ) → x ≤ o .horizon → cellDistance fund o x ≤ fileDenominator fund * (getD (o .R) x 0 + 2 * o .figures .truncation)
   pub cells : (x : ℕ) → x ≤ o .horizon → sum (x + 1) (cellDistance fund o) ≤ sumBound fund o x
   pub sums : (x : ℕ) → x ≤ o .horizon → natAbs (pos (fileDenominator fund) *ℤ getD (o .F) x (pos 0) -ℤ exactDistribution fund x) ≤ sumBound fund o x
-  pub premium : natAbs (pos (fileDenominator fund) *ℤ o .figures .premium -ℤ exactPremiumAt fund (o .figures .mean)) ≤ fileDenominator fund * o .figures .within
-  pub gross : (exactPremiumAt fund (o .figures .mean) *ℤ pos (fund .header .worth * loading (fund .header .deductible))) ≤ℤ pos (o .figures .gross * 10 ^ 15 * fileDenominator fund)
+  pub premium : natAbs (pos (fileDenominator fund) *ℤ o .figures .premium -ℤ exactPremiumOf fund) ≤ fileDenominator fund * o .figures .within
+  pub gross : (exactPremiumOf fund *ℤ pos (fund .header .worth * loading (fund .header .deductible))) ≤ℤ pos (o .figures .gross * 10 ^ 15 * fileDenominator fund)
+  pub average : AverageExcess fund
 
 -- What an answer at a level of at most 10^12 says of 10^12 times the exact distribution function: at the answered place it is at least the level less the
 -- bound there, and at every place before it is below the level plus the bound there; of none, that it is so at every place up to the horizon.
@@ -109,9 +112,12 @@ pub record Quantiles (r : Reading) (level : ℕ) (o : Received) : Type 0 where
   pub exact : (fund : FundFile) → r ≡ read fund → level ≤ 10 ^ 12 → ExactSays fund level o (o .quantile)
   pub above : 10 ^ 12 < level → o .quantile ≡ None
 
--- Of a file, the text is the file and the reading is its own; of sheets, the text is the header text.
+-- Of a file, the text is the file and the reading is its own; of sheets, the text is the header text. A fund that is read is accepted just where no condition of the
+-- refusals 3 to 10 is met.
 pub record Demands (text : List ℕ) (r : Reading) (level : ℕ) (n : Lengths) (o : Received) : Type 0 where
   pub refuses : Refuses text r n o
+  pub accepts : (fund : FundFile) → r ≡ read fund → Accepts fund n (fundCells (fund .header) (lives fund)) → o .number ≡ 0
+  pub accepted : (fund : FundFile) → r ≡ read fund → o .number ≡ 0 → Accepts fund n (fundCells (fund .header) (lives fund))
   pub zero : 0 < o .number → Zero n o
   pub method : Method text r n o
   pub close : o .number ≡ 0 → Close r o

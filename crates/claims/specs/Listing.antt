@@ -9,7 +9,7 @@ use Rattle.fund.specs.Reading.{FundFile, Reading, read, reading}
 use Rattle.fund.specs.Quantile.{quantileOf}
 use Rattle.fund.specs.Answer.{answerTo}
 use Rattle.fund.specs.Listing.{horizonIn, enough, listingTo}
-use Rattle.fund.specs.Distance.{WithinBounds, QuantileWithin}
+use Rattle.fund.specs.Distance.{WithinBounds, NeverBelow, QuantileWithin}
 use Rattle.text.specs.Shown.{room}
 use Rattle.printing.specs.Printed.{levelLineTo}
 
@@ -29,10 +29,12 @@ pub record Shows (least : ℕ) (shown before after : List ℕ) (size : ℕ) : Ty
   pub kept : length before < least → Unchanged before after size
 
 -- The listing of what was read, in a text with room for every listing. It shows the answer to slices that are long enough for every horizon; of a fund
--- that is accepted each f(x), each F(x) and the premium that it shows are within the bounds that it shows of the exact ones.
+-- that is accepted each f(x), each F(x) and the premium that it shows are within the bounds that it shows of the exact ones, and the gross premium is never below the
+-- exact premium's loaded worth.
 pub record PrintsTo (text : List ℕ) (r : Reading) (before after : List ℕ) (size : ℕ) : Type 0 where
   pub shows : Shows room (listingTo text r) before after size
   pub within : (fund : FundFile) → r ≡ read fund → answerTo text enough r .verdict ≡ Accepted → WithinBounds fund (answerTo text enough r)
+  pub covers : (fund : FundFile) → r ≡ read fund → answerTo text enough r .verdict ≡ Accepted → NeverBelow fund (answerTo text enough r)
 
 abbrev pub Prints : List ℕ → List ℕ → List ℕ → ℕ → Type 0
 Prints file = PrintsTo file (reading file)

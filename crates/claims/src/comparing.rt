@@ -6,14 +6,11 @@ use moves::Differences;
 use moves::Moved;
 use reader::FileRead;
 ghost use mathlib.Core.Path.{_≡_};
-ghost use lib.ListN.{length};
 ghost use Rattle.valuation.specs.Valued.{lengths};
-ghost use Rattle.writing.specs.Writing.{Written};
 ghost use Rattle.moves.specs.Differences.{differences, fileIn};
 ghost use Rattle.moves.specs.Move.{movedOf};
-ghost use Rattle.comparison_listing.specs.Printed.{listingOf};
-ghost use Rattle.claims.specs.Calls.{priced, hosted};
-ghost use Rattle.claims.specs.Comparison.{ComparesPlainly, PrintsMove, comparisonRead};
+ghost use Rattle.claims.specs.Calls.{priced, ResultStruct, hosted};
+ghost use Rattle.claims.specs.Comparison.{ComparesPlainly, PrintsMove, comparisonRead, ComparisonStruct};
 
 // Demands 1, 2 and 3 of both funds, the premium's move, the most that arithmetic can have to do with it, and the theorem on the exact move.
 pub fn claimed_comparison(
@@ -55,7 +52,7 @@ pub fn claimed_comparison(
     )
 }
 
-// The same of the call for C.
+// The same of the call for C, and each field of its three structs.
 pub fn claimed_host_comparison(
     old: &[u8],
     new: &[u8],
@@ -80,6 +77,14 @@ pub fn claimed_host_comparison(
         (hosted (now (old .entry)) (now («old_result» .exit)) (now («old_transform» .exit)) (now («old_h» .exit)) (now («old_f» .exit)) (now («old_r» .exit)) (now («old_sums» .exit)))
         (hosted (now (new .entry)) (now («new_result» .exit)) (now («new_transform» .exit)) (now («new_h» .exit)) (now («new_f» .exit)) (now («new_r» .exit)) (now («new_sums» .exit)))
         (comparisonRead (now (comparison .exit))) ⌝ }
+    ensures { λ _. ⌜ ResultStruct (now (old .entry)) (now («old_result» .exit))
+        (hosted (now (old .entry)) (now («old_result» .exit)) (now («old_transform» .exit)) (now («old_h» .exit)) (now («old_f» .exit)) (now («old_r» .exit)) (now («old_sums» .exit))) ⌝ }
+    ensures { λ _. ⌜ ResultStruct (now (new .entry)) (now («new_result» .exit))
+        (hosted (now (new .entry)) (now («new_result» .exit)) (now («new_transform» .exit)) (now («new_h» .exit)) (now («new_f» .exit)) (now («new_r» .exit)) (now («new_sums» .exit))) ⌝ }
+    ensures { λ _. ⌜ ComparisonStruct
+        (hosted (now (old .entry)) (now («old_result» .exit)) (now («old_transform» .exit)) (now («old_h» .exit)) (now («old_f» .exit)) (now («old_r» .exit)) (now («old_sums» .exit)))
+        (hosted (now (new .entry)) (now («new_result» .exit)) (now («new_transform» .exit)) (now («new_h» .exit)) (now («new_f» .exit)) (now («new_r» .exit)) (now («new_sums» .exit)))
+        (now (comparison .exit)) ⌝ }
 {
     miguepo_comparison::miguepo_compare(
         old,
@@ -120,11 +125,4 @@ pub fn claimed_differences(old: FileRead, new: FileRead) -> Differences
     ensures { λ d. ⌜ d ≡ differences (fileIn old) (fileIn new) ⌝ }
 {
     moves::differing(old, new)
-}
-
-// The text of any comparison's answer.
-pub fn claimed_comparison_listing(compared: Compared, text: &mut [u8]) -> usize
-    ensures { λ size. ⌜ Written (listingOf compared (length (now (text .entry)))) (now (text .entry)) (now (text .exit)) size ⌝ }
-{
-    comparison_listing::listing(compared, text)
 }

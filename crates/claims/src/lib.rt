@@ -12,7 +12,7 @@ ghost use Rattle.fund.specs.Reading.{reading};
 ghost use Rattle.valuation.specs.Valued.{lengths};
 ghost use Rattle.claims.specs.Demands.{Demands};
 ghost use Rattle.claims.specs.Listing.{Prints, PrintsLevel, PrintsRead};
-ghost use Rattle.claims.specs.Calls.{handed, priced, hosted};
+ghost use Rattle.claims.specs.Calls.{handed, priced, ResultStruct, hosted};
 ghost use Rattle.claims.specs.WrittenOut.{PricedWrittenOut};
 
 // Demands 1, 2 and 3 of the pricing call, what its answer at the level says, and that a file is priced as the file with its member lines written out.
@@ -42,7 +42,7 @@ pub fn claimed_line<'a>(file: &'a [u8], priced: Priced) -> &'a [u8]
     pricing::line(file, priced)
 }
 
-// The same of the call for C.
+// The same of the call for C, and each field of its struct.
 pub fn claimed_host(
     file: &[u8],
     level: u64,
@@ -58,6 +58,8 @@ pub fn claimed_host(
         (hosted (now (file .entry)) (now (result .exit)) (now (transform .exit)) (now (h .exit)) (now (f .exit)) (now (r .exit)) (now (sums .exit))) ⌝ }
     ensures { λ _. ⌜ PricedWrittenOut (now (file .entry)) level
         (lengths (now (transform .entry)) (now (h .entry)) (now (f .entry)) (now (r .entry)) (now (sums .entry)))
+        (hosted (now (file .entry)) (now (result .exit)) (now (transform .exit)) (now (h .exit)) (now (f .exit)) (now (r .exit)) (now (sums .exit))) ⌝ }
+    ensures { λ _. ⌜ ResultStruct (now (file .entry)) (now (result .exit))
         (hosted (now (file .entry)) (now (result .exit)) (now (transform .exit)) (now (h .exit)) (now (f .exit)) (now (r .exit)) (now (sums .exit))) ⌝ }
 {
     miguepo::miguepo_price(file, level, transform, h, f, r, sums, result);

@@ -18,7 +18,7 @@ ghost use Rattle.reader.specs.Rows.{rateFits, memberFits};
 ghost use Rattle.reader.specs.Read.{fileRead};
 ghost use Rattle.claims.specs.Demands.{Demands};
 ghost use Rattle.claims.specs.Listing.{PrintsTo, PrintsLevelTo};
-ghost use Rattle.claims.specs.Calls.{priced, hosted};
+ghost use Rattle.claims.specs.Calls.{priced, ResultStruct, hosted};
 ghost use Rattle.claims.specs.Sheets.{PricedAsFile};
 
 // Demands 1, 2 and 3 of the pricing call on sheets, what its answer at the level says, and that sheets that are taken are priced as the file
@@ -62,6 +62,8 @@ pub fn claimed_host_sheets(
         (hosted (now (header .entry)) (now (result .exit)) (now (transform .exit)) (now (h .exit)) (now (f .exit)) (now (r .exit)) (now (sums .exit))) ⌝ }
     ensures { λ _. ⌜ PricedAsFile (now (header .entry)) (now (rates .entry)) (now (members .entry)) level
         (lengths (now (transform .entry)) (now (h .entry)) (now (f .entry)) (now (r .entry)) (now (sums .entry)))
+        (hosted (now (header .entry)) (now (result .exit)) (now (transform .exit)) (now (h .exit)) (now (f .exit)) (now (r .exit)) (now (sums .exit))) ⌝ }
+    ensures { λ _. ⌜ ResultStruct (now (header .entry)) (now (result .exit))
         (hosted (now (header .entry)) (now (result .exit)) (now (transform .exit)) (now (h .exit)) (now (f .exit)) (now (r .exit)) (now (sums .exit))) ⌝ }
 {
     miguepo::miguepo_price_sheets(

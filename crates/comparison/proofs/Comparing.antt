@@ -85,7 +85,6 @@ module _ (text : List ℕ) (level : ℕ) (n : Lengths) (p : Priced) (a : Answer)
           near = k .distance fund is v;
           below = k .never-below fund is v;
           not-negative = subst (λ (x : Answer). pos 0 ≤ℤ (x .figures .premium +ℤ pos (x .figures .within))) same (not-negative text n (reading text) fund ok is accepts);
-          mean-is = ap (λ (x : Figures). x .mean) figures-are;
           gross-is = rw figures-are refl;
         }
 
@@ -145,15 +144,15 @@ module _ (old new : List ℕ) (level : ℕ) (n m : Lengths) (p q : Priced) (a b 
     found : Told f g v d
     found = told-of f g v d (sym (ap₂ (λ x y. compared x a y b) r s) ∙ sym (is ∙ told-as-defined) ∙ h)
 
-    exact : ExactMove f a g b v
+    exact : ExactMove f g v
     exact =
-        subst (ExactMove f a g b) (found .move-is)
+        subst (ExactMove f g) (found .move-is)
         (exact-move f a g b (known old level n p a k (found .old-accepted) f r) (known new level m q b l (found .new-accepted) g s))
 
-    rates : d .header ≡ 0 → d .member ≡ 0 → RatesAlone f a g b v
+    rates : d .header ≡ 0 → d .member ≡ 0 → RatesAlone f g v
     unfolding differences
     rates e₁ e₂ =
-        subst (RatesAlone f a g b) (found .move-is)
+        subst (RatesAlone f g) (found .move-is)
         (rates-alone f a g b (known old level n p a k (found .old-accepted) f r) (known new level m q b l (found .new-accepted) g s)
         (ap (λ (x : Differences). x .header) (found .differences-are) ∙ e₁) (ap (λ (x : Differences). x .member) (found .differences-are) ∙ e₂))
 

@@ -28,7 +28,7 @@ use Rattle.fund.specs.Transform.{mean}
 use Rattle.fund.specs.Tariff.{loading}
 use Rattle.fund.specs.Answer.{Answer, fundMean}
 use Rattle.fund.specs.Exact.{factorial, singles, denominator, exactPremium}
-use Rattle.fund.specs.Distance.{fileDenominator, exactPremiumAt, exactLoadedWorth}
+use Rattle.fund.specs.Distance.{fileDenominator, exactPremiumOf, exactLoadedWorth}
 use Rattle.laws.specs.Copies.{total-copies}
 use Rattle.laws.specs.Ranges.{and-true}
 use Rattle.moves.specs.declared.Move.{Move}
@@ -121,8 +121,8 @@ module _ (old new : FundFile) (t : SameTerms (old .header) (new .header)) (s : n
   unfolding fileDenominator denominator
   one-denominator = λ i. 10 ^ (6 * same-singles i + 12 * t .horizon i + 756) * factorial (t .horizon i) * factorial 63
 
-  pub exact-under : exactPremiumAt new (fundMean (new .header) (lives new)) ≡ exactUnder old (new .rates)
-  unfolding exactPremiumAt fundMean exactUnder underRates
+  pub exact-under : exactPremiumOf new ≡ exactUnder old (new .rates)
+  unfolding exactPremiumOf fundMean exactUnder underRates
   exact-under = λ i. exactPremium (t .horizon i) (t .deductible i) (mean (t .frequency i) (lives-under i)) (t .frequency i) (lives-under i)
 
 -- ---- the move over one denominator
@@ -149,12 +149,12 @@ module _ (old : FundFile) (a : Answer) (new : FundFile) (b : Answer) (k : Known 
   abbrev B : ℤ
   B = exactUnder old (new .rates)
 
-  old-exact : exactPremiumAt old (a .figures .mean) ≡ A
+  old-exact : exactPremiumOf old ≡ A
   unfolding exactUnder underRates
-  old-exact = ap (exactPremiumAt old) (k .mean-is)
+  old-exact = refl
 
-  new-exact : exactPremiumAt new (b .figures .mean) ≡ B
-  new-exact = ap (exactPremiumAt new) (l .mean-is) ∙ exact-under old new t s
+  new-exact : exactPremiumOf new ≡ B
+  new-exact = exact-under old new t s
 
   same-denominator : fileDenominator new ≡ D
   same-denominator = one-denominator old new t s
@@ -175,15 +175,15 @@ module _ (old : FundFile) (a : Answer) (new : FundFile) (b : Answer) (k : Known 
           (subst (λ z. natAbs (pos (fileDenominator new) *ℤ b .figures .premium -ℤ z) ≤ fileDenominator new * b .figures .within) new-exact (l .near .premium))
 
   -- the loaded worths, of the same terms
-  old-worth : exactLoadedWorth old (a .figures .mean) ≡ A *ℤ pos L
+  old-worth : exactLoadedWorth old ≡ A *ℤ pos L
   unfolding exactLoadedWorth
   old-worth = ap (λ z. z *ℤ pos L) old-exact
 
-  new-worth : exactLoadedWorth new (b .figures .mean) ≡ B *ℤ pos L
+  new-worth : exactLoadedWorth new ≡ B *ℤ pos L
   unfolding exactLoadedWorth
   new-worth = λ i. new-exact i *ℤ pos (t .worth i * loading (t .deductible i))
 
-  worth-move : exactLoadedWorth new (b .figures .mean) -ℤ exactLoadedWorth old (a .figures .mean) ≡ (B -ℤ A) *ℤ pos L
+  worth-move : exactLoadedWorth new -ℤ exactLoadedWorth old ≡ (B -ℤ A) *ℤ pos L
   worth-move = ap₂ _-ℤ_ new-worth old-worth ∙ ring3 ℤ-ring (λ b a l. b ⊗ l ⊝ a ⊗ l := (b ⊝ a) ⊗ l) tt B A (pos L)
 
   gross-least-end : (pos (D * 10 ^ 15) *ℤ m .«gross_least») ≤ℤ ((B -ℤ A) *ℤ pos L)
@@ -191,19 +191,19 @@ module _ (old : FundFile) (a : Answer) (new : FundFile) (b : Answer) (k : Known 
   gross-least-end = to-≤ℤ (O.≤-trans ℤ-ring ℤ-ord
       (O.≤-of-eq ℤ-ring ℤ-ord (ring5 ℤ-ring (λ d t h g x. d ⊗ t ⊗ (h ⊝ g ⊝ x) := (h ⊗ t ⊗ d ⊝ g ⊗ t ⊗ d) ⊝ x ⊗ t ⊗ d) tt (pos D) (pos (10 ^ 15)) (pos (b .figures .gross)) (pos (a .figures .gross)) (pos (excess (new .header) (b .figures .within)))))
       (O.≤-trans ℤ-ring ℤ-ord
-      (subst (λ n. ((pos (b .figures .gross * 10 ^ 15 * n) -ℤ grossOver old a) -ℤ pos (excess (new .header) (b .figures .within) * 10 ^ 15 * n)) ≤Z (exactLoadedWorth new (b .figures .mean) -ℤ exactLoadedWorth old (a .figures .mean))) same-denominator
-      (above-low (exactLoadedWorth old (a .figures .mean)) (grossOver old a) (exactLoadedWorth new (b .figures .mean)) (grossOver new b) (excessOver new b) (gross-low old a k) (gross-high new b l)))
+      (subst (λ n. ((pos (b .figures .gross * 10 ^ 15 * n) -ℤ grossOver old a) -ℤ pos (excess (new .header) (b .figures .within) * 10 ^ 15 * n)) ≤Z (exactLoadedWorth new -ℤ exactLoadedWorth old)) same-denominator
+      (above-low (exactLoadedWorth old) (grossOver old a) (exactLoadedWorth new) (grossOver new b) (excessOver new b) (gross-low old a k) (gross-high new b l)))
       (O.≤-of-eq ℤ-ring ℤ-ord worth-move)))
 
   gross-most-end : ((B -ℤ A) *ℤ pos L) ≤ℤ (pos (D * 10 ^ 15) *ℤ m .«gross_most»)
   unfolding moveOf
   gross-most-end = to-≤ℤ (O.≤-trans ℤ-ring ℤ-ord (O.≤-of-eq ℤ-ring ℤ-ord (sym worth-move))
       (O.≤-trans ℤ-ring ℤ-ord
-      (subst (λ n. (exactLoadedWorth new (b .figures .mean) -ℤ exactLoadedWorth old (a .figures .mean)) ≤Z ((pos (b .figures .gross * 10 ^ 15 * n) -ℤ grossOver old a) +ℤ excessOver old a)) same-denominator
-      (above-high (exactLoadedWorth old (a .figures .mean)) (grossOver old a) (exactLoadedWorth new (b .figures .mean)) (grossOver new b) (excessOver old a) (gross-high old a k) (gross-low new b l)))
+      (subst (λ n. (exactLoadedWorth new -ℤ exactLoadedWorth old) ≤Z ((pos (b .figures .gross * 10 ^ 15 * n) -ℤ grossOver old a) +ℤ excessOver old a)) same-denominator
+      (above-high (exactLoadedWorth old) (grossOver old a) (exactLoadedWorth new) (grossOver new b) (excessOver old a) (gross-high old a k) (gross-low new b l)))
       (O.≤-of-eq ℤ-ring ℤ-ord (sym (ring5 ℤ-ring (λ d t h g x. d ⊗ t ⊗ (h ⊝ g ⊕ x) := (h ⊗ t ⊗ d ⊝ g ⊗ t ⊗ d) ⊕ x ⊗ t ⊗ d) tt (pos D) (pos (10 ^ 15)) (pos (b .figures .gross)) (pos (a .figures .gross)) (pos (excess (old .header) (a .figures .within))))))))
 
-  pub rates-alone : RatesAlone old a new b m
+  pub rates-alone : RatesAlone old new m
   unfolding moveOf
   rates-alone =
       record {

@@ -36,5 +36,5 @@ pub record Compares (old new : List ℕ) (level : ℕ) (n m : Lengths) (c : Comp
   pub old-priced : Prices old (reading old) level n (c .old) a
   pub new-priced : Prices new (reading new) level m (c .new) b
   pub comparison : c .comparison ≡ compared (reading old) a (reading new) b
-  pub exact : (f g : FundFile) → reading old ≡ read f → reading new ≡ read g → (v : Move) (d : Differences) → c .comparison ≡ Moved v d → ExactMove f a g b v
-  pub rates : (f g : FundFile) → reading old ≡ read f → reading new ≡ read g → (v : Move) (d : Differences) → c .comparison ≡ Moved v d → d .header ≡ 0 → d .member ≡ 0 → RatesAlone f a g b v
+  pub exact : (f g : FundFile) → reading old ≡ read f → reading new ≡ read g → (v : Move) (d : Differences) → c .comparison ≡ Moved v d → ExactMove f g v
+  pub rates : (f g : FundFile) → reading old ≡ read f → reading new ≡ read g → (v : Move) (d : Differences) → c .comparison ≡ Moved v d → d .header ≡ 0 → d .member ≡ 0 → RatesAlone f g v

@@ -18,7 +18,6 @@ use Rattle.moves.specs.declared.files.Differences.{Differences}
 use Rattle.comparison.specs.declared.Compared.{Compared}
 use Rattle.comparison.specs.declared.Comparison.the-variants.{Moved}
 use Rattle.comparison.specs.Comparison.{compared, Compares}
-use Rattle.comparison.specs.Exact.{ExactMove, RatesAlone}
 use Rattle.comparison_listing.specs.Lines.{comparisonLines}
 use Rattle.comparison_listing.specs.Printed.{comparison-room, listingOf, comparisonOf, comparisonListing, shownComparison, PrintsComparison}
 
@@ -43,10 +42,6 @@ module _ (old new : List ℕ) (level : ℕ) (c : Compared) (d : List ℤ) (h : L
   prints {before} {after} {size} w =
       record {
         written = subst (λ (t : List ℕ). Written t before after size) (shown-is (length before)) w;
-        exact = λ fund other z y v e t.
-            subst (λ (x : Answer). ExactMove fund x other (answer new enough) v) old-is
-            (subst (λ (x : Answer). ExactMove fund (left (c .old) d h f r s) other x v) new-is (k .exact fund other z y v e (comparison-is ∙ t)));
-        rates = λ fund other z y v e t p q.
-            subst (λ (x : Answer). RatesAlone fund x other (answer new enough) v) old-is
-            (subst (λ (x : Answer). RatesAlone fund (left (c .old) d h f r s) other x v) new-is (k .rates fund other z y v e (comparison-is ∙ t) p q));
+        exact = λ fund other z y v e t. k .exact fund other z y v e (comparison-is ∙ t);
+        rates = λ fund other z y v e t. k .rates fund other z y v e (comparison-is ∙ t);
       }

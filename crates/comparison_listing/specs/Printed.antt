@@ -38,7 +38,5 @@ shownComparison old new size = if leb comparison-room size then comparisonListin
 -- member line differs, it is that of the rates.
 pub record PrintsComparison (old new before after : List ℕ) (size : ℕ) : Type 0 where
   pub written : Written (shownComparison old new (length before)) before after size
-  pub exact : (f g : FundFile) → reading old ≡ read f → reading new ≡ read g → (v : Move) (d : Differences) → comparisonOf old new ≡ Moved v d →
-      ExactMove f (answer old enough) g (answer new enough) v
-  pub rates : (f g : FundFile) → reading old ≡ read f → reading new ≡ read g → (v : Move) (d : Differences) → comparisonOf old new ≡ Moved v d → d .header ≡ 0 → d .member ≡ 0 →
-      RatesAlone f (answer old enough) g (answer new enough) v
+  pub exact : (f g : FundFile) → reading old ≡ read f → reading new ≡ read g → (v : Move) (d : Differences) → comparisonOf old new ≡ Moved v d → ExactMove f g v
+  pub rates : (f g : FundFile) → reading old ≡ read f → reading new ≡ read g → (v : Move) (d : Differences) → comparisonOf old new ≡ Moved v d → d .header ≡ 0 → d .member ≡ 0 → RatesAlone f g v

@@ -1,4 +1,4 @@
-// The listing of a comparison: from two fund files, or from what a comparison answers, to its bytes.
+// The listing of a comparison, from two fund files to its bytes.
 use comparison::Compared;
 use comparison::Comparison;
 use fund::Figures;
@@ -195,7 +195,7 @@ fn put_comparison(comparison: Comparison, text: &mut [u8], at: usize) -> usize
 
 // Writes the listing of a comparison from the start of the text, and returns its size. Where the text is too short for every such listing, it writes
 // nothing.
-pub fn listing(compared: Compared, text: &mut [u8]) -> usize
+fn listing(compared: Compared, text: &mut [u8]) -> usize
     ensures { λ size. ⌜ Written (listingOf compared (length (now (text .entry)))) (now (text .entry)) (now (text .exit)) size ⌝ }
 {
     if text.len() < ROOM {

@@ -26,7 +26,7 @@ use Rattle.fund.specs.Distribution.{distributionBound}
 use Rattle.fund.specs.Answer.{fundTerms, fundStart, fundCells, fundTruncation, fundMean, fundPremium, fundWithin, fundFigures, Answer, accepted, answerTo}
 use Rattle.fund.specs.Listing.{horizonIn}
 use Rattle.fund.specs.Exact.{factorial, singles, denominator, outcomes, excess}
-use Rattle.fund.specs.Distance.{fileDenominator, exactAt, exactPremiumAt, apart, exactSum, boundAt, WithinBounds, exactLoadedWorth, NeverBelow, BelowAt, QuantileWithin}
+use Rattle.fund.specs.Distance.{fileDenominator, exactAt, exactPremiumOf, apart, exactSum, boundAt, WithinBounds, AverageExcess, exactLoadedWorth, NeverBelow, BelowAt, QuantileWithin}
 use Rattle.laws.specs.Accepted.{Accepts, accepts}
 use Rattle.laws.specs.Cells.{sum-is}
 use Rattle.laws.specs.Ranges.{FundOk}
@@ -91,16 +91,16 @@ module _ (fund : FundFile) (n : Lengths) (ok : FundOk fund) (a : Accepts fund n 
       rw (F-cell (fund .header) (lives fund) n x l)
       (le-trans (sums-apart (pos (fileDenominator fund)) (pos unit) (λ y. getD (A .f) y (pos 0)) (exactAt fund) (suc x)) (close-cells x l))
 
-  close-premium : natAbs (pos (fileDenominator fund) *ℤ A .figures .premium -ℤ exactPremiumAt fund (A .figures .mean)) ≤ fileDenominator fund * A .figures .within
-  unfolding fileDenominator exactPremiumAt fundTerms fundStart fundTruncation fundPremium fundWithin fundFigures accepted
+  close-premium : natAbs (pos (fileDenominator fund) *ℤ A .figures .premium -ℤ exactPremiumOf fund) ≤ fileDenominator fund * A .figures .within
+  unfolding fileDenominator exactPremiumOf fundTerms fundStart fundTruncation fundPremium fundWithin fundFigures accepted
   close-premium =
-      subst (λ (ys : List Cell). natAbs (pos (fileDenominator fund) *ℤ premium (fund .header .deductible) (fundMean (fund .header) (lives fund)) ys -ℤ exactPremiumAt fund (fundMean (fund .header) (lives fund))) ≤ fileDenominator fund * within (fund .header .deductible) (fundTruncation (fund .header) (lives fund)) ys)
+      subst (λ (ys : List Cell). natAbs (pos (fileDenominator fund) *ℤ premium (fund .header .deductible) (fundMean (fund .header) (lives fund)) ys -ℤ exactPremiumOf fund) ≤ fileDenominator fund * within (fund .header .deductible) (fundTruncation (fund .header) (lives fund)) ys)
       (sym (fundCells-are (fund .header) (lives fund)))
       (premium-distance X (fund .header .order) (fund .header .frequency) (lives fund) small p (fund .header .deductible) (fundMean (fund .header) (lives fund)) (a .deductible))
 
   covers-exact : NeverBelow fund A
   unfolding exactLoadedWorth fundFigures accepted
-  covers-exact = record { gross = gross-covers (fileDenominator fund) (fund .header .deductible) (fund .header .worth) (A .figures .within) (A .figures .premium) (exactPremiumAt fund (A .figures .mean)) close-premium }
+  covers-exact = record { gross = gross-covers (fileDenominator fund) (fund .header .deductible) (fund .header .worth) (A .figures .within) (A .figures .premium) (exactPremiumOf fund) close-premium }
 
 pub distance : (text : List ℕ) (n : Lengths) (r : Reading) (fund : FundFile) → FundOk fund → r ≡ read fund → answerTo text n r .verdict ≡ Accepted → WithinBounds fund (answerTo text n r)
 distance text n r fund ok is e =
@@ -135,11 +135,9 @@ never-below text n r fund ok is e =
     let a = accepts fund n (fundCells (fund .header) (lives fund)) (c .verdict-is) in
     subst (λ (x : Answer). NeverBelow fund x) (sym (c .answer-is)) (covers-exact fund n ok a)
 
-pub average : (text : List ℕ) (n : Lengths) (r : Reading) (fund : FundFile) → r ≡ read fund → answerTo text n r .verdict ≡ Accepted → lambda (fund .header .frequency) (lives fund) ≡ 0 →
-    exactPremiumAt fund (answerTo text n r .figures .mean) *ℤ pos (10 ^ (6 * singles (lives fund))) ≡ pos (10 ^ 12 * excess (fund .header .deductible) (outcomes (lives fund)) * fileDenominator fund)
-unfolding exactPremiumAt fileDenominator fundMean fundFigures accepted
+pub average : (text : List ℕ) (n : Lengths) (r : Reading) (fund : FundFile) → r ≡ read fund → answerTo text n r .verdict ≡ Accepted → AverageExcess fund
+unfolding exactPremiumOf fileDenominator fundMean unit
 average text n r fund is e z =
     let c = answer-accepted text n r fund is e in
     let a = accepts fund n (fundCells (fund .header) (lives fund)) (c .verdict-is) in
-    ap (λ (x : Answer). exactPremiumAt fund (x .figures .mean) *ℤ pos (10 ^ (6 * singles (lives fund)))) (c .answer-is)
-    ∙ average-excess (fund .header .horizon) (fund .header .order) (fund .header .frequency) (lives fund) (a .limited-lives) (all-folded fund) z (fund .header .deductible) (a .deductible)
+    average-excess (fund .header .horizon) (fund .header .order) (fund .header .frequency) (lives fund) (a .limited-lives) (all-folded fund) z (fund .header .deductible) (a .deductible)

@@ -1,6 +1,6 @@
 -- The premium and its bound are together not negative, for every fund that is accepted (not-negative). The exact premium is not below half a
 -- unit under 0, the premium is within its bound of it, and premium and bound are whole numbers.
-use mathlib.Core.Path.{_≡_, sym, _∙_, ap, subst}
+use mathlib.Core.Path.{_≡_, sym, _∙_, ap}
 use mathlib.Core.List.{List}
 use Prim.Native.Nat.{ℕ, suc, _<_, _≤_ as _≤ⁿ_, _*_ as _*ⁿ_}
 use native.Mathlib.Omega.{arith}
@@ -18,8 +18,8 @@ use Rattle.fund.specs.Limits.{most-deductible, most-amount}
 use Rattle.fund.specs.Reading.{FundFile, Reading, read}
 use Rattle.fund.specs.Folding.{lives}
 use Rattle.fund.specs.Refusals.{Lengths}
-use Rattle.fund.specs.Answer.{fundCells, fundMean, fundFigures, Answer, accepted, answerTo}
-use Rattle.fund.specs.Distance.{fileDenominator, exactPremiumAt}
+use Rattle.fund.specs.Answer.{fundCells, fundMean, answerTo}
+use Rattle.fund.specs.Distance.{fileDenominator, exactPremiumOf}
 use Rattle.laws.specs.Accepted.{Accepts, accepts}
 use Rattle.laws.specs.Ranges.{FundOk}
 use Rattle.laws.specs.Answer.{answer-accepted}
@@ -55,8 +55,8 @@ above-half D within premium exact d h k = half-whole (premium +ℤ pos within) (
 
 -- ---- an accepted fund
 exact-low : (fund : FundFile) (n : Lengths) → FundOk fund → Accepts fund n (fundCells (fund .header) (lives fund)) →
-    negQ (nat (fileDenominator fund)) ≤ nat 2 * ofℤ (exactPremiumAt fund (accepted (fund .header) (lives fund) n .figures .mean))
-unfolding exactPremiumAt fileDenominator fundMean fundFigures accepted
+    negQ (nat (fileDenominator fund)) ≤ nat 2 * ofℤ (exactPremiumOf fund)
+unfolding exactPremiumOf fileDenominator fundMean
 exact-low fund n ok a =
     let few : fund .header .deductible ≤ⁿ most-deductible = ok .header .deductible in
     exact-premium-low (fund .header .horizon) (fund .header .order) (fund .header .frequency) (lives fund) (ok .header .order-most) (priceable fund n a)
@@ -68,6 +68,6 @@ not-negative text n r fund ok is e =
     let c = answer-accepted text n r fund is e in
     let a = accepts fund n (fundCells (fund .header) (lives fund)) (c .verdict-is) in
     let given = answerTo text n r in
-    above-half (fileDenominator fund) (given .figures .within) (given .figures .premium) (exactPremiumAt fund (given .figures .mean)) (denominator-pos fund)
+    above-half (fileDenominator fund) (given .figures .within) (given .figures .premium) (exactPremiumOf fund) (denominator-pos fund)
     (distance text n r fund ok is e .premium)
-    (subst (λ (x : Answer). negQ (nat (fileDenominator fund)) ≤ nat 2 * ofℤ (exactPremiumAt fund (x .figures .mean))) (sym (c .answer-is)) (exact-low fund n ok a))
+    (exact-low fund n ok a)

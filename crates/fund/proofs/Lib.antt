@@ -3,3 +3,4 @@ pub mod ExactRows
 pub mod Levels
 pub mod Tariffs
 mod SheetFunds
+mod Answers

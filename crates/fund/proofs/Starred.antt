@@ -19,7 +19,7 @@ use Rattle.fund.specs.Quantile.{runningSum}
 use Rattle.fund.specs.Distribution.{distributionBound}
 use Rattle.fund.specs.Answer.{fundTerms, fundStart, fundCells, fundTruncation, fundMean, fundPremium, fundWithin, fundFigures, lineAt, part, refused, lent, accepted, answerOf, answerTo}
 use Rattle.fund.specs.Listing.{digitsWithin, decimal, signedDecimal, joined, cellLine, cellLines, listed, refusedLine, printed, horizonIn, listingTo, listing}
-use Rattle.fund.specs.Starred.{StarredRow, text, file, eight, eightListed, eightWide, eightAndOne, atOrder, starred, wrongTurns, inForce, someAges, withLines, worths, replacedAt, refusedAt, frequencies}
+use Rattle.fund.specs.Starred.{StarredRow, text, file, eight, eightListed, eightWide, eightAndOne, atOrder, starred, wrongTurns, nearlyWide, wideLimit, inForce, someAges, withLines, worths, replacedAt, refusedAt, frequencies}
 use Rattle.fund.specs.Distributions.{listedAt, distributions}
 use Rattle.fund.specs.SeveralLives.{livesListed, threeListed, inOrder, behindRate, severalLives}
 
@@ -34,8 +34,8 @@ given r = record { file = r .file; listing = listing (r .file); bounds = take (l
 
 -- All tables of funds: document 01's, and those of the wrong turns and of the requests.
 abbrev rows : List StarredRow
-rows = starred ++ (wrongTurns ++ (someAges ++ (worths ++ (frequencies ++ (distributions ++ severalLives)))))
+rows = starred ++ (wrongTurns ++ (wideLimit ++ (someAges ++ (worths ++ (frequencies ++ (distributions ++ severalLives))))))
 
 pub every-row : map given rows ≡ rows
-unfolding near nearest up bytes total sum sumℤ table alternate begun linesFrom lines digits isNumber valueFrom value inFirst fields allNumbers numbers behind spelled between inRanges headerLines headerOf rowOf rising rateInRange livesInAll memberInRange noMember atEnd readRows readHeader reading heldUntil rateInForce folded life point points copies lives unit nextRow row placed termOf rowTerms singleTerms deathWeight disabilityWeight replacedTerm replacedTerms terms sumD sumH D H lambda load w truncation mean t alternating multiplied start c startBound entries sumR sumF nextCell cells sumBelow boundBelow premium within loading withBound gross first unmatched half halfLine wide anyShort short refuse at0 firstMember valued matched verdict runningSum distributionBound fundTerms fundStart fundCells fundTruncation fundMean fundPremium fundWithin fundFigures lineAt part refused lent accepted answerOf answerTo digitsWithin decimal signedDecimal joined cellLine cellLines listed refusedLine printed horizonIn listingTo text file eight eightListed eightWide eightAndOne atOrder starred wrongTurns inForce someAges withLines worths replacedAt refusedAt frequencies listedAt distributions livesListed threeListed inOrder behindRate severalLives
+unfolding near nearest up bytes total sum sumℤ table alternate begun linesFrom lines digits isNumber valueFrom value inFirst fields allNumbers numbers behind spelled between inRanges headerLines headerOf rowOf rising rateInRange livesInAll memberInRange noMember atEnd readRows readHeader reading heldUntil rateInForce folded life point points copies lives unit nextRow row placed termOf rowTerms singleTerms deathWeight disabilityWeight replacedTerm replacedTerms terms sumD sumH D H lambda load w truncation mean t alternating multiplied start c startBound entries sumR sumF nextCell cells sumBelow boundBelow premium within loading withBound gross first unmatched half halfLine wide anyShort short refuse at0 firstMember valued matched verdict runningSum distributionBound fundTerms fundStart fundCells fundTruncation fundMean fundPremium fundWithin fundFigures lineAt part refused lent accepted answerOf answerTo digitsWithin decimal signedDecimal joined cellLine cellLines listed refusedLine printed horizonIn listingTo text file eight eightListed eightWide eightAndOne atOrder starred wrongTurns nearlyWide wideLimit inForce someAges withLines worths replacedAt refusedAt frequencies listedAt distributions livesListed threeListed inOrder behindRate severalLives
 every-row = refl

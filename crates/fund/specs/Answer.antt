@@ -1,7 +1,7 @@
 -- The answer of a pricing call, for given bytes and given lengths of the five result slices.
 use mathlib.Core.Bool.{Bool, true, false}
 use mathlib.Core.List.{List, _++_, map, reverse}
-use Prim.Native.Nat.{ℕ, suc, _-_}
+use Prim.Native.Nat.{ℕ, zero, suc, _-_}
 use lib.IntN.{ℤ, pos}
 use lib.ListN.{length, getD, replicate}
 use Rattle.fund.specs.declared.Fund.{Fund}
@@ -85,7 +85,8 @@ namesLine Wide = false
 namesLine CellRefusal = false
 
 unfoldable pub lineAt : List ℕ → ℕ → Part
-lineAt file place = getD (map (λ (l : Line). record { start = l .start; size = length (l .text) }) (lines file)) (place - 1) empty
+lineAt file zero = empty
+lineAt file (suc before) = getD (map (λ (l : Line). record { start = l .start; size = length (l .text) }) (lines file)) before empty
 
 unfoldable pub part : List ℕ → Verdict → Part
 part file Accepted = empty

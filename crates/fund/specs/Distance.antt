@@ -1,5 +1,6 @@
 -- Demand 3: what a call that prices a fund must leave, in whole numbers over document 01's denominator. And document 02, §3: what the
 -- gross premium must cover; §7: what holds of the distribution function, and so of the answer at a level.
+use mathlib.Core.Path.{_≡_}
 use Prim.Native.Nat.{ℕ, suc, _*_, _+_, _^_, _<_, _≤_}
 use lib.IntN.{ℤ, pos, natAbs, _+ℤ_, _*ℤ_, _-ℤ_}
 use lib.Signed.{_≤ℤ_, _<ℤ_}
@@ -9,22 +10,22 @@ use Rattle.fund.specs.declared.Quantile.the-variants.{At, None}
 use Rattle.fund.specs.Base.{sum, sumℤ}
 use Rattle.fund.specs.Reading.{FundFile}
 use Rattle.fund.specs.Folding.{lives}
-use Rattle.fund.specs.Transform.{unit}
+use Rattle.fund.specs.Transform.{unit, lambda}
 use Rattle.fund.specs.Premium.{printedBound}
 use Rattle.fund.specs.Tariff.{loading}
 use Rattle.fund.specs.Distribution.{distributionBound}
-use Rattle.fund.specs.Answer.{Answer}
-use Rattle.fund.specs.Exact.{denominator, exact, exactPremium}
+use Rattle.fund.specs.Answer.{Answer, fundMean}
+use Rattle.fund.specs.Exact.{denominator, exact, exactPremium, singles, outcomes, excess}
 
 unfoldable pub fileDenominator : FundFile → ℕ
 fileDenominator file = denominator (file .header .horizon) (lives file)
 
--- The exact value at x and the exact premium, times the denominator.
+-- The exact value at x and the exact premium, which takes the fund's own mean, times the denominator.
 unfoldable pub exactAt : FundFile → ℕ → ℤ
 exactAt file x = exact (file .header .horizon) (file .header .frequency) (lives file) x
 
-unfoldable pub exactPremiumAt : FundFile → ℕ → ℤ
-exactPremiumAt file mean = exactPremium (file .header .horizon) (file .header .deductible) mean (file .header .frequency) (lives file)
+unfoldable pub exactPremiumOf : FundFile → ℤ
+exactPremiumOf file = exactPremium (file .header .horizon) (file .header .deductible) (fundMean (file .header) (lives file)) (file .header .frequency) (lives file)
 
 -- f(x) less 10^12 times the exact value at x, times the denominator.
 unfoldable pub apart : FundFile → Answer → ℕ → ℕ
@@ -46,15 +47,21 @@ pub record WithinBounds (file : FundFile) (a : Answer) : Type 0 where
   pub cell : (x : ℕ) → x ≤ file .header .horizon → apart file a x ≤ fileDenominator file * printedBound (a .figures .truncation) (getD (a .R) x 0)
   pub cells : (x : ℕ) → x ≤ file .header .horizon → sum (suc x) (apart file a) ≤ boundAt file a x
   pub sums : (x : ℕ) → x ≤ file .header .horizon → natAbs (pos (fileDenominator file) *ℤ getD (a .F) x (pos 0) -ℤ pos unit *ℤ exactSum file x) ≤ boundAt file a x
-  pub premium : natAbs (pos (fileDenominator file) *ℤ a .figures .premium -ℤ exactPremiumAt file (a .figures .mean)) ≤ fileDenominator file * a .figures .within
+  pub premium : natAbs (pos (fileDenominator file) *ℤ a .figures .premium -ℤ exactPremiumOf file) ≤ fileDenominator file * a .figures .within
+
+-- "With lambda 0 it equals, in units, the average excess over M of all outcomes of the group 1 members", times 10^(6g) and the denominator.
+abbrev pub AverageExcess : FundFile → Type 0
+AverageExcess file =
+    lambda (file .header .frequency) (lives file) ≡ 0 →
+    exactPremiumOf file *ℤ pos (10 ^ (6 * singles (lives file))) ≡ pos (unit * excess (file .header .deductible) (outcomes (lives file)) * fileDenominator file)
 
 -- The exact premium's loaded worth: exact premium × worth × loading / 10^15, times 10^15 and the denominator.
-unfoldable pub exactLoadedWorth : FundFile → ℕ → ℤ
-exactLoadedWorth file mean = exactPremiumAt file mean *ℤ pos (file .header .worth * loading (file .header .deductible))
+unfoldable pub exactLoadedWorth : FundFile → ℤ
+exactLoadedWorth file = exactPremiumOf file *ℤ pos (file .header .worth * loading (file .header .deductible))
 
 -- "Show that the gross premium is never below the exact premium's loaded worth."
 pub record NeverBelow (file : FundFile) (a : Answer) : Type 0 where
-  pub gross : exactLoadedWorth file (a .figures .mean) ≤ℤ pos (a .figures .gross * 10 ^ 15 * fileDenominator file)
+  pub gross : exactLoadedWorth file ≤ℤ pos (a .figures .gross * 10 ^ 15 * fileDenominator file)
 
 -- What the answer at a level of at most 10^12 says of 10^12 times the exact distribution function: at the answered place it is at least the
 -- level less the bound there, and at each place before it below the level plus the bound there; or, where the answer is none, so at each

@@ -9,6 +9,7 @@ use Rattle.fund.specs.declared.Rate.{Rate}
 use Rattle.fund.specs.declared.Member.{Member}
 use Rattle.fund.specs.declared.Life.{Life}
 use Rattle.fund.specs.declared.ModelPoint.{ModelPoint}
+use Rattle.fund.specs.Limits.{most-rate, least-group}
 use Rattle.fund.specs.Base.{if_then_else_}
 use Rattle.fund.specs.Reading.{FundFile}
 
@@ -57,8 +58,8 @@ abbrev pub claim : Life → ℕ
 claim m = m .q + m .i
 
 abbrev pub stay : Life → ℕ
-stay m = 1000000 - claim m
+stay m = most-rate - claim m
 
 -- Group 1 is taken one by one, group 2 replaced on leaving.
 abbrev pub single : Life → Bool
-single m = eqb (m .group) 1
+single m = eqb (m .group) least-group

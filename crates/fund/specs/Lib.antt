@@ -24,3 +24,4 @@ pub mod SheetFunds
 pub mod Levels
 pub mod Tariffs
 pub mod ExactRows
+pub mod Answers

@@ -3,6 +3,10 @@
 use Prim.Native.Nat.{ℕ}
 use Rattle.fund.specs.declared.Limits.{Limits}
 
+-- "Numbers are decimal, [..] of one to seven digits."
+abbrev pub most-digits : ℕ
+most-digits = 7
+
 -- `rates=` and `members=`: editions, 1900 to 2999 each.
 abbrev pub least-edition : ℕ
 least-edition = 1900
@@ -105,6 +109,7 @@ fourth-loading = 2100
 abbrev pub limits : Limits
 limits =
     record {
+      «most_digits» = most-digits;
       «least_edition» = least-edition;
       «most_edition» = most-edition;
       «most_horizon» = most-horizon;

@@ -5,6 +5,7 @@ use mathlib.Core.Option.{Option, none, some}
 use Prim.Native.Nat.{ℕ, _+_, _-_, _*_}
 use lib.Dec.{eqb, leb}
 use lib.ListN.{length}
+use Rattle.fund.specs.Limits.{most-digits}
 use Rattle.fund.specs.Base.{if_then_else_}
 use Rattle.fund.specs.Lines.{Line}
 
@@ -15,7 +16,7 @@ digits (b ∷ bs) = leb 48 b && leb b 57 && digits bs
 
 unfoldable pub isNumber : List ℕ → Bool
 isNumber [] = false
-isNumber (b ∷ bs) = digits (b ∷ bs) && leb (length (b ∷ bs)) 7 && (not (eqb b 48) || eqb (length bs) 0)
+isNumber (b ∷ bs) = digits (b ∷ bs) && leb (length (b ∷ bs)) most-digits && (not (eqb b 48) || eqb (length bs) 0)
 
 unfoldable pub valueFrom : ℕ → List ℕ → ℕ
 valueFrom n [] = n

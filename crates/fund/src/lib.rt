@@ -128,6 +128,7 @@ pub struct Figures {
 
 // Every limit of document 01 and of the requests after it, by name.
 pub struct Limits {
+    pub most_digits: u64,
     pub least_edition: u64,
     pub most_edition: u64,
     pub most_horizon: u64,
@@ -161,6 +162,9 @@ pub struct Limits {
 }
 
 impl Fund {
+    // The digits of a number.
+    pub const MOST_DIGITS: u64 = 7;
+
     pub const LEAST_EDITION: u64 = 1900;
 
     pub const MOST_EDITION: u64 = 2999;
@@ -190,6 +194,9 @@ impl Fund {
     pub const LEAST_GROUP: u64 = 1;
 
     pub const MOST_GROUP: u64 = 2;
+
+    // Group 1 is taken one by one.
+    pub const SINGLE: u64 = Fund::LEAST_GROUP;
 
     pub const MOST_AMOUNT: u64 = 65535;
 
@@ -247,6 +254,7 @@ impl Fund {
         ensures { λ r. ⌜ r ≡ limits ⌝ }
     {
         Limits {
+            most_digits: Fund::MOST_DIGITS,
             least_edition: Fund::LEAST_EDITION,
             most_edition: Fund::MOST_EDITION,
             most_horizon: Fund::MOST_HORIZON,

@@ -1,11 +1,11 @@
--- What acceptance says: none of the refusals' conditions holds (accepts).
-use mathlib.Core.Path.{_≡_, refl, ap, subst}
-use mathlib.Core.Bool.{Bool, true, false, _||_}
+-- What acceptance says: none of the refusals' conditions holds (accepts). And what meets none of them is accepted (accepted-where).
+use mathlib.Core.Path.{_≡_, refl, _∙_, ap, subst}
+use mathlib.Core.Bool.{Bool, true, false, not, _&&_, _||_}
 use mathlib.Core.List.{List, [], _∷_, _++_, map}
 use mathlib.Core.Option.{Option, none, some}
 use Prim.Native.Nat.{ℕ, zero, suc, _≤_, _<_}
 use native.Mathlib.Omega.{arith}
-use borrow.Author.Tests.{ltb-false, leb-false, lt-leb, eqb-true, not-false}
+use borrow.Author.Tests.{ltb-false, leb-false, lt-leb, le-ltb, eqb-true, eq-eqb, not-false}
 use lib.Dec.{eqb, leb}
 use lib.ListN.{replicate}
 use Rattle.fund.specs.declared.Life.{Life}
@@ -154,3 +154,45 @@ accepts file n cells e =
       long = long-of n (file .header .horizon) (at0-none _ (e9 .0));
       narrow = all-map (λ (y : Cell). ltb-false most-bound (y .R)) cells (first-none _ _ _ (e10 .0));
     }
+
+-- ---- the other way: what meets no condition
+refuse-none : (why : Refusal) (o : Option ℕ) (after : Verdict) → o ≡ none → refuse why o after ≡ after
+unfolding refuse
+refuse-none why o after e = rw e
+
+at0-false : (b : Bool) → b ≡ false → at0 b ≡ none
+unfolding at0
+at0-false b e = rw e
+
+none-first : {A : Type 0} (met : A → Bool) (at : ℕ) (l : List A) → All (λ a. met a ≡ false) l → first met at l ≡ none
+unfolding first
+none-first met at [] h = refl
+none-first met at (a ∷ rest) h = rw (h .0, none-first met (suc at) rest (h .1))
+
+half-not : (m : Life) → Limited m → half m ≡ false
+unfolding half
+half-not m h = go (single m) refl
+  where
+    go : (b : Bool) → single m ≡ b → single m && leb half-rate (claim m) ≡ false
+    go true e = rw (e, lt-leb half-rate (claim m) (h e))
+    go false e = rw e
+
+half-line-not : (p : ModelPoint) → Limited (p .life) → halfLine p ≡ false
+unfolding halfLine
+half-line-not p h = half-not (p .life) h
+
+of-long : (n : Lengths) (X : ℕ) → Long n X → short n X ≡ false
+unfolding short
+of-long n X l = all-long (n .D ∷ n .H ∷ n .f ∷ n .R ∷ n .F ∷ []) X (l .d-long, (l .h-long, (l .f-long, (l .r-long, (l .sums-long, tt)))))
+
+pub accepted-where : (file : FundFile) (n : Lengths) (cells : List Cell) → Accepts file n cells → verdict file n cells ≡ Accepted
+unfolding verdict matched valued wide
+accepted-where file n cells a =
+    refuse-none _ _ _ (at0-false _ (ap not (eq-eqb (file .header .rates) (file .header .members) (a .editions))))
+    ∙ refuse-none _ _ _ (at0-false _ (le-ltb (suc (file .header .horizon)) (file .header .deductible) (a .deductible)))
+    ∙ refuse-none _ _ _ (none-first _ _ _ (a .matched))
+    ∙ refuse-none _ _ _ (none-first _ _ _ (all-map half-line-not (points file) (a .limited-lines)))
+    ∙ refuse-none _ _ _ (at0-false _ (le-ltb most-load (load (file .header .frequency) (lives file)) (a .load-within)))
+    ∙ refuse-none _ _ _ (at0-false _ (le-ltb most-truncation (truncation (file .header .order) (lives file)) (a .truncation-within)))
+    ∙ refuse-none _ _ _ (at0-false _ (of-long n (file .header .horizon) (a .long)))
+    ∙ refuse-none _ _ _ (none-first _ _ _ (all-map (λ (y : Cell). le-ltb most-bound (y .R)) cells (a .narrow)))

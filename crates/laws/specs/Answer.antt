@@ -3,7 +3,7 @@
 use mathlib.Core.Path.{_≡_, refl, sym, _∙_, ap}
 use mathlib.Core.Bool.{Bool, true, false}
 use mathlib.Core.List.{List, [], map}
-use Prim.Native.Nat.{ℕ, suc, _-_, _<_, _≤_}
+use Prim.Native.Nat.{ℕ, zero, suc, _-_, _<_, _≤_}
 use native.Mathlib.Omega.{arith}
 use lib.IntN.{pos}
 use lib.ListN.{length, getD, replicate, List·getD-append}
@@ -55,11 +55,12 @@ lent-at blank n k x g l =
 pub no-line : (v : Verdict) → part [] v ≡ empty
 unfolding part lineAt lines linesFrom
 no-line Accepted = refl
-no-line (Refused why place) = go (namesLine why)
+no-line (Refused why place) = go (namesLine why) place
   where
-    go : (b : Bool) → (if b then lineAt [] place else empty) ≡ empty
-    go true = refl
-    go false = refl
+    go : (b : Bool) (at : ℕ) → (if b then lineAt [] at else empty) ≡ empty
+    go true zero = refl
+    go true (suc before) = refl
+    go false at = refl
 
 -- ---- the cells
 module _ (fund : Fund) (ms : List Life) where

@@ -1,13 +1,15 @@
 -- Document 02, §2: "A file with all ages gives what it gave." Where every member's age has a row of its own, the rate in force is that row's
--- (own-in-force), and the answer is document 01's (as-before); so it is for every member of a table with a row for each age (every-age).
+-- (own-in-force), and the answer is document 01's (as-before); so it is for every member of a table with a row for each age (every-age), as every table of
+-- 121 rows is (all-rows).
 use mathlib.Core.Path.{_≡_, refl, sym, _∙_, ap, subst}
 use mathlib.Core.Bool.{Bool, true, false}
 use mathlib.Core.List.{List, [], _∷_, map}
 use mathlib.Core.Option.{Option, none, some}
-use Prim.Native.Nat.{ℕ, _≤_, _<_}
+use Prim.Native.Nat.{ℕ, suc, _+_, _≤_, _<_}
 use native.Mathlib.Omega.{arith}
-use borrow.Author.Tests.{eqb-true, le-leb}
-use lib.Dec.{eqb}
+use borrow.Author.Tests.{eqb-true, eqb-false, leb-true, leb-false, le-leb}
+use lib.Dec.{eqb, leb}
+use lib.ListN.{length}
 use Rattle.fund.specs.declared.Rate.{Rate}
 use Rattle.fund.specs.declared.Member.{Member}
 use Rattle.fund.specs.declared.Life.{Life}
@@ -15,14 +17,14 @@ use Rattle.fund.specs.declared.ModelPoint.{ModelPoint}
 use Rattle.fund.specs.declared.Verdict.{Verdict}
 use Rattle.fund.specs.declared.Verdict.the-variants.{Accepted, Refused}
 use Rattle.fund.specs.Base.{if_then_else_}
-use Rattle.fund.specs.Limits.{most-age}
+use Rattle.fund.specs.Limits.{most-age, most-rates}
 use Rattle.fund.specs.Reading.{FundFile, Reading, read, stopped, reading}
 use Rattle.fund.specs.Folding.{heldUntil, rateInForce, life, point, points, copies, lives}
 use Rattle.fund.specs.Refusals.{first, unmatched, halfLine, Lengths, firstMember, matched, verdict}
 use Rattle.fund.specs.Answer.{Answer, refused, accepted, answerOf, answerTo, answer}
 use Rattle.laws.specs.Accepted.{All, all-map}
 use Rattle.laws.specs.InForce.{Below, Rising, held-above, in-force-none}
-use Rattle.laws.specs.Ranges.{MemberOk, read-ranges}
+use Rattle.laws.specs.Ranges.{RateOk, MemberOk, read-ranges}
 use Rattle.laws.specs.SameRates.{alike-refl, pointAt, AlikeFor, same-points, same-unmatched, verdictFor}
 
 -- Document 01's search: the row that has the age.
@@ -106,6 +108,39 @@ same-rate rates age k h = go (ownRow rates age) refl
     go none e = in-force-none rates age (h e) ∙ sym e
     go (some r) e = own-in-force rates age r k e ∙ sym e
 
+-- ---- as many rows as ages
+abbrev Aged : ℕ → Rate → Type 0
+Aged least r = (least ≤ r .age) × (r .age ≤ most-age)
+
+aged-behind : (least age : ℕ) (rs : List Rate) → Below age rs → All (Aged least) rs → All (Aged (suc age)) rs
+aged-behind least age [] k h = tt
+aged-behind least age (r ∷ rs) k h = ((k .0, h .0 .1), aged-behind least age rs (k .1) (h .1))
+
+-- rows whose ages rise, from a least age to 120, are at most as many as these ages
+few-rows : (rates : List Rate) (least : ℕ) → Rising rates → All (Aged least) rates → least ≤ suc most-age → length rates + least ≤ suc most-age
+few-rows [] least k h l = omega arith
+few-rows (r ∷ rs) least k h l = let rest = few-rows rs (suc (r .age)) (k .1) (aged-behind least (r .age) rs (k .0) (h .1)) (omega (arith, h .0 .1)) in omega (arith, rest, h .0 .0)
+
+-- and where they are as many, each of these ages has a row
+own-each : (rates : List Rate) (least : ℕ) → Rising rates → All (Aged least) rates → length rates + least ≡ suc most-age → (age : ℕ) → least ≤ age → age ≤ most-age → ownRow rates age ≡ none → ⊥
+unfolding ownRow
+own-each [] least k h full age l m e = omega arith
+own-each (r ∷ rs) least k h full age l m e = go (eqb (r .age) age) refl e (λ later f. own-each rs (suc (r .age)) (k .1) behind (omega (arith, full, here)) age later m f)
+  where
+    behind : All (Aged (suc (r .age))) rs
+    behind = aged-behind least (r .age) rs (k .0) (h .1)
+
+    here : r .age ≡ least
+    here = let few = few-rows rs (suc (r .age)) (k .1) behind (omega (arith, h .0 .1)) in omega (arith, few, full, h .0 .0)
+
+    above : eqb (r .age) age ≡ false → (b : Bool) → leb age (r .age) ≡ b → suc (r .age) ≤ age
+    above t true u = absurd (eqb-false (r .age) age t (omega (arith, leb-true age (r .age) u, here, l)))
+    above t false u = leb-false age (r .age) u
+
+    go : (b : Bool) → eqb (r .age) age ≡ b → (if b then some r else ownRow rs age) ≡ none → (suc (r .age) ≤ age → ownRow rs age ≡ none → ⊥) → ⊥
+    go true t f rest = let z : _≡_ {A = ℕ} 0 1 = cc in omega arith
+    go false t f rest = rest (above t (leb age (r .age)) refl) f
+
 -- ---- the answer
 module _ (file : List ℕ) (fund : FundFile) (is : reading file ≡ read fund) where
   rise : Rising (fund .rates)
@@ -150,3 +185,10 @@ module _ (file : List ℕ) (fund : FundFile) (is : reading file ≡ read fund) w
   -- a table with a row for each age from its first to 120
   pub every-age : ((age : ℕ) → age ≤ most-age → OwnOrBelow (fund .rates) age) → (n : Lengths) → answer file n ≡ answerBy ownRow file n (reading file)
   every-age own n = as-before (all-map (λ (m : Member) (ok : MemberOk m). own (m .age) (ok .age)) (fund .members) (read-ranges file fund is .rows .members)) n
+
+  -- a table of 121 rows has one for each age
+  pub all-rows : length (fund .rates) ≡ most-rates → (n : Lengths) → answer file n ≡ answerBy ownRow file n (reading file)
+  all-rows full n = every-age (λ age l e. absurd (own-each (fund .rates) 0 rise aged (omega (arith, full)) age (omega arith) l e)) n
+    where
+      aged : All (Aged 0) (fund .rates)
+      aged = all-map (λ (r : Rate) (ok : RateOk r). (omega arith, ok .age)) (fund .rates) (read-ranges file fund is .rows .rates)

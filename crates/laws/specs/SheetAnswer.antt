@@ -4,7 +4,7 @@ use mathlib.Core.Path.{_≡_, refl, sym, _∙_, ap}
 use mathlib.Core.Bool.{Bool, true, false, true≢false}
 use mathlib.Core.List.{List, [], _∷_, _++_, map}
 use mathlib.Core.Option.{Option, none, some}
-use Prim.Native.Nat.{ℕ, suc, _-_, _≤_}
+use Prim.Native.Nat.{ℕ, zero, suc, _≤_}
 use native.Mathlib.Omega.{arith}
 use lib.ListN.{length, length-map, List·getD-eq-default}
 use Rattle.fund.specs.declared.Fund.{Fund}
@@ -76,9 +76,10 @@ verdict-behind fund n cells =
 -- ---- the part
 no-such-line : (header : List ℕ) (place : ℕ) → length (lines header) ≡ length headerLines → suc (length headerLines) ≤ place → lineAt header place ≡ empty
 unfolding lineAt
-no-such-line header place e h =
+no-such-line header zero e h = refl
+no-such-line header (suc before) e h =
     let partOf : Line → Part = λ l. record { start = l .start; size = length (l .text) } in
-    List·getD-eq-default (map partOf (lines header)) empty {n = place - 1} (omega (arith, length-map (lines header) partOf))
+    List·getD-eq-default (map partOf (lines header)) empty {n = before} (omega (arith, length-map (lines header) partOf))
 
 module _ (header : List ℕ) (as-many : length (lines header) ≡ length headerLines) (n : Lengths) where
   refused-part : (why : Refusal) (place : ℕ) → Behind why place → refused header n (Refused why place) .part ≡ empty

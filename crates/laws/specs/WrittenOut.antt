@@ -20,7 +20,7 @@ use Rattle.fund.specs.Reading.{FundFile, Reading, read, livesInAll}
 use Rattle.fund.specs.Folding.{rateInForce, folded, life, point, points, copies, lives}
 use Rattle.fund.specs.Refusals.{first, unmatched, half, halfLine, Lengths, firstMember, matched, verdict}
 use Rattle.fund.specs.Answer.{fundCells, refused, accepted, answerOf, answerTo}
-use Rattle.fund.specs.Distance.{fileDenominator, exactAt, exactPremiumAt}
+use Rattle.fund.specs.Distance.{fileDenominator, exactAt, exactPremiumOf}
 use Rattle.laws.specs.Accepted.{All}
 use Rattle.laws.specs.Copies.{copies-append}
 use Rattle.laws.specs.SameRates.{verdictFor, moved, first-moved, later, verdict-later, SameButPlaces}
@@ -72,9 +72,9 @@ pub exact-out : (file : FundFile) (x : ℕ) → exactAt (outFile file) x ≡ exa
 unfolding exactAt
 exact-out file x = rw (lives-out file)
 
-pub premium-out : (file : FundFile) (mean : ℕ) → exactPremiumAt (outFile file) mean ≡ exactPremiumAt file mean
-unfolding exactPremiumAt
-premium-out file mean = rw (lives-out file)
+pub premium-out : (file : FundFile) → exactPremiumOf (outFile file) ≡ exactPremiumOf file
+unfolding exactPremiumOf
+premium-out file = rw (lives-out file)
 
 pub denominator-out : (file : FundFile) → fileDenominator (outFile file) ≡ fileDenominator file
 unfolding fileDenominator

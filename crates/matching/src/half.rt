@@ -10,7 +10,7 @@ ghost use Rattle.fund.specs.Refusals.{half};
 fn is_half(m: Life) -> bool
     ensures { λ r. ⌜ r ≡ half m ⌝ }
 {
-    if m.group != 1 {
+    if m.group != Fund::SINGLE {
         return false;
     }
     if Fund::HALF <= m.q {

@@ -41,4 +41,5 @@ module _ (text : List ℕ) (r : Reading) (level : ℕ) (n : Lengths) (p : Priced
         level-within = λ fund e z l.
             subst (λ (x : Answer). QuantileWithin fund x level (quantileOf level (horizonIn r) (answerTo text n r .F) (answerTo text n r .verdict))) same (rw (quantile-is (k .answers)) at (k .level-within fund e (zero-told z) l));
         never-below = λ fund e z. subst (λ (x : Answer). NeverBelow fund x) same (k .never-below fund e (zero-told z));
+        average = λ fund e z. k .average fund e (zero-told z);
       }

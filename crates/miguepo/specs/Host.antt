@@ -11,7 +11,7 @@ use Rattle.fund.specs.declared.Quantile.{Quantile}
 use Rattle.fund.specs.Quantile.{quantileOf, reachedIn, quantileIn}
 use Rattle.fund.specs.Answer.{Answer, answerTo}
 use Rattle.fund.specs.Listing.{horizonIn}
-use Rattle.fund.specs.Distance.{WithinBounds, NeverBelow, QuantileWithin}
+use Rattle.fund.specs.Distance.{WithinBounds, AverageExcess, NeverBelow, QuantileWithin}
 use Rattle.pricing.specs.declared.Priced.{Priced}
 use Rattle.pricing.specs.Priced.{horizonWith}
 use Rattle.miguepo.specs.Bits.{bitsOf, readSigned}
@@ -51,8 +51,8 @@ pricedFields p =
     ∷ []
 
 -- Everything that is handed over is the answer's, and C reads the premium from its bits; the line lies in the text; demand 3 holds
--- of a fund with number 0, its answer at a level of at most 10^12 is right but for the bounds of the sums, and its gross premium is not below the exact
--- premium's loaded worth.
+-- of a fund with number 0, its answer at a level of at most 10^12 is right but for the bounds of the sums, its gross premium is not below the exact
+-- premium's loaded worth, and with lambda 0 its exact premium is the average excess.
 pub record Hosts (text : List ℕ) (r : Reading) (level : ℕ) (n : Lengths) (result : List ℕ) (D : List ℤ) (H : List ℕ) (f : List ℤ) (R : List ℕ) (F : List ℤ) : Type 0 where
   pub result-is : result ≡ resultFields (answerTo text n r) (horizonIn r) (quantileOf level (horizonIn r) (answerTo text n r .F) (answerTo text n r .verdict))
   pub premium : readSigned (bitsOf (answerTo text n r .figures .premium)) ≡ answerTo text n r .figures .premium
@@ -66,3 +66,4 @@ pub record Hosts (text : List ℕ) (r : Reading) (level : ℕ) (n : Lengths) (re
   pub level-within : (fund : FundFile) → r ≡ read fund → numberIn (answerTo text n r .verdict) ≡ 0 → level ≤ most-level →
       QuantileWithin fund (answerTo text n r) level (quantileOf level (horizonIn r) (answerTo text n r .F) (answerTo text n r .verdict))
   pub never-below : (fund : FundFile) → r ≡ read fund → numberIn (answerTo text n r .verdict) ≡ 0 → NeverBelow fund (answerTo text n r)
+  pub average : (fund : FundFile) → r ≡ read fund → numberIn (answerTo text n r .verdict) ≡ 0 → AverageExcess fund

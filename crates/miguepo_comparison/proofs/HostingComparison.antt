@@ -12,7 +12,6 @@ use Rattle.comparison.specs.declared.Comparison.{Comparison}
 use Rattle.comparison.specs.declared.Comparison.the-variants.{Moved, Refused}
 use Rattle.comparison.specs.declared.Compared.{Compared}
 use Rattle.comparison.specs.Comparison.{compared, Compares}
-use Rattle.comparison.specs.Exact.{ExactMove, RatesAlone}
 use Rattle.miguepo.specs.Host.{Hosts}
 use Rattle.miguepo_comparison.specs.HostComparison.{comparisonFields, SignedFields, ReadBack, Handed, comparisonOf, HostsComparison}
 
@@ -32,18 +31,6 @@ module _ (old new : List ℕ) (level : ℕ) (n m : Lengths) (c : Compared) (a b 
   same : c .comparison ≡ comparisonOf old n new m
   same = k .comparison ∙ ap₂ (λ x y. compared (reading old) x (reading new) y) old-same new-same
 
-  exact : (f g : FundFile) → reading old ≡ read f → reading new ≡ read g → (v : Move) (d : Differences) → comparisonOf old n new m ≡ Moved v d →
-      ExactMove f (answerTo old n (reading old)) g (answerTo new m (reading new)) v
-  exact f g r s v d e =
-      subst (λ y. ExactMove f (answerTo old n (reading old)) g y v) new-same
-      (subst (λ x. ExactMove f x g b v) old-same (k .exact f g r s v d (same ∙ e)))
-
-  rates : (f g : FundFile) → reading old ≡ read f → reading new ≡ read g → (v : Move) (d : Differences) → comparisonOf old n new m ≡ Moved v d → d .header ≡ 0 → d .member ≡ 0 →
-      RatesAlone f (answerTo old n (reading old)) g (answerTo new m (reading new)) v
-  rates f g r s v d e h₁ h₂ =
-      subst (λ y. RatesAlone f (answerTo old n (reading old)) g y v) new-same
-      (subst (λ x. RatesAlone f x g b v) old-same (k .rates f g r s v d (same ∙ e) h₁ h₂))
-
   pub hosts-comparison : (x y : Handed) (comparison : List ℕ) →
       Hosts old (reading old) level n (x .result) (x .D) (x .H) (x .f) (x .R) (x .F) →
       Hosts new (reading new) level m (y .result) (y .D) (y .H) (y .f) (y .R) (y .F) →
@@ -55,6 +42,6 @@ module _ (old new : List ℕ) (level : ℕ) (n m : Lengths) (c : Compared) (a b 
         new-hosted = q;
         comparison-is = rw same at e;
         read-back = subst ReadBack same s;
-        exact = exact;
-        rates = rates;
+        exact = λ f g r s v d t. k .exact f g r s v d (same ∙ t);
+        rates = λ f g r s v d t. k .rates f g r s v d (same ∙ t);
       }

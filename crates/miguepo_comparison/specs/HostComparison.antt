@@ -72,7 +72,5 @@ pub record HostsComparison (old new : List ℕ) (level : ℕ) (n m : Lengths) (a
   pub new-hosted : Hosts new (reading new) level m (b .result) (b .D) (b .H) (b .f) (b .R) (b .F)
   pub comparison-is : comparison ≡ comparisonFields (comparisonOf old n new m)
   pub read-back : ReadBack (comparisonOf old n new m)
-  pub exact : (f g : FundFile) → reading old ≡ read f → reading new ≡ read g → (v : Move) (d : Differences) → comparisonOf old n new m ≡ Moved v d →
-      ExactMove f (answerTo old n (reading old)) g (answerTo new m (reading new)) v
-  pub rates : (f g : FundFile) → reading old ≡ read f → reading new ≡ read g → (v : Move) (d : Differences) → comparisonOf old n new m ≡ Moved v d → d .header ≡ 0 → d .member ≡ 0 →
-      RatesAlone f (answerTo old n (reading old)) g (answerTo new m (reading new)) v
+  pub exact : (f g : FundFile) → reading old ≡ read f → reading new ≡ read g → (v : Move) (d : Differences) → comparisonOf old n new m ≡ Moved v d → ExactMove f g v
+  pub rates : (f g : FundFile) → reading old ≡ read f → reading new ≡ read g → (v : Move) (d : Differences) → comparisonOf old n new m ≡ Moved v d → d .header ≡ 0 → d .member ≡ 0 → RatesAlone f g v

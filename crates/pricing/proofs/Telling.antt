@@ -15,7 +15,7 @@ use Rattle.fund.specs.Answer.{Answer, refused, answerTo}
 use Rattle.fund.specs.Listing.{horizonIn}
 use Rattle.fund.specs.Distance.{WithinBounds, NeverBelow, QuantileWithin}
 use Rattle.laws.specs.Ranges.{FundOk}
-use Rattle.distance.specs.Distance.{distance, level-within, never-below}
+use Rattle.distance.specs.Distance.{distance, level-within, never-below, average}
 use Rattle.valuation.specs.declared.Valued.{Valued}
 use Rattle.valuation.specs.Valued.{left as leftOf}
 use Rattle.pricing.specs.Joining.{quantile-is}
@@ -50,6 +50,7 @@ module _ (text : List ℕ) (r : Reading) (level : ℕ) (n : Lengths) (p : Priced
             rw (quantile-is k)
             (subst (λ (x : Answer). QuantileWithin fund x level (quantileOf level (horizonIn r) (answerTo text n r .F) (answerTo text n r .verdict))) (sym (k .answer)) (level-within text n r fund (ok fund z) z (v ∙ e) level l));
         never-below = λ fund z e. subst (λ (x : Answer). NeverBelow fund x) (sym (k .answer)) (never-below text n r fund (ok fund z) z (v ∙ e));
+        average = λ fund z e. average text n r fund z (v ∙ e);
       }
 
 module _ (file : List ℕ) (p : Priced) where

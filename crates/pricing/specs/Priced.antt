@@ -18,7 +18,7 @@ use Rattle.fund.specs.Quantile.{quantileOf}
 use Rattle.fund.specs.Answer.{part, Answer, answerTo}
 use Rattle.fund.specs.Listing.{horizonIn}
 use Rattle.fund.specs.Sheets.{sheetReading}
-use Rattle.fund.specs.Distance.{WithinBounds, NeverBelow, QuantileWithin}
+use Rattle.fund.specs.Distance.{WithinBounds, AverageExcess, NeverBelow, QuantileWithin}
 use Rattle.laws.specs.Ranges.{FundOk}
 use Rattle.matching.specs.declared.table.Matched.{Matched}
 use Rattle.matching.specs.Matching.{matching}
@@ -57,13 +57,14 @@ pub record Answers (text : List ℕ) (r : Reading) (level : ℕ) (p : Priced) (a
 
 -- The contract of a call. For each sequence of bytes, any level and any lengths of the slices, the answer is the definition's: number,
 -- place, part, figures, every lent cell, and the answer at the level. And demand 3: whenever it accepts, each f(x), each F(x) and the premium are
--- within their bounds of the exact values; the answer at a level of at most 10^12 is right but for the bounds of the sums; and the gross premium is
--- never below the exact premium's loaded worth. The reading is that of a file, whose text it is, or that of a header text and two sheets.
+-- within their bounds of the exact values; the answer at a level of at most 10^12 is right but for the bounds of the sums; the gross premium is
+-- never below the exact premium's loaded worth; and with lambda 0 the exact premium is the average excess over M. The reading is that of a file, whose text it is, or that of a header text and two sheets.
 pub record Prices (text : List ℕ) (r : Reading) (level : ℕ) (n : Lengths) (p : Priced) (a : Answer) : Type 0 where
   pub answers : Answers text r level p a (answerTo text n r)
   pub distance : (fund : FundFile) → r ≡ read fund → a .verdict ≡ Accepted → WithinBounds fund a
   pub level-within : (fund : FundFile) → r ≡ read fund → a .verdict ≡ Accepted → level ≤ most-level → QuantileWithin fund a level (p .quantile)
   pub never-below : (fund : FundFile) → r ≡ read fund → a .verdict ≡ Accepted → NeverBelow fund a
+  pub average : (fund : FundFile) → r ≡ read fund → a .verdict ≡ Accepted → AverageExcess fund
 
 -- What is read from a source.
 abbrev pub readingFrom : Source → List ℕ → List ℕ → List ℕ → Reading

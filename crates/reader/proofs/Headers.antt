@@ -73,22 +73,22 @@ module _ (after : After) (file : List ℕ) (k at : ℕ) (h : k < length headerLi
 -- What a step answers.
 module _ (file : List ℕ) (k at : ℕ) (h : k < length headerLines) where
   pub step-missing : length file ≤ at → HeaderStepped file k at (Stopped Form)
-  step-missing g after ns = header-missing after file k at h ns g
+  step-missing g = record { same = λ after ns. header-missing after file k at h ns g; inside = omega arith }
 
   module _ (l : Line) (n : NextLine file at l) (r : Numbers) (e : numbersIn (numbersOf k) r ≡ spelled (headerLine k .key) (numbersOf k) (lineIn file l)) where
     pub step-form : r .spelled ≡ false → HeaderStepped file k at (Stopped Form)
-    step-form g after ns = header-form after file k at h ns l n (sym e ∙ numbers-none (numbersOf k) r g)
+    step-form g = record { same = λ after ns. header-form after file k at h ns l n (sym e ∙ numbers-none (numbersOf k) r g); inside = omega arith }
 
     module _ (g : r .spelled ≡ true) where
       is : spelled (headerLine k .key) (numbersOf k) (lineIn file l) ≡ some (take (numbersOf k) (r .values))
       is = sym e ∙ numbers-some (numbersOf k) r g
 
       pub step-range : inRanges (headerLine k .ranges) (lineNumbers k (getD (r .values) 0 0) (getD (r .values) 1 0)) ≡ false → HeaderStepped file k at (Stopped Range)
-      step-range b after ns = header-range after file k at h ns l n (r .values) is b
+      step-range b = record { same = λ after ns. header-range after file k at h ns l n (r .values) is b; inside = omega arith }
 
       pub step-next : inRanges (headerLine k .ranges) (lineNumbers k (getD (r .values) 0 0) (getD (r .values) 1 0)) ≡ true →
           HeaderStepped file k at (Values (getD (r .values) 0 0) (getD (r .values) 1 0) (l .next))
-      step-next b after ns = header-next after file k at h ns l n (r .values) is b
+      step-next b = record { same = λ after ns. header-next after file k at h ns l n (r .values) is b; inside = n .inside }
 
 pub header-start : (after : After) (file : List ℕ) → readHeader after headerLines 1 [] (lines file) ≡ headerFrom after file 0 [] 0
 unfolding lines

@@ -106,20 +106,20 @@ getD-none f (x ∷ xs) zero d e = let z : _≡_ {A = ℕ} 0 1 = cc in absurd (om
 getD-none f (x ∷ xs) (suc n) d e = getD-none f xs n d e
 
 module _ (file : List ℕ) (passed at : ℕ) (p : Passed file passed at) where
-  pub line-there : (place : ℕ) (l : Line) → place - 1 ≡ passed → NextLine file at l → record { start = l .start; size = l .end - l .start } ≡ lineAt file place
+  pub line-there : (before : ℕ) (l : Line) → before ≡ passed → NextLine file at l → record { start = l .start; size = l .end - l .start } ≡ lineAt file (suc before)
   unfolding lineAt
-  line-there place l e n =
+  line-there before l e n =
       rw e
       (sym
       (getD-first (λ (x : FundLine). record { start = x .start; size = length (x .text) }) (lines file) passed (lineIn file l) (linesAt file (l .next)) empty (p .left ∙ n .first)
       ∙ ap (λ (m : ℕ). record { start = l .start; size = m }) (length-take-le (l .end - l .start) (drop (l .start) file) (omega (arith, length-drop (l .start) file, n .within .inside)))))
 
-  pub line-missing : (place : ℕ) → passed ≤ place - 1 → length file ≤ at → empty ≡ lineAt file place
+  pub line-missing : (before : ℕ) → passed ≤ before → length file ≤ at → empty ≡ lineAt file (suc before)
   unfolding lineAt linesFrom
-  line-missing place more h =
-      let e : passed + (place - 1 - passed) ≡ place - 1 = omega arith in
+  line-missing before more h =
+      let e : passed + (before - passed) ≡ before = omega arith in
       let none-left : drop passed (lines file) ≡ [] = p .left ∙ rw (drop-of-length-le file h) in
-      sym (getD-none (λ (x : FundLine). record { start = x .start; size = length (x .text) }) (lines file) (place - 1) empty (sym (drop-drop (place - 1 - passed) passed (lines file) ∙ ap (λ n. drop n (lines file)) e) ∙ ap (drop (place - 1 - passed)) none-left ∙ drop-of-length-le [] {i = place - 1 - passed} (omega arith)))
+      sym (getD-none (λ (x : FundLine). record { start = x .start; size = length (x .text) }) (lines file) before empty (sym (drop-drop (before - passed) passed (lines file) ∙ ap (λ n. drop n (lines file)) e) ∙ ap (drop (before - passed)) none-left ∙ drop-of-length-le [] {i = before - passed} (omega arith)))
 
   pub passed-next : (l : Line) → NextLine file at l → Passed file (passed + 1) (l .next)
   passed-next l n = record { left = sym (drop-drop 1 passed (lines file)) ∙ ap (drop 1) (p .left ∙ n .first) }

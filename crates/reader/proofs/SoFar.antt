@@ -92,7 +92,7 @@ pub start : (file : List ℕ) (fund : Fund) (at : ℕ) → HeaderRead file (Whol
 unfolding reading
 start file fund at e =
     let z : suc (length headerLines) ≡ suc (length headerLines + 0 + 0) = omega arith in
-    record { rs = []; ms = []; tables = blank; same = e fileRows ∙ ap (λ k. readRows k fund [] [] (linesAt file at)) z }
+    record { rs = []; ms = []; tables = blank; same = e .same fileRows ∙ ap (λ k. readRows k fund [] [] (linesAt file at)) z }
 
 module _ (file : List ℕ) (fund : Fund) (rates : List Rate) (members : List Member) (rated enrolled least lives at : ℕ) (s : RowsSoFar file fund rates members rated enrolled least lives at) where
   after : (step : RowStep) → RowStepped file at rated enrolled least lives step → reading file ≡ afterRowLine file fund (s .rs) (s .ms) step

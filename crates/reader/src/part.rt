@@ -3,6 +3,7 @@ use crate::line;
 use fund::Refusal;
 use fund::Verdict;
 ghost use mathlib.Core.Path.{_≡_};
+ghost use Prim.Native.Nat.{suc};
 ghost use Rattle.fund.specs.Answer.{namesLine, lineAt, part};
 ghost use Rattle.reader.specs.Part.{Spans};
 
@@ -36,15 +37,15 @@ fn names_line(why: Refusal) -> bool
     }
 }
 
-// The line at a place, counted from 1, without its line feed; where it is missing, an empty part.
-fn line_at(file: &[u8], place: u64) -> Part
-    ensures { λ r. ⌜ Spans (now (file .entry)) (lineAt (now (file .entry)) place) r ⌝ }
+// The line behind so many others, without its line feed; where it is missing, an empty part.
+fn line_behind(file: &[u8], before: u64) -> Part
+    ensures { λ r. ⌜ Spans (now (file .entry)) (lineAt (now (file .entry)) (suc before)) r ⌝ }
 {
     let mut at: usize = 0;
-    let mut left = place;
+    let mut left = before;
     while at < file.len() {
         let l = line::next_line(file, at);
-        if left <= 1 {
+        if left == 0 {
             return Part {
                 start: l.start,
                 end: l.end,
@@ -54,6 +55,16 @@ fn line_at(file: &[u8], place: u64) -> Part
         left -= 1;
     }
     empty()
+}
+
+// The line at a place, counted from 1; at place 0 none.
+fn line_at(file: &[u8], place: u64) -> Part
+    ensures { λ r. ⌜ Spans (now (file .entry)) (lineAt (now (file .entry)) place) r ⌝ }
+{
+    if place == 0 {
+        return empty();
+    }
+    line_behind(file, place - 1)
 }
 
 // "For a line's refusal the host is handed that line itself, a part of its own bytes without the line feed; for place 0, for

@@ -18,7 +18,7 @@ use Rattle.sheet_reader.specs.Rows.{rowsLeft, rowsFrom}
 module _ (header rates members : List ℕ) where
   pub header-stops : (why : Refusal) (place : ℕ) → HeaderRead header (Stopped why place) → sheetReading header rates members ≡ stopped why place
   unfolding sheetReading
-  header-stops why place e = e (readSheets (sheetRows rates members))
+  header-stops why place e = e .same (readSheets (sheetRows rates members))
 
   module _ (fund : Fund) (at : ℕ) (e : HeaderRead header (Whole fund at)) where
     pub more-bytes : at < length header → sheetReading header rates members ≡ stopped Form (length headerLines + 1)
@@ -26,10 +26,10 @@ module _ (header rates members : List ℕ) where
     more-bytes h =
         let w = line-left header at h in
         let z : suc (length headerLines) ≡ length headerLines + 1 = omega arith in
-        e (readSheets (sheetRows rates members)) ∙ rw (w .1 .1) (ap (stopped Form) z)
+        e .same (readSheets (sheetRows rates members)) ∙ rw (w .1 .1) (ap (stopped Form) z)
 
     pub rows-follow : length header ≤ at → sheetReading header rates members ≡ rowsFrom rates members fund [] []
     unfolding sheetReading readSheets linesFrom rowsFrom rowsLeft sheetRows
     rows-follow h =
         let z : suc (length headerLines) ≡ suc (length headerLines + 0 + 0) = omega arith in
-        e (readSheets (sheetRows rates members)) ∙ rw (drop-of-length-le header h) (ap (λ n. readSheetRows n fund [] [] (sheetRows rates members)) z)
+        e .same (readSheets (sheetRows rates members)) ∙ rw (drop-of-length-le header h) (ap (λ n. readSheetRows n fund [] [] (sheetRows rates members)) z)

@@ -1,6 +1,7 @@
 // The spelling of a text: where a byte stands, whether a key begins it, and its numbers between commas.
 mod level;
 
+use fund::Fund;
 pub use level::Argument;
 pub use level::level_of;
 ghost use mathlib.Core.Path.{_≡_};
@@ -9,6 +10,8 @@ ghost use Prim.Native.Nat.{_+_, _≤_};
 ghost use lib.ListN.{length, drop, replicate};
 ghost use Rattle.fund.specs.Spelling.{behind, numbers};
 ghost use Rattle.spelling.specs.Text.{before, behindIf, readNumber, numbersIn, NumbersOf};
+
+const MOST_DIGITS: usize = Fund::MOST_DIGITS as usize;
 
 // A number of one to seven digits.
 enum Number {
@@ -61,7 +64,7 @@ fn number_of(text: &[u8]) -> Number
     if n == 0 {
         return Number::Misspelled;
     }
-    if 7 < n {
+    if MOST_DIGITS < n {
         return Number::Misspelled;
     }
     if text[0] == b'0' {

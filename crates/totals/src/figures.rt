@@ -4,7 +4,6 @@ use fund::Frequencies;
 use fund::Fund;
 use fund::Life;
 use fund::ModelPoint;
-use rounding::MILLION;
 use rounding::UNIT;
 use whole::least;
 use whole::up;
@@ -39,7 +38,7 @@ fn lambda_part(m: Life, ab: Frequencies) -> u64
     requires { ⌜ InRange m × FrequenciesOk ab ⌝ }
     ensures { λ r. ⌜ r ≡ lambdaPart ab m ⌝ }
 {
-    if m.group == 1 {
+    if m.group == Fund::SINGLE {
         return 0;
     }
     (m.q * ab.death + m.i * ab.disability) * 1000
@@ -72,9 +71,9 @@ fn single_part(m: Life) -> u64
     requires { ⌜ InRange m ⌝ }
     ensures { λ r. ⌜ r ≡ singleLoad m ⌝ }
 {
-    if m.group == 1 {
+    if m.group == Fund::SINGLE {
         let claim = m.q + m.i;
-        return up(UNIT * claim, MILLION - claim);
+        return up(UNIT * claim, Fund::MOST_RATE - claim);
     }
     0
 }
@@ -107,7 +106,7 @@ fn next_weight(m: Life, last: u64) -> u64
     ensures { λ r. ⌜ r ≡ upOf (last * claim m) (stay m) ⌝ }
 {
     let claim = m.q + m.i;
-    up(last * claim, MILLION - claim)
+    up(last * claim, Fund::MOST_RATE - claim)
 }
 
 // w(n), from w(0) = 10^12.
@@ -129,9 +128,9 @@ fn truncation_part(m: Life, r: u64) -> u64
     requires { ⌜ InRange m × (r ≤ most-order) ⌝ }
     ensures { λ x. ⌜ x ≡ truncationPart r m ⌝ }
 {
-    if m.group == 1 {
+    if m.group == Fund::SINGLE {
         let claim = m.q + m.i;
-        let stay = MILLION - claim;
+        let stay = Fund::MOST_RATE - claim;
         return up(weight(m, r + 1) * stay, (stay - claim) * (r + 1));
     }
     0
@@ -174,7 +173,7 @@ fn mean_part(m: Life, ab: Frequencies) -> u64
     requires { ⌜ InRange m × FrequenciesOk ab ⌝ }
     ensures { λ r. ⌜ r * 1000 ≡ meanPart ab m ⌝ }
 {
-    if m.group == 1 {
+    if m.group == Fund::SINGLE {
         return (weighed(m.q, m.d) + weighed(m.i, m.e)) * 1000;
     }
     weighed(m.q * ab.death, m.d) + weighed(m.i * ab.disability, m.e)

@@ -6,7 +6,7 @@ use fund::ModelPoint;
 ghost use mathlib.Core.Path.{_≡_};
 ghost use mathlib.Core.Bool.{true};
 ghost use Prim.Native.Nat.{min, _+_, _≤_};
-ghost use Rattle.fund.specs.Limits.{most-lives};
+ghost use Rattle.fund.specs.Limits.{most-lives, most-rate};
 ghost use Rattle.laws.specs.Accepted.{All, Limited};
 ghost use Rattle.laws.specs.Copies.{livesOf};
 ghost use Rattle.laws.specs.Ranges.{FrequenciesOk};
@@ -82,10 +82,10 @@ pub(crate) fn headed(fund: Fund, lives: u64) -> bool
 
 // Refusal 6.
 fn limited(m: Life) -> bool
-    requires { ⌜ (m .q ≤ 1000000) × (m .i ≤ 1000000) ⌝ }
+    requires { ⌜ (m .q ≤ most-rate) × (m .i ≤ most-rate) ⌝ }
     ensures { λ r. ⌜ Tells r (Limited m) ⌝ }
 {
-    if m.group == 1 {
+    if m.group == Fund::SINGLE {
         return m.q + m.i < Fund::HALF;
     }
     true

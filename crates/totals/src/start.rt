@@ -92,7 +92,7 @@ fn product_step(product: Product, p: ModelPoint) -> Product
     requires { ⌜ PointIn p × (product .size ≤ 200 * most-t) × (product .singles ≤ most-lives) ⌝ }
     ensures { λ r. ⌜ Times p product r ⌝ }
 {
-    if p.life.group == 1 {
+    if p.life.group == Fund::SINGLE {
         return Product {
             size: repeated(product.size, p.life, p.lives),
             singles: product.singles + p.lives,

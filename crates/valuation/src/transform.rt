@@ -1,8 +1,8 @@
 // The transform: the terms of each line's lives, added to D and H at their places.
 use fund::Frequencies;
+use fund::Fund;
 use fund::Life;
 use fund::ModelPoint;
-use rounding::MILLION;
 use rounding::UNIT;
 use whole::nearest;
 ghost use mathlib.Core.Path.{_≡_};
@@ -39,7 +39,7 @@ fn entry(m: Life, left: u64, v: u64) -> u64
     if sum == 0 {
         return 0;
     }
-    nearest(sum, MILLION - (m.q + m.i))
+    nearest(sum, Fund::MOST_RATE - (m.q + m.i))
 }
 
 // The row after row n, in its columns 0 to n + 1: v(n+1,l) comes from v(n,l-1) by q and from v(n,l) by i.
@@ -211,7 +211,7 @@ fn add_point(d: &mut [i64], h: &mut [u64], p: ModelPoint, x: Filling)
     requires { ⌜ PointFits (now d) (now h) p x ⌝ }
     ensures { λ _. ⌜ PointAdded (now (d .entry)) (now (h .entry)) p x (now (d .exit)) (now (h .exit)) ⌝ }
 {
-    if p.life.group == 1 {
+    if p.life.group == Fund::SINGLE {
         add_single(d, h, x.horizon, p, x.order);
         return;
     }

@@ -40,7 +40,7 @@ fn put_digit(digit: u64, text: &mut [u8], at: usize) -> usize
 }
 
 // Puts the number in decimal: the digits before the last, then the last.
-pub fn put_decimal(n: u64, text: &mut [u8], at: usize) -> usize
+fn put_decimal(n: u64, text: &mut [u8], at: usize) -> usize
     ensures { λ next. ⌜ Puts (now (text .entry)) at (decimal n) (now (text .exit)) next ⌝ }
 {
     if n < 10 {
@@ -51,7 +51,7 @@ pub fn put_decimal(n: u64, text: &mut [u8], at: usize) -> usize
 }
 
 // Puts the number in decimal, a negative one with its sign.
-pub fn put_signed(z: i64, text: &mut [u8], at: usize) -> usize
+fn put_signed(z: i64, text: &mut [u8], at: usize) -> usize
     ensures { λ next. ⌜ Puts (now (text .entry)) at (signedDecimal z) (now (text .exit)) next ⌝ }
 {
     let n = whole::magnitude(z);

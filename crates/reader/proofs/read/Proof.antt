@@ -28,7 +28,7 @@ returns-2 : tie.Need-returns-2
 unfolding reading
 returns-2 c =
     let e = rw (c .before .before .why .given .1) at (c .before .before .before .before .read-header .ensures) in
-    c .without-rows .ensures ∙ ap fileRead (sym (e fileRows))
+    c .without-rows .ensures ∙ ap fileRead (sym (e .same fileRows))
 
 pub read-spec : {M : Type 1} → statement M
 read-spec =

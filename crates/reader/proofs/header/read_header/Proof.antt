@@ -15,14 +15,14 @@ use Rattle.reader.proofs.header.read_header.Tie as tie
 
 abbrev Inv-loop : tie.InvT-loop
 Inv-loop file firsts₀ seconds₀ at₀ k₀ firsts seconds at k =
-    (k ≤ length headerLines) × (length firsts ≡ length headerLines) × (length seconds ≡ length headerLines) × ((after : After) → readHeader after headerLines 1 [] (lines file) ≡ headerFrom after file k (numbersBefore k firsts seconds) at)
+    (k ≤ length headerLines) × (length firsts ≡ length headerLines) × (length seconds ≡ length headerLines) × (at ≤ length file) × ((after : After) → readHeader after headerLines 1 [] (lines file) ≡ headerFrom after file k (numbersBefore k firsts seconds) at)
 
 abbrev μ-loop : tie.MeasureT-loop
 μ-loop file firsts₀ seconds₀ at₀ k₀ firsts seconds at k = length headerLines - k
 
 loop-holds : tie.Need-loop-holds Inv-loop μ-loop
 unfolding headerLines numbersBefore
-loop-holds c = (omega arith, refl, refl, λ after. header-start after _)
+loop-holds c = (omega arith, refl, refl, omega arith, λ after. header-start after _)
 
 header-step-requires : tie.Need-header-step-requires Inv-loop μ-loop
 unfolding headerLines
@@ -36,10 +36,10 @@ unfolding headerLines
 add-t15 c = omega arith
 
 returns : tie.Need-returns Inv-loop μ-loop
-returns c after =
+returns c =
     let l = c .before .before .before .before .before .loop in
     let e = rw (c .before .why .given .1) at (c .before .before .before .header-step .ensures) in
-    l .inv .3 after ∙ e after (numbersBefore (l .k) (l .firsts) (l .seconds))
+    record { same = λ after. l .inv .4 after ∙ e .same after (numbersBefore (l .k) (l .firsts) (l .seconds)); inside = omega arith }
 
 enum-known-first : tie.Need-enum-known-first Inv-loop μ-loop
 enum-known-first c = search needs
@@ -78,15 +78,16 @@ loop-again c =
       omega arith,
       simp length-set (l .inv .1),
       simp length-set (l .inv .2),
-      λ after. l .inv .3 after ∙ e after (numbersBefore (l .k) (l .firsts) (l .seconds)) ∙ rw (add-one (l .k), numbers-next (l .firsts) (l .seconds) (l .k) _ _ f s),
+      e .inside,
+      λ after. l .inv .4 after ∙ e .same after (numbersBefore (l .k) (l .firsts) (l .seconds)) ∙ rw (add-one (l .k), numbers-next (l .firsts) (l .seconds) (l .k) _ _ f s),
     )
 
 returns-2 : tie.Need-returns-2 Inv-loop μ-loop
 unfolding headerOf headerLines headerLine numbersBefore
-returns-2 c after =
+returns-2 c =
     let l = c .before .loop in
     let z : l .k ≡ length headerLines = omega arith in
-    l .inv .3 after ∙ header-end after _ (l .firsts) (l .seconds) (l .k) (l .at) z
+    record { same = λ after. l .inv .4 after ∙ header-end after _ (l .firsts) (l .seconds) (l .k) (l .at) z; inside = l .inv .3 }
 
 pub read-header-spec : {M : Type 1} → statement M
 unfolding headerLines

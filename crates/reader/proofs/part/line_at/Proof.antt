@@ -1,83 +1,30 @@
--- `reader::part::line_at`: the lines that are passed and those that are left make up the place.
-use mathlib.Core.Path.{_≡_, refl, subst}
+-- `reader::part::line_at`: place 0 has no line, and any other stands behind one line fewer.
+use mathlib.Core.Path.{_≡_, ap, subst}
 use mathlib.Core.List.{List}
-use Prim.Native.Nat.{ℕ, _+_, _-_, _≤_}
+use Prim.Native.Nat.{ℕ, suc, _-_}
 use native.Mathlib.Omega.{arith}
 use borrow.Author.Needs.{needs}
-use lib.ListN.{length}
-use Rattle.fund.specs.Lines.{lines}
-use Rattle.reader.specs.Lines.{Passed}
-use Rattle.reader.proofs.Lines.{line-there, line-missing, passed-next}
+use Rattle.fund.specs.Answer.{empty, lineAt}
+use Rattle.reader.specs.Part.{Spans}
 use Rattle.reader.proofs.Parts.{spans-none}
 use Rattle.reader.proofs.part.line_at.Statement.{statement}
 use Rattle.reader.proofs.part.line_at.Tie as tie
 
-record Inv (file : List ℕ) (place at left : ℕ) : Type 0 where
-  fewer : left - 1 ≤ place - 1
-  passed : Passed file (place - 1 - (left - 1)) at
+no-place : (file : List ℕ) (place : ℕ) → place ≡ 0 → empty ≡ lineAt file place
+unfolding lineAt
+no-place file place e = rw e
 
-abbrev Inv-loop : tie.InvT-loop
-Inv-loop file place at₀ left₀ at left = Inv file place at left
-
-abbrev μ-loop : tie.MeasureT-loop
-μ-loop file place at₀ left₀ at left = length file - at
-
-loop-holds : tie.Need-loop-holds Inv-loop μ-loop
-unfolding lines
-loop-holds c =
-    let n = c .before .args .place - 1 in
-    let z : 0 ≡ n - n = omega arith in
-    record { fewer = omega arith; passed = subst (λ (k : ℕ). Passed (c .before .args .file .now) k 0) z (record { left = refl }) }
-
-next-line-requires : tie.Need-next-line-requires Inv-loop μ-loop
-next-line-requires c κs = search needs
-
-returns : tie.Need-returns Inv-loop μ-loop
+returns : tie.Need-returns
 returns c =
-    let l = c .before .before .before .loop in
-    let n = c .before .next-line .ensures in
-    record {
-      ordered = n .within .ordered;
-      inside = n .within .inside;
-      same = line-there _ _ _ (l .inv .passed) _ _ (omega (arith, l .inv .fewer, c .if1 .taken)) n;
-    }
+    let a = c .before .before .before .args in
+    spans-none _ _ _ (no-place (a .file .now) (a .place) (c .before .if1 .taken)) (c .empty .ensures)
 
-sub-left : tie.Need-sub-left Inv-loop μ-loop
-sub-left c = search needs
-
-loop-less : tie.Need-loop-less Inv-loop μ-loop
-loop-less c =
-    let n = c .before .next-line .ensures in
-    omega (arith, n .later, n .inside)
-
-loop-again : tie.Need-loop-again Inv-loop μ-loop
-loop-again c =
-    let l = c .before .before .before .loop in
-    let n = c .before .next-line .ensures in
-    let a = c .before .before .before .before .before .args in
-    let place = a .place in
-    let z : place - 1 - (l .left - 1) + 1 ≡ place - 1 - (l .left - 1 - 1) = omega (arith, l .inv .fewer, c .if1 .left) in
-    record { fewer = omega (arith, l .inv .fewer); passed = subst (λ (k : ℕ). Passed (a .file .now) k (c .before .next-line .result .next)) z (passed-next _ _ _ (l .inv .passed) _ n) }
-
-empty-requires : tie.Need-empty-requires Inv-loop μ-loop
-empty-requires c κs = search needs
-
-returns-2 : tie.Need-returns-2 Inv-loop μ-loop
+returns-2 : tie.Need-returns-2
 returns-2 c =
-    let l = c .before .before .loop in
-    spans-none _ _ _ (line-missing _ _ _ (l .inv .passed) _ (omega arith) (c .before .loop-test .left)) (c .empty .ensures)
+    let s = c .before in
+    let a = s .before .before .args in
+    let z : suc (a .place - 1) ≡ a .place = omega (arith, s .if1 .left) in
+    subst (λ (n : ℕ). Spans (a .file .now) (lineAt (a .file .now) n) (c .line-behind .result)) z (c .line-behind .ensures)
 
 pub line-at-spec : {M : Type 1} → statement M
-line-at-spec =
-    tie.close
-    (tie.spec
-    Inv-loop
-    μ-loop
-    loop-holds
-    next-line-requires
-    returns
-    sub-left
-    loop-less
-    loop-again
-    empty-requires
-    returns-2)
+line-at-spec = tie.close (tie.spec (λ c κs. search needs) returns (λ c. search needs) (λ c κs. search needs) returns-2)
