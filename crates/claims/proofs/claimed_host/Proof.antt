@@ -8,7 +8,7 @@ use Rattle.claims.proofs.claimed_host.Tie as tie
 returns : tie.Need-returns
 returns c =
     let p = c .before .before .before .before .before .before .before .miguepo-price in
-    (host-demands _ _ _ _ _ _ _ _ _ _ (p .ensures), as-written-out _ _ _ _ (host-answered _ _ _ _ _ _ _ _ _ _ (p .ensures)), host-struct _ _ _ _ _ _ _ _ _ _ (p .ensures))
+    (host-demands _ _ _ _ _ _ _ _ _ _ (p .ensures), (as-written-out _ _ _ _ (host-answered _ _ _ _ _ _ _ _ _ _ (p .ensures)), host-struct _ _ _ _ _ _ _ _ _ _ (p .ensures)))
 
 pub claimed-host-spec : {M : Type 1} → statement M
 claimed-host-spec =

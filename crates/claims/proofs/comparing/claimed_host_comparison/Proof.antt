@@ -10,7 +10,7 @@ returns c =
     let lent = c .before .before .before .before .before .before .before in
     let called = lent .before .before .before .before .before .before .before in
     let k = called .miguepo-compare .ensures in
-    (hosts-plainly _ _ _ _ _ _ _ _ k, host-struct _ _ _ _ _ _ _ _ _ _ (k .old-hosted), host-struct _ _ _ _ _ _ _ _ _ _ (k .new-hosted), comparison-struct _ _ _ _ _ _ _ _ k)
+    (hosts-plainly _ _ _ _ _ _ _ _ k, (host-struct _ _ _ _ _ _ _ _ _ _ (k .old-hosted), (host-struct _ _ _ _ _ _ _ _ _ _ (k .new-hosted), comparison-struct _ _ _ _ _ _ _ _ k)))
 
 pub claimed-host-comparison-spec : {M : Type 1} → statement M
 claimed-host-comparison-spec =
