@@ -1,9 +1,9 @@
 -- The definitions give every row of the tables of answers, from the file's bytes to the part that is handed back and every cell (every-answer); of lengths (every-short), of starts
--- (every-start) and of sheets that are cut short (every-cut). A rate of 1 is taken, the largest (rate-one), and a blank is a NaN
--- and nothing else, infinity neither (only-nan). By computing both sides.
+-- (every-start) and of sheets that are cut short (every-cut). A rate of 1 is taken, the largest (rate-one), a blank is a NaN and
+-- nothing else, infinity neither (only-nan), and place 0 has no line (no-line-0). By computing both sides.
 use mathlib.Core.Path.{_≡_, refl}
 use mathlib.Core.Bool.{Bool, true}
-use mathlib.Core.List.{[], map}
+use mathlib.Core.List.{List, [], map}
 use Prim.Native.Nat.{ℕ, suc, _+_}
 use native.Mathlib.Omega.{arith}
 use lib.Ieee.{Float, nan, inf, fin, binary64, ofBits, ofInt, eq, div}
@@ -25,7 +25,7 @@ use Rattle.fund.specs.Tariff.{loading, withBound, gross}
 use Rattle.fund.specs.Refusals.{numberIn, first, unmatched, half, halfLine, wide, anyShort, short, refuse, at0, firstMember, valued, matched, verdict}
 use Rattle.fund.specs.Quantile.{runningSum}
 use Rattle.fund.specs.Distribution.{distributionBound}
-use Rattle.fund.specs.Answer.{fundTerms, fundStart, fundCells, fundTruncation, fundMean, fundPremium, fundWithin, fundFigures, lineAt, part, refused, lent, accepted, answerOf, answerTo}
+use Rattle.fund.specs.Answer.{empty, fundTerms, fundStart, fundCells, fundTruncation, fundMean, fundPremium, fundWithin, fundFigures, lineAt, part, refused, lent, accepted, answerOf, answerTo}
 use Rattle.fund.specs.Listing.{digitsWithin, decimal, signedDecimal, joined, cellLine, cellLines, listed, refusedLine, printed, horizonIn, listingTo, listing}
 use Rattle.fund.specs.Limits.{most-rate}
 use Rattle.fund.specs.Cells.{leastFirst, cellOf, quotient, orElse, seek, wholeOf, rateOf, atLeast, numberOf, amountOf, rateJoined, memberJoined, rateRowOf, memberRowOf}
@@ -64,3 +64,7 @@ unfolding cellOf
 only-nan nan e = refl
 only-nan (inf s) e = let z : _≡_ {A = ℕ} 0 1 = cc e in absurd (omega arith)
 only-nan (fin s m k) e = let z : _≡_ {A = ℕ} 0 1 = cc e in absurd (omega arith)
+
+pub no-line-0 : (file : List ℕ) → lineAt file 0 ≡ empty
+unfolding lineAt
+no-line-0 file = refl
