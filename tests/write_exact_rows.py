@@ -1,4 +1,4 @@
-"""Writes crates/fund/specs/ExactRows.antt from the funds and exact values of exact_rows.py.
+"""Writes crates/tables/specs/ExactRows.antt from the funds and exact values of exact_rows.py.
 
     python3 tests/write_exact_rows.py          writes the file
     python3 tests/write_exact_rows.py check    says whether the file is what the calculation gives today
@@ -9,13 +9,13 @@ import sys
 
 import exact_rows
 
-TARGET = pathlib.Path(__file__).resolve().parent.parent / "crates/fund/specs/ExactRows.antt"
+TARGET = pathlib.Path(__file__).resolve().parent.parent / "crates/tables/specs/ExactRows.antt"
 
 HEAD = """-- Small funds with their exact values as fractions in lowest terms, from an independent calculation (tests/exact.py).
 -- Written by tests/write_exact_rows.py.
 use mathlib.Core.List.{List, [], _∷_}
 use Prim.Native.Nat.{ℕ}
 use Rattle.fund.specs.Starred.{text}
 
 pub record Fraction : Type 0 where
   pub num : ℕ

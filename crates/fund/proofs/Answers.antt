@@ -1,18 +1,9 @@
--- The definitions give every row of the tables of answers, from the file's bytes to the part that is handed back and every cell (every-answer); of lengths (every-short), of starts
--- (every-start) and of sheets that are cut short (every-cut). A rate of 1 is taken, the largest (rate-one), a blank is a NaN and
--- nothing else, infinity neither (only-nan), and place 0 has no line (no-line-0). By computing both sides.
+-- The definitions give every row of the tables of answers, from the file's bytes to the part that is handed back and every cell (every-answer); of lengths (every-short) and of
+-- starts (every-start). Place 0 has no line (no-line-0). By computing both sides.
 use mathlib.Core.Path.{_≡_, refl}
-use mathlib.Core.Bool.{Bool, true}
 use mathlib.Core.List.{List, [], map}
-use Prim.Native.Nat.{ℕ, suc, _+_}
-use native.Mathlib.Omega.{arith}
-use lib.Ieee.{Float, nan, inf, fin, binary64, ofBits, ofInt, eq, div}
-use lib.ListN.{length}
+use Prim.Native.Nat.{ℕ}
 use Rattle.rounding.specs.Rounding.{near, nearest, up}
-use Rattle.fund.specs.declared.SheetCell.{SheetCell}
-use Rattle.fund.specs.declared.SheetCell.the-variants.{Number, Blank}
-use Rattle.fund.specs.declared.Taken.{Taken}
-use Rattle.fund.specs.declared.Taken.the-variants.{As}
 use Rattle.fund.specs.Base.{bytes, total, sum, sumℤ, table, alternate}
 use Rattle.fund.specs.Lines.{begun, linesFrom, lines}
 use Rattle.fund.specs.Spelling.{digits, isNumber, valueFrom, value, inFirst, fields, allNumbers, numbers, behind, spelled}
@@ -27,12 +18,8 @@ use Rattle.fund.specs.Quantile.{runningSum}
 use Rattle.fund.specs.Distribution.{distributionBound}
 use Rattle.fund.specs.Answer.{empty, fundTerms, fundStart, fundCells, fundTruncation, fundMean, fundPremium, fundWithin, fundFigures, lineAt, part, refused, lent, accepted, answerOf, answerTo}
 use Rattle.fund.specs.Listing.{digitsWithin, decimal, signedDecimal, joined, cellLine, cellLines, listed, refusedLine, printed, horizonIn, listingTo, listing}
-use Rattle.fund.specs.Limits.{most-rate}
-use Rattle.fund.specs.Cells.{leastFirst, cellOf, quotient, orElse, seek, wholeOf, rateOf, atLeast, numberOf, amountOf, rateJoined, memberJoined, rateRowOf, memberRowOf}
-use Rattle.fund.specs.Sheets.{rowCount, rowAt, rowsOf, sheetRows, readSheetRows, readSheets, sheetReading, sheetListing}
 use Rattle.fund.specs.Starred.{text, file, oneMember}
-use Rattle.fund.specs.SheetFunds.{headerText, firstHeader, one}
-use Rattle.fund.specs.Answers.{AnswerRow, answers, ShortRow, shorts, StartRow, starts, SheetBytes, cutSheets}
+use Rattle.fund.specs.Answers.{AnswerRow, answers, ShortRow, shorts, StartRow, starts}
 
 pub every-answer : map (λ (r : AnswerRow). record { file = r .file; lengths = r .lengths; answer = answerTo (r .file) (r .lengths) (reading (r .file)) }) answers ≡ answers
 unfolding near nearest up bytes total sum sumℤ table alternate begun linesFrom lines digits isNumber valueFrom value inFirst fields allNumbers numbers behind spelled between inRanges headerLines headerOf rowOf rising rateInRange livesInAll memberInRange noMember atEnd readRows readHeader reading heldUntil rateInForce folded life point points copies lives unit nextRow row placed termOf rowTerms singleTerms deathWeight disabilityWeight replacedTerm replacedTerms terms sumD sumH D H lambda load w truncation mean t alternating multiplied start c startBound entries sumR sumF nextCell cells sumBelow boundBelow premium within loading withBound gross first unmatched half halfLine wide anyShort short refuse at0 firstMember valued matched verdict runningSum distributionBound fundTerms fundStart fundCells fundTruncation fundMean fundPremium fundWithin fundFigures lineAt part refused lent accepted answerOf answerTo digitsWithin decimal signedDecimal joined cellLine cellLines listed refusedLine printed horizonIn listingTo text file answers
@@ -45,25 +32,6 @@ every-short = refl
 pub every-start : map (λ (r : StartRow). record { lambda = r .lambda; start = start (r .lambda) []; bound = startBound (r .lambda) [] }) starts ≡ starts
 unfolding near up total sum sumℤ alternate unit t alternating multiplied start c startBound starts
 every-start = refl
-
-pub every-cut : map (λ (r : SheetBytes). record { rates = r .rates; members = r .members; listing = sheetListing firstHeader (r .rates) (r .members) }) cutSheets ≡ cutSheets
-unfolding near nearest up bytes total sum sumℤ table alternate begun linesFrom lines digits isNumber valueFrom value inFirst fields allNumbers numbers behind spelled between inRanges headerLines headerOf rowOf rising rateInRange livesInAll memberInRange noMember atEnd readRows readHeader reading heldUntil rateInForce folded life point points copies lives unit nextRow row placed termOf rowTerms singleTerms deathWeight disabilityWeight replacedTerm replacedTerms terms sumD sumH D H lambda load w truncation mean t alternating multiplied start c startBound entries sumR sumF nextCell cells sumBelow boundBelow premium within loading withBound gross first unmatched half halfLine wide anyShort short refuse at0 firstMember valued matched verdict runningSum distributionBound fundTerms fundStart fundCells fundTruncation fundMean fundPremium fundWithin fundFigures lineAt part refused lent accepted answerOf answerTo digitsWithin decimal signedDecimal joined cellLine cellLines listed refusedLine printed horizonIn listingTo text file leastFirst ofBits eq ofInt cellOf orElse seek wholeOf atLeast numberOf amountOf memberJoined rateRowOf memberRowOf rowCount rowAt rowsOf sheetRows readSheetRows readSheets sheetReading headerText cutSheets
-every-cut = refl
-
--- the largest number that is asked comes first
-seek-first : (p : ℕ → Bool) (n : ℕ) → p n ≡ true → seek p (suc n) ≡ As n
-unfolding seek orElse
-seek-first p n e = rw e
-
-pub rate-one : rateOf (ofBits binary64 (leastFirst one)) ≡ As most-rate
-unfolding rateOf quotient leastFirst eq ofBits div ofInt
-rate-one = seek-first (λ (k : ℕ). eq (ofBits binary64 (leastFirst one)) (quotient k 1000000)) most-rate refl
-
-pub only-nan : (x : Float) → cellOf x ≡ Blank → x ≡ nan
-unfolding cellOf
-only-nan nan e = refl
-only-nan (inf s) e = let z : _≡_ {A = ℕ} 0 1 = cc e in absurd (omega arith)
-only-nan (fin s m k) e = let z : _≡_ {A = ℕ} 0 1 = cc e in absurd (omega arith)
 
 pub no-line-0 : (file : List ℕ) → lineAt file 0 ≡ empty
 unfolding lineAt

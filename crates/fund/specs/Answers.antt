@@ -1,5 +1,5 @@
 -- Files and lengths of the five slices with the whole answer: number and place, the part that is handed back, the figures and every lent cell, of funds that are
--- accepted and refused. Then starts of a lambda, and sheets of bytes.
+-- accepted and refused. Then lengths that are short, and starts of a lambda.
 use mathlib.Core.List.{List, [], _∷_, _++_}
 use Prim.Native.Nat.{ℕ}
 use Prim.Native.String.{String}
@@ -11,7 +11,6 @@ use Rattle.fund.specs.Base.{bytes}
 use Rattle.fund.specs.Refusals.{Lengths}
 use Rattle.fund.specs.Answer.{Part, empty, Answer}
 use Rattle.fund.specs.Starred.{text, file, oneMember}
-use Rattle.fund.specs.SheetFunds.{firstHeader, oldest, one}
 
 pub record AnswerRow : Type 0 where
   pub file : List ℕ
@@ -133,17 +132,4 @@ starts =
       start = negsuc 308701766588231943315804754800380535667034216802275;
       bound = 13368227154426655636981793038052226541;
     }
-    ∷ []
-
--- Sheets whose last row is cut short, behind the header text of the first fund: of the rates, of the members, and behind a row that is taken.
-pub record SheetBytes : Type 0 where
-  pub rates : List ℕ
-  pub members : List ℕ
-  pub listing : List ℕ
-
-unfoldable pub cutSheets : List SheetBytes
-cutSheets =
-    record { rates = 0 ∷ []; members = []; listing = text ("refused=11,1" ∷ []) }
-    ∷ record { rates = []; members = 0 ∷ []; listing = text ("refused=11,1" ∷ []) }
-    ∷ record { rates = []; members = oldest one ++ (0 ∷ []); listing = text ("refused=11,2" ∷ []) }
     ∷ []

@@ -20,8 +20,4 @@ pub mod Distance
 pub mod Starred
 pub mod Distributions
 pub mod SeveralLives
-pub mod SheetFunds
-pub mod Levels
-pub mod Tariffs
-pub mod ExactRows
 pub mod Answers

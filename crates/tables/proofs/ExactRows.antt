@@ -4,15 +4,15 @@ use mathlib.Core.Path.{_≡_, refl}
 use mathlib.Core.List.{List, [], _∷_, _++_, map}
 use Prim.Native.Nat.{ℕ, suc, _*_, _^_}
 use lib.IntN.{ℤ, pos, _*ℤ_}
 use Rattle.fund.specs.Base.{bytes, total, sum, sumℤ, table}
 use Rattle.fund.specs.Lines.{begun, linesFrom, lines}
 use Rattle.fund.specs.Spelling.{digits, isNumber, valueFrom, value, inFirst, fields, allNumbers, numbers, behind, spelled}
 use Rattle.fund.specs.Reading.{FundFile, Reading, read, stopped, between, inRanges, headerLines, headerOf, rowOf, rising, rateInRange, livesInAll, memberInRange, noMember, atEnd, readRows, readHeader, reading}
 use Rattle.fund.specs.Folding.{heldUntil, rateInForce, folded, life, point, points, copies, lives}
 use Rattle.fund.specs.Transform.{deathWeight, disabilityWeight, lambda, mean}
 use Rattle.fund.specs.Exact.{factorial, singles, denominator, shifted, one, singlePart, weightAt, convolved, fold, series, replacedPart, power, exponential, exact, exactPremium, after, outcomes, excess}
 use Rattle.fund.specs.Starred.{text}
-use Rattle.fund.specs.ExactRows.{Fraction, ExactRow, exactRows}
+use Rattle.tables.specs.ExactRows.{Fraction, ExactRow, exactRows}
 
 -- The exact values from x on, the exact premium and the average excess, each times the row's denominator.
 abbrev valuesFrom : FundFile → ℕ → List Fraction → List ℤ

@@ -4,24 +4,24 @@ use mathlib.Core.Path.{_≡_, refl}
 use mathlib.Core.List.{map}
 use lib.Ieee.{ofBits, ofInt, eq}
 use Rattle.rounding.specs.Rounding.{near, nearest, up}
 use Rattle.fund.specs.Base.{bytes, total, sum, sumℤ, table, alternate}
 use Rattle.fund.specs.Lines.{begun, linesFrom, lines}
 use Rattle.fund.specs.Spelling.{digits, isNumber, valueFrom, value, inFirst, fields, allNumbers, numbers, behind, spelled}
 use Rattle.fund.specs.Reading.{between, inRanges, headerLines, headerOf, rising, rateInRange, livesInAll, memberInRange, readHeader}
 use Rattle.fund.specs.Folding.{heldUntil, rateInForce, folded, life, point, points, copies, lives}
 use Rattle.fund.specs.Transform.{unit, nextRow, row, placed, termOf, rowTerms, singleTerms, deathWeight, disabilityWeight, replacedTerm, replacedTerms, terms, sumD, sumH, D, H, lambda, load, w, truncation, mean}
 use Rattle.fund.specs.Recursion.{t, alternating, multiplied, start, c, startBound, entries, sumR, sumF, nextCell, cells}
 use Rattle.fund.specs.Premium.{sumBelow, boundBelow, premium, within}
 use Rattle.fund.specs.Tariff.{loading, withBound, gross}
 use Rattle.fund.specs.Refusals.{first, unmatched, half, halfLine, wide, anyShort, short, refuse, at0, firstMember, valued, matched, verdict}
 use Rattle.fund.specs.Quantile.{runningSum}
 use Rattle.fund.specs.Distribution.{distributionBound}
 use Rattle.fund.specs.Answer.{fundTerms, fundStart, fundCells, fundTruncation, fundMean, fundPremium, fundWithin, fundFigures, lineAt, part, refused, lent, accepted, answerOf, answerTo}
 use Rattle.fund.specs.Listing.{digitsWithin, decimal, signedDecimal, joined, cellLine, cellLines, listed, refusedLine, printed, horizonIn, enough, listingTo}
 use Rattle.fund.specs.Cells.{leastFirst, cellOf, orElse, seek, wholeOf, atLeast, numberOf, amountOf, memberJoined, memberRowOf}
 use Rattle.fund.specs.Sheets.{readSheetRows, readSheets, rowsReading}
 use Rattle.fund.specs.Starred.{text}
-use Rattle.fund.specs.SheetFunds.{SheetFund, RowBytes, headerText, sheetFunds, memberBytes}
+use Rattle.tables.specs.SheetFunds.{SheetFund, RowBytes, headerText, sheetFunds, memberBytes}
 
 -- What the definitions give for a table's row.
 abbrev given : SheetFund → SheetFund
