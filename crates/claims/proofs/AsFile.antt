@@ -9,8 +9,8 @@ use Rattle.fund.specs.Quantile.{quantileOf}
 use Rattle.fund.specs.Answer.{Answer, answerTo, answer}
 use Rattle.fund.specs.Listing.{horizonIn}
 use Rattle.fund.specs.Sheets.{sheetReading, fileWith}
-use Rattle.laws.specs.SheetFile.{same-reading}
-use Rattle.laws.specs.SheetAnswer.{no-part, same-answer}
+use Rattle.equivalence.specs.SheetFile.{same-reading}
+use Rattle.equivalence.specs.SheetAnswer.{no-part, same-answer}
 use Rattle.pricing.specs.Priced.{horizonWith}
 use Rattle.claims.specs.Demands.{Received, partBytes}
 use Rattle.claims.specs.Sheets.{PricedAsFile}

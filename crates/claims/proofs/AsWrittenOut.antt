@@ -13,9 +13,9 @@ use Rattle.fund.specs.Refusals.{Lengths, numberIn, placeIn}
 use Rattle.fund.specs.Quantile.{quantileOf}
 use Rattle.fund.specs.Answer.{answer}
 use Rattle.fund.specs.Listing.{horizonIn}
-use Rattle.laws.specs.SameRates.{later}
-use Rattle.laws.specs.WrittenOut.{outFile, outPlace}
-use Rattle.laws.specs.WrittenFile.{outText, out-read, out-priced}
+use Rattle.equivalence.specs.SameRates.{later}
+use Rattle.equivalence.specs.WrittenOut.{outFile, outPlace}
+use Rattle.equivalence.specs.WrittenFile.{outText, out-read, out-priced}
 use Rattle.pricing.specs.Priced.{horizonWith}
 use Rattle.claims.specs.Demands.{Received}
 use Rattle.claims.specs.WrittenOut.{PricedWrittenOut}

@@ -10,8 +10,8 @@ use Rattle.fund.specs.Refusals.{Lengths, numberIn, placeIn}
 use Rattle.fund.specs.Quantile.{quantileOf}
 use Rattle.fund.specs.Answer.{answer}
 use Rattle.fund.specs.Listing.{horizonIn}
-use Rattle.laws.specs.WrittenOut.{outPlace}
-use Rattle.laws.specs.WrittenFile.{outText}
+use Rattle.equivalence.specs.WrittenOut.{outPlace}
+use Rattle.equivalence.specs.WrittenFile.{outText}
 use Rattle.pricing.specs.Priced.{horizonWith}
 use Rattle.claims.specs.Demands.{Received, Method}
 

@@ -1,4 +1,5 @@
 pub mod Lines
 pub mod Spelling
 pub mod Reading
+pub mod Sheets
 pub mod Prefix

@@ -15,7 +15,7 @@ use Rattle.fund.specs.Refusals.{Lengths, verdict}
 use Rattle.fund.specs.Answer.{fundCells, refused, answerOf, answerTo}
 use Rattle.fund.specs.Listing.{printed, horizonIn, enough, listingTo, listing}
 use Rattle.fund.specs.Sheets.{sheetRows, readSheets, sheetReading, sheetListing}
-use Rattle.laws.specs.SheetPrefix.{sheets-first}
+use Rattle.prefix.specs.Sheets.{sheets-first}
 use Rattle.prefix.specs.Lines.{lines-cut}
 use Rattle.prefix.specs.Reading.{bytes-for, KeysShort, header-same, file-behind, sheets-behind}
 use Rattle.prefix.specs.Spelling.{most-line}

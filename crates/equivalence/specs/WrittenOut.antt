@@ -21,9 +21,9 @@ use Rattle.fund.specs.Folding.{rateInForce, folded, life, point, points, copies
 use Rattle.fund.specs.Refusals.{first, unmatched, half, halfLine, Lengths, firstMember, matched, verdict}
 use Rattle.fund.specs.Answer.{fundCells, refused, accepted, answerOf, answerTo}
 use Rattle.fund.specs.Distance.{fileDenominator, exactAt, exactPremiumOf}
 use Rattle.laws.specs.Accepted.{All}
 use Rattle.laws.specs.Copies.{copies-append}
-use Rattle.laws.specs.SameRates.{verdictFor, moved, first-moved, later, verdict-later, SameButPlaces}
+use Rattle.equivalence.specs.SameRates.{verdictFor, moved, first-moved, later, verdict-later, SameButPlaces}
 
 -- A member line of one life, and a line as so many of these.
 unfoldable pub oneLife : Member → Member

@@ -22,10 +22,10 @@ use Rattle.fund.specs.Reading.{FundFile, Reading, read, stopped, reading}
 use Rattle.fund.specs.Folding.{heldUntil, rateInForce, life, point, points, copies, lives}
 use Rattle.fund.specs.Refusals.{first, unmatched, halfLine, Lengths, firstMember, matched, verdict}
 use Rattle.fund.specs.Answer.{Answer, refused, accepted, answerOf, answerTo, answer}
 use Rattle.laws.specs.Accepted.{All, all-map}
 use Rattle.laws.specs.InForce.{Below, Rising, held-above, in-force-none}
 use Rattle.laws.specs.Ranges.{RateOk, MemberOk, read-ranges}
-use Rattle.laws.specs.SameRates.{alike-refl, pointAt, AlikeFor, same-points, same-unmatched, verdictFor}
+use Rattle.equivalence.specs.SameRates.{alike-refl, pointAt, AlikeFor, same-points, same-unmatched, verdictFor}
 
 -- Document 01's search: the row that has the age.
 unfoldable pub ownRow : List Rate → ℕ → Option Rate

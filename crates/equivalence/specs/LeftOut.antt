@@ -18,12 +18,12 @@ use Rattle.fund.specs.Reading.{FundFile, headerLines, read, reading}
 use Rattle.fund.specs.Folding.{heldUntil, rateInForce, lives}
 use Rattle.fund.specs.Refusals.{Lengths}
 use Rattle.fund.specs.Answer.{answer}
 use Rattle.laws.specs.Accepted.{all-map}
 use Rattle.laws.specs.InForce.{Below, NotAbove, Rising, held-above, lastOr, held-through, before-below}
 use Rattle.laws.specs.Ranges.{read-ranges}
-use Rattle.laws.specs.Texts.{withoutLine}
-use Rattle.laws.specs.FewerRows.{drop-middle, read-without}
-use Rattle.laws.specs.SameRates.{Alike, alike-refl, AlikeFor, SameButPlaces, same-answers, lives-same}
+use Rattle.equivalence.specs.Texts.{withoutLine}
+use Rattle.equivalence.specs.FewerRows.{drop-middle, read-without}
+use Rattle.equivalence.specs.SameRates.{Alike, alike-refl, AlikeFor, SameButPlaces, same-answers, lives-same}
 
 after-above : (before after : List Rate) (r : Rate) → Rising (before ++ (r ∷ after)) → Below (r .age) after
 after-above [] after r k = k .0

@@ -22,18 +22,18 @@ use Rattle.fund.specs.Reading.{FundFile, read, headerLines, between, livesInAll
 use Rattle.fund.specs.Refusals.{Lengths}
 use Rattle.fund.specs.Answer.{answer, answerTo}
 use Rattle.fund.specs.Sheets.{readSheetRows, readSheets, sheetRows, sheetReading, rateText, memberText, texts, fileWith}
 use Rattle.laws.specs.Accepted.{All, all-map, all-append, all-replicate}
 use Rattle.laws.specs.Tables.{total-append, total-replicate}
 use Rattle.laws.specs.Passing.{never, pass, PassedLine, rateLine, memberLine, endLine, passed-line}
 use Rattle.laws.specs.Ranges.{RateOk, MemberOk, FundOk, lives-more, member-ok, no-rows, read-ranges}
 use Rattle.laws.specs.SheetRanges.{sheet-rows-ranges}
 use Rattle.laws.specs.RowTexts.{ShortRate, ShortMember, endText}
-use Rattle.laws.specs.HeaderOutcome.{Stops, Passes, passed, header-outcome}
-use Rattle.laws.specs.SheetFile.{rates-alike, empty-sheets, Alone, header-alone}
+use Rattle.equivalence.specs.HeaderOutcome.{Stops, Passes, passed, header-outcome}
+use Rattle.equivalence.specs.SheetFile.{rates-alike, empty-sheets, Alone, header-alone}
 use Rattle.laws.specs.Rows.{front}
-use Rattle.laws.specs.FewerRows.{some-member}
-use Rattle.laws.specs.SameRates.{SameButPlaces}
-use Rattle.laws.specs.WrittenOut.{oneLife, writtenOut, outFile, outPlace, out-answers}
+use Rattle.equivalence.specs.FewerRows.{some-member}
+use Rattle.equivalence.specs.SameRates.{SameButPlaces}
+use Rattle.equivalence.specs.WrittenOut.{oneLife, writtenOut, outFile, outPlace, out-answers}
 
 -- ---- a copy is in range where its line is
 member-in : (before : List Member) (m : Member) → length before < most-members → livesInAll before + m .lives ≤ most-lives → MemberOk m → memberInRange before m ≡ true

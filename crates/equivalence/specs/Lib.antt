@@ -1,0 +1,12 @@
+pub mod SameRates
+pub mod OwnRows
+pub mod Texts
+pub mod FewerRows
+pub mod LeftOut
+pub mod OneFrequency
+pub mod HeaderOutcome
+pub mod NoCell
+pub mod SheetFile
+pub mod SheetAnswer
+pub mod WrittenOut
+pub mod WrittenFile
