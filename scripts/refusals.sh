@@ -1,63 +1,6 @@
-# shellcheck shell=sh
-# What price and compare share: reading a file into a copy, and saying a refusal in words. The words are those of the table in
-# docs/FUND-FILE.md. Read by `.`; everything is said on standard error.
-
-# The pricing reads so many bytes of a file; what follows changes nothing.
-most_bytes=65536
-reason=
-
-# Makes a folder for the copies, which is removed at the end, on a signal too: nothing lies between its making and the traps.
-make_work() {
-    work='' finished=''
-    trap 'clear_work' EXIT
-    trap 'exit 129' HUP
-    trap 'exit 130' INT
-    trap 'exit 143' TERM
-    work=$(trap '' HUP INT TERM; exec mktemp -d) || exit 2
-}
-
-# The program started last is a reader that is still at work, or it is the one that has finished. A reader that has only just started
-# still has the traps of this shell, and no other signal than 9 would end it for certain.
-clear_work() {
-    [ "$!" = "$finished" ] || kill -9 "$!" 2>/dev/null
-    [ ! "$work" ] || rm -rf "$work"
-}
-
-# A name without what could garble a terminal.
-shown_name() {
-    printf '%s' "$1" | LC_ALL=C tr '[:cntrl:]' '[?*]'
-}
-
-# Waits for the reader that was started last. A shell that waits is ended by a signal at once, one that runs a program is not.
-wait_for_reader() { # COPY NAME
-    wait "$!" || reason="a read that failed ($(sed 's/.*: //' "$1.said")): $2"
-    finished=$!
-}
-
-# Copies what is read of a file, or of standard input where it has no name. Where it cannot be read, sets reason and fails.
-copy_file() { # COPY [FILE]
-    name_shown=$(shown_name "${2-standard input}")
-    if [ $# -eq 1 ]; then
-        if (exec 3<&0) 2>/dev/null; then
-            exec 3<&0
-            head -c "$most_bytes" <&3 >"$1" 2>"$1.said" &
-            wait_for_reader "$1" "$name_shown"
-            exec 3<&-
-        else
-            reason="a read that failed (it is closed): $name_shown"
-        fi
-    elif [ ! -e "$2" ]; then
-        reason="no such file: $name_shown"
-    elif [ -d "$2" ]; then
-        reason="a folder, not a file: $name_shown"
-    elif [ ! -r "$2" ]; then
-        reason="a file that cannot be read: $name_shown"
-    else
-        head -c "$most_bytes" "$2" >"$1" 2>"$1.said" &
-        wait_for_reader "$1" "$name_shown"
-    fi
-    [ ! "$reason" ]
-}
+# shellcheck shell=sh disable=SC2154
+# What price and compare say of a refusal, in words: those of the table in docs/FUND-FILE.md. Read by `.` behind running.sh; everything
+# is said on standard error.
 
 # Sets state to missing, open (without its line feed) or ended, and text to the line: at most 160 bytes of it, those that are no
 # printable characters as numbers or letters behind a backslash.
