@@ -35,18 +35,23 @@ lose_copy() { # NAME WHY
     reason="a copy that could not be written to ${TMPDIR:-/tmp} ($2): $1"
 }
 
-# Waits for the reader that was started last. A shell that waits is ended by a signal at once, one that runs a program is not.
-wait_for_reader() { # COPY NAME
+# Waits for the reader that was started last. A shell that waits is ended by a signal at once, one that runs a program is not. Where it
+# failed, sets reason: a regular file is read again, without a copy, to tell whether it is the file that cannot be read.
+wait_for_reader() { # COPY NAME [FILE]
     wait "$!"
     ended=$?
     finished=$!
     [ "$ended" -ne 0 ] || return
-    said=$(cat "$1.said" 2>/dev/null)
-    case $said in
-        '') lose_copy "$2" 'is it full?' ;;
-        *'error writing'*) lose_copy "$2" "${said##*: }" ;;
-        *) reason="a read that failed (${said##*: }): $2" ;;
-    esac
+    if [ -f "$3" ]; then
+        said=$(LC_ALL=C head -c "$most_bytes" "$3" 2>&1 >/dev/null)
+    else
+        said=$(grep 'error reading' "$1.said")
+    fi
+    if [ "$said" ]; then
+        reason="a read that failed (${said##*: }): $2"
+    else
+        lose_copy "$2" 'is it full?'
+    fi
 }
 
 # A copy has all bytes that are read of a regular file.
@@ -80,7 +85,7 @@ copy_file() { # COPY [FILE]
         reason="a file that cannot be read: $name_shown"
     else
         LC_ALL=C head -c "$most_bytes" "$2" >"$1" 2>"$1.said" &
-        wait_for_reader "$1" "$name_shown"
+        wait_for_reader "$1" "$name_shown" "$2"
         [ "$reason" ] || check_size "$1" "$2" "$name_shown"
     fi
     [ ! "$reason" ]

@@ -1,4 +1,4 @@
-"""Checks of ./price, ./compare, ./reprice and scripts/build.
+"""Checks of ./price, ./compare, ./reprice and scripts/build, and of all of them and ./sheet_bytes through symbolic links.
 
     python3 tests/test_scripts.py
 
@@ -6,7 +6,7 @@ It needs the programs listing, level, sheets and compare, which `rt check listin
 are copied to a folder of their own, so nothing of the repository is touched. What they should write comes from the independent
 calculation.
 
-A check is a pair (name, holds).  The last line printed counts them.
+A check is a pair (name, holds).  The last line printed counts them.  What this machine cannot do is named as skipped.
 """
 
 import csv
@@ -15,6 +15,7 @@ import os
 import pty
 import random
 import re
+import resource
 import shutil
 import signal
 import struct
@@ -44,7 +45,7 @@ class Room:
         self.temporary.mkdir()
         self.temporary.chmod(0o777)
         (self.root / "target" / "bin").mkdir(parents=True)
-        for name in ("price", "compare", "reprice", "crates.txt"):
+        for name in ("price", "compare", "reprice", "sheet_bytes", "crates.txt"):
             shutil.copy(ROOT / name, self.root)
         shutil.copytree(ROOT / "scripts", self.root / "scripts")
 
@@ -595,7 +596,7 @@ def document_checks(room, folder):
         yield f"documents: a refusal in words: {page}", shown_in(page, answer[1].decode() + answer[2])
 
 
-# A program that ends by a signal, writes something else, or ends with a status, where a name says so.
+# A program that ends by a signal, writes something else or not all, says something, or ends with a status, where a name says so.
 FAULTY = """#!/bin/sh
 echo "$#" >>"{log}"
 for path; do
@@ -604,6 +605,9 @@ for path; do
         *garbage*) echo garbage ;;
         *status*) exit 3 ;;
         *silent*) exit 0 ;;
+        *cut*) "{program}" "$@" | head -c 200; exit 0 ;;
+        *feed*) "{program}" "$@" | tr -d '\\n'; exit 0 ;;
+        *said*) echo 'standard output: No space left on device' >&2 ;;
     esac
 done
 exec "{program}" "$@"
@@ -613,13 +617,16 @@ exec "{program}" "$@"
 def faulty_checks(room, folder):
     old, new = folder / "faulty old", folder / "faulty new"
     made = {f"{k:03}.fund": (OLD, NEW) for k in range(90)}
-    faulty = ["010 killed", "020 garbage", "030 status", "040 silent"]
+    faulty = ["010 killed", "020 garbage", "030 status", "040 silent", "050 cut", "060 feed", "070 said"]
     for side, where in enumerate((old, new)):
         where.mkdir()
         for name, data in made.items():
             (where / name).write_bytes(data[side])
         for name in faulty:
             (where / name).write_bytes(GOOD)
+    (old / "080 said").write_bytes(OLD)
+    (new / "080 said").symlink_to(MEMORY)
+    faulty.append("080 said")
     program = room.root / "target" / "bin" / "compare"
     kept = program.rename(folder / "compare program")
     log = folder / "runs"
@@ -630,6 +637,8 @@ def faulty_checks(room, folder):
     expected = [failed.get(name) or [name, *row] for name in sorted([*made, *faulty])]
     yield "reprice: a failing program: status", answer[0] == 2
     yield "reprice: a failing program: the table", table_of(answer[1])[1:] == expected
+    yield "reprice: a failing program: why", [line.split(": ")[1] for line in answer[2].splitlines()] == faulty and (
+        "reprice: 070 said: the program failed: standard output: No space left on device; standard output: " in answer[2])
     yield "reprice: many pairs in a process", max(map(int, log.read_text().split())) >= 10
     room.put_program("compare", "#!/bin/sh\nexit 0\n")
     (folder / "one.fund").write_bytes(OLD)
@@ -640,6 +649,225 @@ def faulty_checks(room, folder):
     yield "compare: a file that is not there, without the program", answer[:2] == (2, b"unreadable=new\n") and answer[2].count("\n") == 1
     yield "reprice: rows without the program", not_read(room.run("reprice", "--rows", old, new, "000.fund"), "scripts/build compare")
     kept.rename(program)
+
+
+# A listing is printed whole, or not at all
+
+SAYS = "standard output: No space left on device"
+
+
+def cuts_of(listing):
+    """The listing cut in each of its lines, and in front of each line feed, and between two lines."""
+    found, at = [], 0
+    for line in listing.splitlines(True):
+        found += [at, at + len(line) // 2, at + len(line) - 1]
+        at += len(line)
+    return [listing[:end] for end in sorted(set(found))]
+
+
+def put_writer(room, folder, name, listing, said=""):
+    """A program that writes this and says that, and ends with status 0."""
+    (folder / "written").write_bytes(listing)
+    room.put_program(name, f"#!/bin/sh\ncat >/dev/null\ncat '{folder / 'written'}'\n" + (f"echo '{said}' >&2\n" if said else ""))
+
+
+def whole_checks(room, folder):
+    """Programs that answer status 0 and write a listing that is cut, or another one, or say something."""
+    good, sheet_files = folder / "good.fund", [folder / name for name in ("header.txt", "rates.sheet", "members.sheet")]
+    good.write_bytes(GOOD)
+    for file, data in zip(sheet_files, (HEADER, floats(RATE), floats(MEMBER))):
+        file.write_bytes(data)
+    (folder / "new.fund").write_bytes(NEW)
+    listing, level, refused = pricing.listing(pricing.price(GOOD)).encode(), b"quantile=1\n", b"refused=2,4\n"
+    other = NEW.replace(b"worth=100000", b"worth=99").replace(b"member=41,2,1,3,2", b"member=41,2,1,3,1")
+    pair = ("compare", folder / "new.fund", folder / "new.fund")
+    ways = [("listing", ("price", good), {}, (listing, refused), (level, refused * 2, b"x=1\n" + refused, b"gross=1\n")),
+            ("listing", ("price",), {"given": GOOD}, (listing, refused), (level,)),
+            ("level", ("price", "--level", "0.9", good), {}, (level, b"quantile=none\n", refused), (listing, level * 2)),
+            ("sheets", ("price", "--sheets", *sheet_files), {}, (listing, refused), (level,)),
+            ("sheets", ("price", "--level", "0.9", "--sheets", *sheet_files), {}, (level, refused), (listing,)),
+            ("compare", pair, {}, (compared(OLD, NEW), compared(REFUSED_OLD, NEW), compared(OLD, REFUSED_NEW), compared(REFUSED_OLD, REFUSED_NEW)),
+             (b"unreadable=old\n", b"unreadable=old\nunreadable=new\n", compared(OLD, NEW) * 2, b"other=none\n"))]
+    for program, words, options, whole, wrong in ways:
+        kept = (room.root / "target" / "bin" / program).rename(folder / "kept")
+        what = f"whole: {program} {' '.join(str(word) for word in words[1:] if str(word).startswith('--'))}{options and ' standard input' or ''}"
+        for made in whole:
+            put_writer(room, folder, program, made)
+            answer = room.run(*words, **options)
+            yield f"{what}: {made[:8]}.. is printed", answer[0] in (0, 1) and answer[1] == made
+            put_writer(room, folder, program, made, SAYS)
+            answer = room.run(*words, **options)
+            yield f"{what}: {made[:8]}.. with a message", not_read(answer, SAYS + "\n") and "gave no whole listing" in answer[2]
+        for made in [cut for text in whole for cut in cuts_of(text)] + list(wrong):
+            put_writer(room, folder, program, made)
+            yield f"{what}: {made[:8]}.. of {len(made)} bytes", not_read(room.run(*words, **options), f"the program {program} gave no ")
+        put_writer(room, folder, program, b"", "a\33[2Jb\nc")
+        yield f"{what}: a message that garbles", not_read(room.run(*words, **options), "a?[2Jb\nc\n")
+        kept.replace(room.root / "target" / "bin" / program)
+    # Cut between its two last lines it could be whole: then the message alone tells.
+    kept = (room.root / "target" / "bin" / "compare").rename(folder / "kept")
+    both = compared(OLD, other)
+    put_writer(room, folder, "compare", both[:both.index(b"other=member")], SAYS)
+    yield "whole: compare: without the second line of other", not_read(room.run(*pair), SAYS)
+    # The second of three pairs fails: the first is whole, and nothing follows it.
+    room.put_program("compare", f'#!/bin/sh\nif grep -q worth=99 "$2"; then "{kept}" "$@" | head -c 300; else exec "{kept}" "$@"; fi\n')
+    for name, data in (("old.fund", OLD), ("other.fund", other)):
+        (folder / name).write_bytes(data)
+    files = [folder / name for name in ("old.fund", "new.fund", "old.fund", "other.fund", "old.fund", "new.fund")]
+    answer = room.run("compare", *files)
+    yield "whole: compare: the second of three pairs", (answer[:2] == (2, compared(OLD, NEW))
+                                                        and f"compare: {files[2]} and {files[3]}: the program compare gave no whole listing" in answer[2])
+    kept.replace(room.root / "target" / "bin" / "compare")
+    yield "whole: nothing left", room.is_clean()
+
+
+def into(room, words, output, **options):
+    """Status, standard error and whether nothing is left, of a run whose standard output is this one."""
+    done = subprocess.run([room.root / words[0], *words[1:]], stdin=subprocess.DEVNULL, stdout=output, stderr=subprocess.PIPE, check=False,
+                          env={**os.environ, "TMPDIR": str(room.temporary), "PYTHONDONTWRITEBYTECODE": "1"}, **options)
+    return done.returncode, done.stderr.decode(errors="replace"), room.is_clean()
+
+
+def output_checks(room, folder):
+    """A standard output that is full, closed, or read by nobody."""
+    old, new = folder / "old", folder / "new"
+    for where, data in ((old, OLD), (new, NEW)):
+        where.mkdir()
+        (where / "a.fund").write_bytes(data)
+    one, two, sixty = old / "a.fund", new / "a.fund", EXAMPLES / "sixty-members.fund"
+    sheet_files = [EXAMPLES / "sheets" / name for name in ("header.txt", "rates.sheet", "members.sheet")]
+    for words in (("price", sixty), ("price", EXAMPLES / "half.fund"), ("price", "--level", "0.99", sixty), ("price", "--sheets", *sheet_files),
+                  ("price", "--level", "0.99", "--sheets", *sheet_files), ("price", "--help"), ("compare", one, two), ("compare", one, two, two, one),
+                  ("compare", one, folder / "none"), ("compare", "--help"), ("reprice", old, new), ("reprice", "--names", old, new),
+                  ("reprice", "--rows", old, new, "a.fund"), ("reprice", "--heading"), ("reprice", "--help")):
+        what = "output: " + " ".join(str(word) if not isinstance(word, Path) else word.name for word in words)
+        with open("/dev/full", "wb") as full:
+            status, said, clean = into(room, words, full)
+        yield f"{what}: full", status == 2 and f"{words[0]}: standard output could not be written" in said and clean
+        status, said, clean = into(room, words, None, preexec_fn=lambda: os.close(1))
+        yield f"{what}: closed", status == 2 and f"{words[0]}: standard output could not be written" in said and clean
+        for name, options in (("a pipe that nobody reads", {}), ("the same, with the signal ignored", {"restore_signals": False})):
+            reading, writing = os.pipe()
+            os.close(reading)
+            status, said, clean = into(room, words, writing, **options)
+            os.close(writing)
+            yield f"{what}: {name}", "Traceback" not in said and clean and (
+                status == 2 and f"{words[0]}: standard output could not be written" in said or "--help" in words and status < 0)
+
+
+def limited(most):
+    """No file can get longer than this, as on a disk that is full."""
+    return lambda: resource.setrlimit(resource.RLIMIT_FSIZE, (most, most))
+
+
+# As root of a name space of its own, whose mounts end with it: so many KiB for temporary files, of which so many are taken.
+SMALL = """mount -t tmpfs -o "size=$1k" tmpfs "$TMPDIR" || exit 99
+[ "$2" -eq 0 ] || head -c "$2k" /dev/zero >"$TMPDIR/taken" || exit 99
+shift 2
+"$@"
+status=$?
+rm -f "$TMPDIR/taken"
+[ ! "$(ls -A "$TMPDIR")" ] || exit 98
+exit "$status"
+"""
+
+
+def temporary_checks(room, folder):
+    """Where temporary files cannot get longer than so many bytes, or their folder is full, the answer is the right one or none."""
+    old, new, good = folder / "old.fund", folder / "new.fund", folder / "good.fund"
+    for file, data in ((old, OLD), (new, NEW), (good, GOOD)):
+        file.write_bytes(data)
+    sheet_files = [folder / name for name in ("header.txt", "rates.sheet", "members.sheet")]
+    for file, data in zip(sheet_files, (text(order=8).header(), floats(RATE), floats(*[MEMBER] * 4))):
+        file.write_bytes(data)
+    whole = {}
+    for words, given in ((("price", good), b""), (("price",), GOOD), (("price", "--level", "0.9", good), b""), (("price", "--sheets", *sheet_files), b""),
+                         (("compare", old, new), b""), (("compare", old, new, new, old), b"")):
+        what = f"temporary: {' '.join(str(word) if not isinstance(word, Path) else word.name for word in words)}"
+        right = whole[words] = room.run(*words, given=given)
+        for restored, way in ((True, "ended by the signal"), (False, "told so")):
+            found = [room.run(*words, given=given, preexec_fn=limited(most), restore_signals=restored) for most in (*range(0, 240, 20), 300, 1000)]
+            none = [answer for answer in found if answer[0] == 2 and answer[1] == b"" and answer[2]]
+            yield f"{what}: {way}", right[0] == 0 and all(answer == right or answer in none for answer in found)
+            yield f"{what}: {way}: of both kinds", found[0] in none and found[-1] == right
+            yield f"{what}: {way}: nothing left", room.is_clean()
+    answer = room.run("compare", old, new, preexec_fn=limited(len(OLD)), restore_signals=False)
+    yield "temporary: compare: a copy that is cut is not called unreadable", not_read(answer, "new file: a copy that could not be written to ")
+    yield from small_folder_checks(room, whole, sheet_files)
+
+
+def small_folder_checks(room, whole, sheet_files):
+    """The same with a folder that is really full."""
+    alone = ["unshare", "-m"] if os.geteuid() == 0 else ["unshare", "-rm"]
+    environment = {**os.environ, "TMPDIR": str(room.temporary)}
+
+    def run(size, taken, *words):
+        done = subprocess.run([*alone, "sh", "-c", SMALL, "sh", str(size), str(taken), room.root / words[0], *words[1:]], stdin=subprocess.DEVNULL,
+                              capture_output=True, env=environment, check=False)
+        return done.returncode, done.stdout, done.stderr.decode()
+
+    if not shutil.which("unshare") or run(16, 0, "price", "--help")[0]:
+        yield "temporary: a folder of 16 KiB", None
+        return
+    sixty = EXAMPLES / "sixty-members.fund"
+    whole = {words: answer for words, answer in whole.items() if len(words) > 1}
+    whole["price", sixty] = room.run("price", sixty)
+    for words, right in whole.items():
+        what = f"temporary: {words[0]} {words[1] if words[1] == '--level' else words[-1].name}"
+        found = [run(16, taken, *words) for taken in (16, 12, 8, 4, 0)] + [run(64, 0, *words)]
+        yield f"{what}: a folder that is full", all(answer == right or not_read(answer, f"{words[0]}: ") for answer in found)
+        yield f"{what}: a folder that is full: of both kinds", found[0] != right and found[-1] == right
+    yield "temporary: a listing that does not fit", not_read(run(16, 0, "price", sixty), SAYS + "\nprice: the program listing gave no whole listing")
+    yield "temporary: sheets that do not fit", not_read(run(16, 8, "price", "--sheets", *sheet_files), "members.sheet")
+
+
+# Symbolic links
+
+def link_checks(room, folder):
+    """The scripts through links: absolute, relative, a chain, in folders with spaces, found on the path."""
+    good, listing = EXAMPLES / "one-member.fund", pricing.listing(pricing.price(GOOD)).encode()
+    pool = folder / "pool"
+    pool.mkdir()
+    (pool / "a.fund").write_bytes(GOOD)
+    (folder / "rates.csv").write_text("40,0.1,0\n")
+    scripts = {"price": ((good,), lambda out: out == listing), "compare": ((good, good), lambda out: out == compared(GOOD, GOOD)),
+               "reprice": ((pool, pool), lambda out: table_of(out)[1:] == [expected_row("a.fund", GOOD, GOOD)]),
+               "sheet_bytes": (("--columns", "3", folder / "rates.csv", "/dev/null"), lambda out: out == b"1 rows of 3 cells\n")}
+    far = folder / "a folder" / "with 'one'"
+    (far / "deep").mkdir(parents=True)
+    (folder / "there").symlink_to(far / "deep")
+    (folder / "with 'one'").mkdir()              # where a link to ../ would lead if its folder were taken by its name
+    for name, (words, holds) in scripts.items():
+        (far / f"{name} absolute").symlink_to(room.root / name)
+        (folder / f"{name}-relative").symlink_to(Path("..") / room.root.relative_to(folder.parent) / name)
+        (far / "deep" / f"{name} chain").symlink_to(Path("..") / f"{name} absolute")
+        (folder / f"-{name}").symlink_to(Path("there") / f"{name} chain")
+        for link, where in ((far / f"{name} absolute", folder), (folder / f"{name}-relative", folder), (Path(f"./{name}-relative"), folder),
+                            (Path("there") / f"{name} chain", folder), (Path(f"{name} chain"), far / "deep"), (Path("/") / far / "deep" / f"{name} chain", "/"),
+                            (folder / f"-{name}", "/")):
+            command = [f"./{link}" if "/" not in str(link) else link, *words]
+            done = subprocess.run(command, capture_output=True, cwd=where, check=False, env={**os.environ, "CDPATH": str(folder.parent)})
+            yield f"links: {name}: {link}", done.returncode == 0 and holds(done.stdout) and done.stderr == b""
+        done = subprocess.run([f"{name}-relative", *words], capture_output=True, check=False, env={**os.environ, "PATH": f"{folder}:{os.environ['PATH']}"})
+        yield f"links: {name}: on the path", done.returncode == 0 and holds(done.stdout)
+        if name in ("price", "compare"):
+            done = subprocess.run(["sh", f"{name}-relative", *words], capture_output=True, check=False, cwd=folder)
+            yield f"links: {name}: by sh", done.returncode == 0 and holds(done.stdout)
+    same = [re.findall(r"(?s)# The folder of this script.*?\ndone\n", (ROOT / name).read_text()) for name in ("price", "compare", "scripts/build")]
+    yield "links: the same lines in all scripts", len(same[0]) == 1 and same == same[:1] * 3
+    program = room.root / "target" / "bin" / "listing"
+    kept = program.rename(folder / "listing program")
+    (folder / "rt").write_text(f'#!/bin/sh\npwd -P\ncp "{kept}" "{program}"\n')
+    (folder / "rt").chmod(0o755)
+    (far / "build link").symlink_to(room.root / "scripts" / "build")
+    environment = {**os.environ, "PATH": f"{folder}:{os.environ['PATH']}"}
+    for link, where in ((far / "build link", "/"), (Path("./build link"), far)):
+        program.unlink(missing_ok=True)
+        done = subprocess.run([f"./{link}" if where == far else link, "listing"], capture_output=True, cwd=where, check=False, env=environment)
+        yield f"links: build: {link}", done.returncode == 0 and program.exists() and b"building the listing program" in done.stderr
+    program.unlink(missing_ok=True)
+    yield "links: price builds", room.run(folder / "price-relative", good, path=folder)[:2] == (0, listing)
+    kept.replace(program)
 
 
 # scripts/build
@@ -730,7 +958,7 @@ def checks():
         room = Room(folder)
         add_programs(room)
         for part in (price_checks, damaged_checks, accepted_checks, unread_checks, sheet_checks, compare_checks, reprice_checks, document_checks,
-                     faulty_checks, build_checks):
+                     faulty_checks, whole_checks, output_checks, temporary_checks, link_checks, build_checks):
             own = folder / part.__name__
             own.mkdir()
             found += part(room, own)
@@ -743,10 +971,13 @@ def main():
         print(f"not built: {' '.join(missing)}; rt check listing level sheets compare builds them", file=sys.stderr)
         return 2
     found = checks()
-    bad = [name for name, holds in found if not holds]
+    skipped = [name for name, holds in found if holds is None]
+    bad = [name for name, holds in found if not holds and holds is not None]
+    for name in skipped:
+        print(f"  skipped {name}: not possible on this machine")
     for name in bad:
         print(f"  FAILED {name}")
-    print(f"{len(found) - len(bad)} passed, {len(bad)} failed")
+    print(f"{len(found) - len(bad) - len(skipped)} passed, {len(bad)} failed")
     return 1 if bad else 0
 
 
