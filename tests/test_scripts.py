@@ -104,7 +104,8 @@ REFUSED = [
     ("no lives", with_line(GOOD, 9, b"member=40,1,12,8"), 1, 9, "form", "member=40,1,12,8", "takes ,1 behind it"),
     ("nothing at all", b"", 1, 1, "form", None, "the line is missing, the file ends before it"),
     ("the file ends early", b"".join(GOOD.splitlines(True)[:6]), 1, 7, "form", None, "the line that belongs there: worth=NUMBER"),
-    ("no end line", b"".join(GOOD.splitlines(True)[:9]), 1, 10, "form", None, "if these are all, end=1"),
+    ("no end line", b"".join(GOOD.splitlines(True)[:9]), 1, 10, "form", None,
+     "compare the member lines with the fund's list, since a file that was cut off ends like this too; if these are all, end=1\n"),
     ("no line feed at the end", GOOD[:-1], 1, 10, "form", "end=1", "the last line has no line feed"),
     ("carriage returns", GOOD.replace(b"\n", b"\r\n"), 1, 1, "form", "rates=2030\\r", "the line ends in a carriage return"),
     ("something behind the end", GOOD + b"end=1\n", 1, 11, "form", "end=1", "something follows end="),
@@ -118,19 +119,31 @@ REFUSED = [
     ("an order of 13", with_line(GOOD, 4, b"order=13"), 2, 4, "range", "order=13", "order= takes 1 to 12"),
     ("lives of 0", with_line(GOOD, 9, b"member=40,1,12,8,0"), 2, 9, "range", "member=40,1,12,8,0", "lives 1 to 1,000"),
     ("lives of 999 and 2", fund(member_rows=((40, 2, 1, 0, 999), (40, 2, 1, 0, 2))), 2, 10, "range", "member=40,2,1,0,2",
-     "a fund of more than 1,000 lives is priced in parts"),
-    ("a wrong count", with_line(fund(member_rows=((40, 2, 1, 0, 3),) * 2), 11, b"end=6"), 2, 11, "range", "end=6", "write end=2:"),
+     "A fund of more lives cannot be priced by this program: its parts are other covers, with other premiums"),
+    ("a wrong count", with_line(fund(member_rows=((40, 2, 1, 0, 3),) * 2), 11, b"end=6"), 2, 11, "range", "end=6",
+     "above stand 2, whatever their lives. If none is missing or too many, write end=2\n"),
     ("ages that do not rise", fund(rate_rows=((40, 1, 1), (40, 1, 1))), 2, 9, "range", "rate=40,1,1", "the age is not above the one before"),
     ("two editions", fund(members=2031), 3, 0, "edition", "line 2: members=2031", "use member data of the edition of the rates"),
-    ("a deductible above", fund(deductible=4), 4, 0, "deductible", "line 6: deductible=4", "raise the horizon"),
+    ("a deductible above", fund(deductible=4), 4, 0, "deductible", "line 6: deductible=4", "raise the horizon to at least 3: "),
     ("a member of 19", fund(rate_rows=((20, 1000, 0),), member_rows=((20, 1, 1, 0), (19, 1, 1, 0))), 5, 10, "unmatched",
      "member=19,1,1,0,1", "below that of the first rate line"),
-    ("rates of a half", fund(rate_rows=((40, 250000, 250000),), member_rows=((40, 1, 1, 2, 1),)), 6, 9, "half", "member=40,1,1,2,1", "take the member in group 2"),
-    ("nine certain claims", fund(rate_rows=CERTAIN, member_rows=((40, 2, 1, 0, 9),)), 7, 0, "load", None, "price the fund in parts"),
+    ("rates of a half", fund(rate_rows=((40, 250000, 250000),), member_rows=((40, 1, 1, 2, 1),)), 6, 9, "half", "member=40,1,1,2,1",
+     "this program cannot price the fund: group 2 is for members who are replaced on leaving, and with others in it another fund is priced\n"),
+    ("nine certain claims", fund(rate_rows=CERTAIN, member_rows=((40, 2, 1, 0, 9),)), 7, 0, "load", None,
+     "this program cannot price the fund: its parts are other covers, with other premiums"),
     ("twenty of 0.3", fund(rate_rows=((40, 300000, 0),), member_rows=((40, 1, 1, 0, 20),)), 7, 0, "load", None, "the load is above 8"),
-    ("an order too low", fund(order=2), 8, 0, "order", "line 4: order=2", "raise the order"),
+    ("an order too low", fund(order=2), 8, 0, "order", "line 4: order=2", "raise the order, up to 12: the exact premium does not depend on it"),
+    ("the highest order, too low", fund(order=12, rate_rows=((40, 400000, 0),)), 8, 0, "order", "line 4: order=12",
+     "12 is the highest order. If they are right, this program cannot price the fund: group 2 is for members who are replaced"),
     ("eight certain claims", fund(horizon=6, rate_rows=CERTAIN, member_rows=((40, 2, 1, 0, 8),)), 10, 6, "wide", "line 3: horizon=6",
      "total claim 6 is above 250,000 units"),
+    ("eight certain claims, a horizon that can be lower", fund(horizon=6, deductible=6, rate_rows=CERTAIN, member_rows=((40, 2, 1, 0, 8),)), 10, 6, "wide",
+     "line 6: deductible=6", "lower the horizon to less than 6 (but not below 5): "),
+    ("eight certain claims, and no deductible", fund(horizon=6, deductible=0, rate_rows=CERTAIN, member_rows=((40, 2, 1, 0, 8),)), 10, 6, "wide",
+     "line 6: deductible=0", "lower the horizon to less than 6 (but not below 0): "),
+    ("eight certain claims, a deductible that is too high", fund(horizon=6, deductible=7, rate_rows=CERTAIN, member_rows=((40, 2, 1, 0, 8),)), 10, 6,
+     "wide", "line 6: deductible=7", "this program cannot price the fund with this deductible: its premium needs the cell of 6. A lower deductible is another cover"),
+    ("a deductible out of range", with_line(GOOD, 6, b"deductible=4097"), 2, 6, "range", "deductible=4097", "a higher deductible cannot be priced in this unit"),
 ]
 
 
@@ -138,7 +151,7 @@ def says(answer, program, where, number, word, shown, words):
     """That standard error has the place, the word, the line and what to do, and nothing that garbles a terminal."""
     lines = answer[2].splitlines()
     return (len(lines) >= 2 and lines[0].startswith(f"{program}: {where}: {word} ({number}): ") and lines[-1].startswith("what to do: ")
-            and words in answer[2] and (shown is None or "    " + shown in lines)
+            and all(each in answer[2] for each in ((words,) if isinstance(words, str) else words)) and (shown is None or "    " + shown in lines)
             and all(mark == "\n" or mark.isprintable() for mark in answer[2]))
 
 
@@ -301,11 +314,12 @@ REFUSED_SHEETS = [
     ("ages that do not rise", HEADER, floats(RATE, RATE), floats(MEMBER), 2, 9, "rates.sheet", "row 2 (line 9 of the file with these rows)",
      "range", "40, 0.1, 0", "the age is not above"),
     ("999 lives and 2", HEADER, floats(RATE), floats((*MEMBER[:4], 999.0), (*MEMBER[:4], 2.0)), 2, 10, "members.sheet",
-     "row 2 (line 10 of the file with these rows)", "range", "40, 1, 1, 0, 2", "more than 1,000 in all"),
+     "row 2 (line 10 of the file with these rows)", "range", "40, 1, 1, 0, 2",
+     ("more than 1,000 in all", "A fund of more than 1,000 cannot be priced by this program: its parts are other covers, with other premiums")),
     ("unmatched", HEADER, floats(RATE), floats(MEMBER, (39.0, *MEMBER[1:])), 5, 10, "members.sheet",
-     "row 2 (line 10 of the file with these rows)", "unmatched", "39, 1, 1, 0, 1", "add a rate line"),
+     "row 2 (line 10 of the file with these rows)", "unmatched", "39, 1, 1, 0, 1", "add a rate line with the edition's own rates for that age"),
     ("half", HEADER, floats((40.0, 0.5, 0.0)), floats(MEMBER), 6, 9, "members.sheet", "row 1 (line 9 of the file with these rows)", "half",
-     "40, 1, 1, 0, 1", "take the member in group 2"),
+     "40, 1, 1, 0, 1", "group 2 is for members who are replaced on leaving"),
     ("a header out of range", with_line(HEADER, 4, b"order=13"), floats(RATE), floats(MEMBER), 2, 4, "header.txt", "line 4", "range", "order=13",
      "order= takes 1 to 12"),
     ("a header cut", HEADER[:HEADER.index(b"worth")], floats(RATE), floats(MEMBER), 1, 7, "header.txt", "line 7", "form", None, "is missing"),
@@ -594,6 +608,80 @@ def document_checks(room, folder):
     answer = room.run("price", "fund.txt", cwd=folder)
     for page in ("README.md", "docs/FUND-FILE.md"):
         yield f"documents: a refusal in words: {page}", shown_in(page, answer[1].decode() + answer[2])
+
+
+# Advice
+
+def with_number(data, key, number):
+    return re.sub(rb"(?m)^%s=.*$" % key, b"%s=%d" % (key, number), data)
+
+
+def end_of(room, data):
+    """Premium, bound and gross premium, as the listing has them; the line of a refusal where there is none."""
+    lines = room.run("price", given=data)[1].split(b"\n")
+    return tuple(int(line.split(b"=")[1]) for line in lines[-4:-1]) if len(lines) > 3 else lines[0]
+
+
+def advice_checks(room, folder):
+    """Who follows the advice has the premium of the same fund; what the pages say of another fund is so."""
+    sixty = (EXAMPLES / "sixty-members.fund").read_bytes()
+    right = end_of(room, sixty)
+    yield "advice: the horizon changes no premium", all(end_of(room, with_number(sixty, b"horizon", most)) == right for most in (59, 60, 61, 150, 1000, 4095))
+    low = with_number(sixty, b"horizon", 58)
+    advised = int(re.search(r"raise the horizon to at least (\d+):", room.run("price", given=low)[2])[1])
+    yield "advice: deductible (4)", end_of(room, low) == b"refused=4,0" and end_of(room, with_number(low, b"horizon", advised)) == right
+    for order in (1, 2):
+        found = end_of(room, with_number(sixty, b"order", order))
+        yield f"advice: order (8): from {order}", found == b"refused=8,0" if order == 1 else abs(found[0] - right[0]) <= found[1] + right[1] and found[1] > right[1]
+    eight = fund(horizon=6, order=3, rate_rows=CERTAIN, member_rows=((40, 2, 1, 0, 8),))
+    for deductible in range(8):
+        wide = with_number(eight, b"deductible", deductible)
+        said = room.run("price", given=wide)[2]
+        advised = re.search(r"lower the horizon to less than (\d+) \(but not below (\d+)\)", said)
+        if deductible > 6:
+            yield f"advice: wide (10): {deductible}", not advised and "cannot price the fund with this deductible" in said and all(
+                isinstance(end_of(room, with_number(wide, b"horizon", horizon)), bytes) for horizon in range(8))
+            continue
+        most, least = int(advised[1]) - 1, int(advised[2])
+        found = {end_of(room, with_number(wide, b"horizon", horizon)) for horizon in range(least, most + 1)}
+        yield f"advice: wide (10): {deductible}", most == 5 and len(found) == 1 and isinstance(found.pop(), tuple)
+        yield f"advice: wide (10): {deductible}: no lower horizon", not least or end_of(room, with_number(wide, b"horizon", least - 1)) == b"refused=4,0"
+    page = (ROOT / "docs" / "FUND-FILE.md").read_text()
+    yield from page_checks(room, sixty, right, " ".join(page.split()))
+    for name in ("README.md", "docs/FUND-FILE.md", "docs/COMPARING.md", "scripts/refusals.sh", "price", "compare", "reprice", "sheet_bytes", "include/miguepo.h"):
+        found = (ROOT / name).read_text().lower()
+        yield f"advice: {name}: neither parts nor another group", not any(
+            words in found for words in ("priced in parts", "price the fund in parts", "take the member in group 2", "members to group 2", "rates to group 2"))
+
+
+def page_checks(room, sixty, right, page):
+    """The figures of docs/FUND-FILE.md on what is another fund."""
+    def francs(*parts):
+        gross = [end_of(room, part)[2] for part in parts]
+        words = [f"{centimes // 100:,}.{centimes % 100:02}" for centimes in (*gross, sum(gross))]
+        return f"{' + '.join(words[:-1])} = {words[-1]}" if len(parts) > 1 else words[-1]
+
+    lines = sixty.splitlines(True)
+    halves = [b"".join(lines[:48] + lines[start:start + 30] + [b"end=30\n"]) for start in (48, 78)]
+    yield "advice: the whole", f"| the whole fund, deductible 60 | {francs(sixty)} |" in page
+    for deductible in (30, 60):
+        found = francs(*(with_number(half, b"deductible", deductible) for half in halves))
+        yield f"advice: halves with {deductible}", f"| each half by itself, deductible {deductible} | {found} |" in page
+    half = (EXAMPLES / "half.fund").read_bytes()
+    premium = end_of(room, half.replace(b"member=40,1,", b"member=40,2,"))[0]
+    yield "advice: another group", end_of(room, half) == b"refused=6,9" and f"the premium is {comparison.units(premium)}." in page
+
+    def in_unit(amount, deductible, worth, horizon):
+        made = re.sub(rb"(?m)^(member=\d+,\d),(\d+),(\d+)", lambda m: b"%s,%d,%d" % (m[1], amount(int(m[2])), amount(int(m[3]))), sixty)
+        for key, number in ((b"deductible", deductible), (b"worth", worth), (b"horizon", horizon)):
+            made = with_number(made, key, number)
+        return made
+
+    hundreds = in_unit(lambda amount: 10 * amount, 600, 10000, 4095)
+    premium, bound, _ = end_of(room, hundreds)
+    yield "advice: hundreds of francs", abs(premium - 10 * right[0]) <= bound + 10 * right[1] and f"a gross premium of {francs(hundreds)}." in page
+    for words, amount in (("rounded to the nearest, the gross premium is", lambda amount: (amount + 5) // 10), ("all rounded up,", lambda amount: -(-amount // 10))):
+        yield f"advice: tens of thousands, {words}", f"{words} {francs(in_unit(amount, 6, 1000000, 60))}" in page
 
 
 # A program that ends by a signal, writes something else or not all, says something, or ends with a status, where a name says so.
@@ -957,7 +1045,7 @@ def checks():
         folder.chmod(0o755)
         room = Room(folder)
         add_programs(room)
-        for part in (price_checks, damaged_checks, accepted_checks, unread_checks, sheet_checks, compare_checks, reprice_checks, document_checks,
+        for part in (price_checks, damaged_checks, accepted_checks, unread_checks, sheet_checks, compare_checks, reprice_checks, document_checks, advice_checks,
                      faulty_checks, whole_checks, output_checks, temporary_checks, link_checks, build_checks):
             own = folder / part.__name__
             own.mkdir()
