@@ -72,7 +72,9 @@ struct miguepo_result {
 
 /* Prices a fund file. A member line stands for as many lives as its last number says,
  * 1 to 1,000, and is priced as so many copies of itself in its spot; all lines
- * together have at most 1,000 lives.
+ * together have at most 1,000 lives. A fund above a limit has no price here: those
+ * of its parts do not add up to it, since each part's cover pays above a deductible
+ * of its own.
  *
  *   file, file_length        the bytes of the fund file
  *   level                    the level that is asked for, in units
@@ -96,6 +98,10 @@ struct miguepo_result {
  * Where the quantile is x, the exact probability of a total of at most x is at
  * least the level less B(x), and that of a total of at most y, for each y below x,
  * is below the level plus B(y).
+ *
+ * Premium, bound and gross premium do not depend on the horizon, and the exact
+ * premium does not on the order. Another deductible is another cover; other rates,
+ * frequencies, groups, amounts or lives are another fund.
  *
  * Refused (1 to 10): the horizon, every figure, reached, the quantile and every
  * cell of the five slices are 0.

@@ -1,63 +1,9 @@
-# shellcheck shell=sh
-# What price and compare share: reading a file into a copy, and saying a refusal in words. The words are those of the table in
-# docs/FUND-FILE.md. Read by `.`; everything is said on standard error.
+# shellcheck shell=sh disable=SC2154
+# What price and compare say of a refusal, in words: those of the table in docs/FUND-FILE.md. Read by `.` behind running.sh; everything
+# is said on standard error. Who follows the advice has the premium of the same fund, or is told that it has none.
 
-# The pricing reads so many bytes of a file; what follows changes nothing.
-most_bytes=65536
-reason=
-
-# Makes a folder for the copies, which is removed at the end, on a signal too: nothing lies between its making and the traps.
-make_work() {
-    work='' finished=''
-    trap 'clear_work' EXIT
-    trap 'exit 129' HUP
-    trap 'exit 130' INT
-    trap 'exit 143' TERM
-    work=$(trap '' HUP INT TERM; exec mktemp -d) || exit 2
-}
-
-# The program started last is a reader that is still at work, or it is the one that has finished. A reader that has only just started
-# still has the traps of this shell, and no other signal than 9 would end it for certain.
-clear_work() {
-    [ "$!" = "$finished" ] || kill -9 "$!" 2>/dev/null
-    [ ! "$work" ] || rm -rf "$work"
-}
-
-# A name without what could garble a terminal.
-shown_name() {
-    printf '%s' "$1" | LC_ALL=C tr '[:cntrl:]' '[?*]'
-}
-
-# Waits for the reader that was started last. A shell that waits is ended by a signal at once, one that runs a program is not.
-wait_for_reader() { # COPY NAME
-    wait "$!" || reason="a read that failed ($(sed 's/.*: //' "$1.said")): $2"
-    finished=$!
-}
-
-# Copies what is read of a file, or of standard input where it has no name. Where it cannot be read, sets reason and fails.
-copy_file() { # COPY [FILE]
-    name_shown=$(shown_name "${2-standard input}")
-    if [ $# -eq 1 ]; then
-        if (exec 3<&0) 2>/dev/null; then
-            exec 3<&0
-            head -c "$most_bytes" <&3 >"$1" 2>"$1.said" &
-            wait_for_reader "$1" "$name_shown"
-            exec 3<&-
-        else
-            reason="a read that failed (it is closed): $name_shown"
-        fi
-    elif [ ! -e "$2" ]; then
-        reason="no such file: $name_shown"
-    elif [ -d "$2" ]; then
-        reason="a folder, not a file: $name_shown"
-    elif [ ! -r "$2" ]; then
-        reason="a file that cannot be read: $name_shown"
-    else
-        head -c "$most_bytes" "$2" >"$1" 2>"$1.said" &
-        wait_for_reader "$1" "$name_shown"
-    fi
-    [ ! "$reason" ]
-}
+no_parts='its parts are other covers, with other premiums (docs/FUND-FILE.md, "Why a cover cannot be split")'
+no_group='group 2 is for members who are replaced on leaving, and with others in it another fund is priced'
 
 # Sets state to missing, open (without its line feed) or ended, and text to the line: at most 160 bytes of it, those that are no
 # printable characters as numbers or letters behind a backslash.
@@ -112,25 +58,25 @@ explain_form() { # COPY PLACE [header]
     advice="write $expected here; a number has one to seven digits, with no sign, space, dot or leading zero"
     if [ "$2" -gt 7 ] && [ "$3" ]; then
         wrong='something follows the seventh line'
-        advice='remove it: a header text has the lines rates= to worth= and nothing else'
+        advice='remove it: a header text has the lines rates= to worth=, and rates and members stand in the two sheets'
         return
     fi
     if [ "$state" = missing ]; then
         wrong='the line is missing, the file ends before it'
-        advice="write the line that belongs there: $expected"
-        [ "$2" -le 7 ] || advice="end the file with end= and the number of its member lines; if these are all, end=$(grep -c '^member=' "$1")"
+        advice="write the line that belongs there: $expected, with the fund's own number"
+        [ "$2" -le 7 ] || advice="compare the member lines with the fund's list, since a file that was cut off ends like this too; if these are all, end=$(grep -c '^member=' "$1")"
         return
     fi
     case $2:$before in
         [1-7]:*) ;;
         *:end=*)
             wrong='something follows end='
-            advice='remove what stands behind the line end='
+            advice='end= is the last line: put member lines that belong to the fund above it and count them, and remove what does not'
             return ;;
     esac
     if [ "$state" = open ] && [ "$(wc -c <"$1")" -lt "$most_bytes" ]; then
         wrong='the last line has no line feed at its end'
-        advice='end the line with a line feed; if the file was cut off there, write the rest too'
+        advice='a file that was cut off ends like this: write what is missing; if nothing is, end the line with a line feed'
         return
     fi
     case $2:$text in
@@ -139,7 +85,7 @@ explain_form() { # COPY PLACE [header]
             advice='save the file with line feeds alone at the ends of lines' ;;
         5:frequency=*,*) ;;
         5:frequency=*)
-            advice='write two numbers, for death and for disability: one number of before is written twice, frequency=1000,1000' ;;
+            advice="write two numbers, for death and for disability; a file from before the edition's method note has its one number twice, as in frequency=1000,1000" ;;
         [1-7]:*) ;;
         *:member=*,*,*,*,*) ;;
         *:member=*,*,*,*)
@@ -155,48 +101,70 @@ explain_range() { # COPY PLACE
     read_line "$1" "$2"
     wrong='a number is outside its limits'
     advice="correct the number: ${expected%%=*}= takes $limits"
+    case $2 in
+        3) advice="$advice; it says where the listing stops, and the premium does not depend on it" ;;
+        6) advice="$advice; a higher deductible cannot be priced in this unit (docs/FUND-FILE.md, \"The unit\")" ;;
+    esac
     [ "$2" -gt 7 ] || return
     case $text in
         rate=*)
             wrong='a number is outside its limits, the age is not above the one before, q + i passes 1,000,000, or the rate lines are more than 121'
-            advice='correct the line: ages rise, from 0 to 120, and each rate and their sum are at most 1,000,000' ;;
+            advice="correct the line by the edition's table: ages rise, from 0 to 120, and each rate and their sum are at most 1,000,000" ;;
         member=*)
             wrong='a number is outside its limits, or the lives up to this line are more than 1,000 in all'
-            advice='correct the number: age 0 to 120, group 1 or 2, amounts 0 to 65,535, lives 1 to 1,000 and in all at most 1,000; a fund of more than 1,000 lives is priced in parts' ;;
+            advice="correct the number: age 0 to 120, group 1 or 2, amounts 0 to 65,535, lives 1 to 1,000 and in all at most 1,000. A fund of more lives cannot be priced by this program: $no_parts" ;;
         *)
             wrong='the count is not the number of member lines'
-            advice="write end=$(sed "$2q" "$1" | grep -c '^member='): so many member lines stand above, whatever their lives" ;;
+            count=$(sed "$2q" "$1" | grep -c '^member=')
+            advice="compare the member lines with the fund's list: above stand $count, whatever their lives. If none is missing or too many, write end=$count" ;;
     esac
 }
 
+# The number in a header line of a file that was read.
+number_in() { # COPY PLACE
+    sed -n "$2s/^[a-z]*=//p" "$1"
+}
+
+# Refusal 10. The premium needs the cells below the deductible, and no other.
+explain_wide() { # PLACE COPY
+    wrong="the bound of the cell of the total claim $1 is above 250,000 units"
+    deductible=$(number_in "$2" 6)
+    if [ "$1" -ge "$deductible" ]; then
+        advice="lower the horizon to less than $1 (but not below $((deductible > 0 ? deductible - 1 : 0))): it says where the listing stops, and the premium does not depend on it"
+    else
+        advice="this program cannot price the fund with this deductible: its premium needs the cell of $1. A lower deductible is another cover, with another premium"
+    fi
+}
+
 # Sets wrong and advice for the refusals that are the same of a file and of sheets, and lines to the lines to be shown.
-explain_fund() { # NUMBER PLACE
+explain_fund() { # NUMBER PLACE [COPY]
     lines=
     case $1 in
         3)
             lines='1 2' wrong='the two editions differ'
-            advice='use member data of the edition of the rates' ;;
+            advice='use member data of the edition of the rates; another number in the line alone does not make it so' ;;
         4)
             lines='3 6' wrong='the deductible is above the horizon + 1'
-            advice='raise the horizon' ;;
+            advice="raise the horizon to at least $(($(number_in "$3" 6) - 1)): it says where the listing stops, and the premium does not depend on it" ;;
         5)
             wrong="the member's age is below that of the first rate line, or there is no rate line"
-            advice='add a rate line for that age or a lower one, or correct the age' ;;
+            advice="add a rate line with the edition's own rates for that age, or correct the age if it is wrong; where the edition has none, the member cannot be priced with it" ;;
         6)
             wrong="the group 1 member's rates add to a half or more"
-            advice='take the member in group 2' ;;
+            advice="check the age, the group and the rates. If they are right, this program cannot price the fund: $no_group" ;;
         7)
             wrong='the load is above 8: for group 2 the expected number of claims, for each life of group 1 the larger figure (q + i)/p'
-            advice='price the fund in parts, or move group 1 members with high rates to group 2' ;;
+            advice="check rates, lives, groups and frequencies. If they are right, this program cannot price the fund: $no_parts" ;;
         8)
             lines=4 wrong='the order is too low for these rates: the truncation figure is above 10^8 units'
-            advice='raise the order, or move members with high rates to group 2' ;;
+            advice='raise the order, up to 12: the exact premium does not depend on it, and the bound gets smaller. If 12 is too low, this program cannot price the fund'
+            [ "$(number_in "$3" 4)" -lt 12 ] || advice="check the groups and the rates, 12 is the highest order. If they are right, this program cannot price the fund: $no_group" ;;
         9)
             wrong='a result slice has fewer than horizon + 1 cells'
             advice='lend longer slices' ;;
         10)
-            lines=3 wrong="the bound of the cell of the total claim $2 is above 250,000 units"
-            advice="lower the horizon to less than $2" ;;
+            lines='3 6'
+            explain_wide "$2" "$3" ;;
         *)
             wrong='a refusal that is not in the table'
             advice='see docs/FUND-FILE.md' ;;
@@ -227,7 +195,7 @@ say_refusal() { # WHO COPY NUMBER PLACE [header]
         1) explain_form "$2" "$4" "$5" ;;
         2) explain_range "$2" "$4" ;;
         5 | 6) explain_fund "$3" "$4"; read_line "$2" "$4" ;;
-        *) explain_fund "$3" "$4"; where= ;;
+        *) explain_fund "$3" "$4" "$2"; where= ;;
     esac
     printf '%s%s: %s (%s): %s\n' "$1" "$where" "$(word_of "$3")" "$3" "$wrong" >&2
     [ "$state" = missing ] || printf '    %s\n' "${text:-(an empty line)}" >&2
@@ -251,13 +219,13 @@ say_row_refusal() { # WHO COPY NUMBER ROW WIDTH LINE
     case $3:$5 in
         11:*)
             wrong='a cell is not taken'
-            advice='look at that row, titles not counted: docs/FUND-FILE.md says what a cell may hold' ;;
+            advice="correct that row, titles not counted, by the fund's or the edition's own data: docs/FUND-FILE.md says what a cell may hold" ;;
         2:24)
             wrong='the age is not above the one before, q + i passes 1, or the rate rows are more than 121'
-            advice='correct the row: ages rise, and the two rates add to at most 1' ;;
+            advice="correct the row by the edition's table: ages rise, and the two rates add to at most 1" ;;
         2:*)
             wrong='the lives up to this row are more than 1,000 in all'
-            advice='correct the number of lives; a fund of more than 1,000 lives is priced in parts' ;;
+            advice="correct the number of lives. A fund of more than 1,000 cannot be priced by this program: $no_parts" ;;
         *) explain_fund "$3" 0 ;;
     esac
     if [ "$length" -lt "$5" ]; then

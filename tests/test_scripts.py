@@ -1,4 +1,4 @@
-"""Checks of ./price, ./compare, ./reprice and scripts/build.
+"""Checks of ./price, ./compare, ./reprice and scripts/build, and of all of them and ./sheet_bytes through symbolic links.
 
     python3 tests/test_scripts.py
 
@@ -6,7 +6,7 @@ It needs the programs listing, level, sheets and compare, which `rt check listin
 are copied to a folder of their own, so nothing of the repository is touched. What they should write comes from the independent
 calculation.
 
-A check is a pair (name, holds).  The last line printed counts them.
+A check is a pair (name, holds).  The last line printed counts them.  What this machine cannot do is named as skipped.
 """
 
 import csv
@@ -15,6 +15,7 @@ import os
 import pty
 import random
 import re
+import resource
 import shutil
 import signal
 import struct
@@ -44,7 +45,7 @@ class Room:
         self.temporary.mkdir()
         self.temporary.chmod(0o777)
         (self.root / "target" / "bin").mkdir(parents=True)
-        for name in ("price", "compare", "reprice", "crates.txt"):
+        for name in ("price", "compare", "reprice", "sheet_bytes", "crates.txt"):
             shutil.copy(ROOT / name, self.root)
         shutil.copytree(ROOT / "scripts", self.root / "scripts")
 
@@ -103,7 +104,8 @@ REFUSED = [
     ("no lives", with_line(GOOD, 9, b"member=40,1,12,8"), 1, 9, "form", "member=40,1,12,8", "takes ,1 behind it"),
     ("nothing at all", b"", 1, 1, "form", None, "the line is missing, the file ends before it"),
     ("the file ends early", b"".join(GOOD.splitlines(True)[:6]), 1, 7, "form", None, "the line that belongs there: worth=NUMBER"),
-    ("no end line", b"".join(GOOD.splitlines(True)[:9]), 1, 10, "form", None, "if these are all, end=1"),
+    ("no end line", b"".join(GOOD.splitlines(True)[:9]), 1, 10, "form", None,
+     "compare the member lines with the fund's list, since a file that was cut off ends like this too; if these are all, end=1\n"),
     ("no line feed at the end", GOOD[:-1], 1, 10, "form", "end=1", "the last line has no line feed"),
     ("carriage returns", GOOD.replace(b"\n", b"\r\n"), 1, 1, "form", "rates=2030\\r", "the line ends in a carriage return"),
     ("something behind the end", GOOD + b"end=1\n", 1, 11, "form", "end=1", "something follows end="),
@@ -117,19 +119,31 @@ REFUSED = [
     ("an order of 13", with_line(GOOD, 4, b"order=13"), 2, 4, "range", "order=13", "order= takes 1 to 12"),
     ("lives of 0", with_line(GOOD, 9, b"member=40,1,12,8,0"), 2, 9, "range", "member=40,1,12,8,0", "lives 1 to 1,000"),
     ("lives of 999 and 2", fund(member_rows=((40, 2, 1, 0, 999), (40, 2, 1, 0, 2))), 2, 10, "range", "member=40,2,1,0,2",
-     "a fund of more than 1,000 lives is priced in parts"),
-    ("a wrong count", with_line(fund(member_rows=((40, 2, 1, 0, 3),) * 2), 11, b"end=6"), 2, 11, "range", "end=6", "write end=2:"),
+     "A fund of more lives cannot be priced by this program: its parts are other covers, with other premiums"),
+    ("a wrong count", with_line(fund(member_rows=((40, 2, 1, 0, 3),) * 2), 11, b"end=6"), 2, 11, "range", "end=6",
+     "above stand 2, whatever their lives. If none is missing or too many, write end=2\n"),
     ("ages that do not rise", fund(rate_rows=((40, 1, 1), (40, 1, 1))), 2, 9, "range", "rate=40,1,1", "the age is not above the one before"),
     ("two editions", fund(members=2031), 3, 0, "edition", "line 2: members=2031", "use member data of the edition of the rates"),
-    ("a deductible above", fund(deductible=4), 4, 0, "deductible", "line 6: deductible=4", "raise the horizon"),
+    ("a deductible above", fund(deductible=4), 4, 0, "deductible", "line 6: deductible=4", "raise the horizon to at least 3: "),
     ("a member of 19", fund(rate_rows=((20, 1000, 0),), member_rows=((20, 1, 1, 0), (19, 1, 1, 0))), 5, 10, "unmatched",
      "member=19,1,1,0,1", "below that of the first rate line"),
-    ("rates of a half", fund(rate_rows=((40, 250000, 250000),), member_rows=((40, 1, 1, 2, 1),)), 6, 9, "half", "member=40,1,1,2,1", "take the member in group 2"),
-    ("nine certain claims", fund(rate_rows=CERTAIN, member_rows=((40, 2, 1, 0, 9),)), 7, 0, "load", None, "price the fund in parts"),
+    ("rates of a half", fund(rate_rows=((40, 250000, 250000),), member_rows=((40, 1, 1, 2, 1),)), 6, 9, "half", "member=40,1,1,2,1",
+     "this program cannot price the fund: group 2 is for members who are replaced on leaving, and with others in it another fund is priced\n"),
+    ("nine certain claims", fund(rate_rows=CERTAIN, member_rows=((40, 2, 1, 0, 9),)), 7, 0, "load", None,
+     "this program cannot price the fund: its parts are other covers, with other premiums"),
     ("twenty of 0.3", fund(rate_rows=((40, 300000, 0),), member_rows=((40, 1, 1, 0, 20),)), 7, 0, "load", None, "the load is above 8"),
-    ("an order too low", fund(order=2), 8, 0, "order", "line 4: order=2", "raise the order"),
+    ("an order too low", fund(order=2), 8, 0, "order", "line 4: order=2", "raise the order, up to 12: the exact premium does not depend on it"),
+    ("the highest order, too low", fund(order=12, rate_rows=((40, 400000, 0),)), 8, 0, "order", "line 4: order=12",
+     "12 is the highest order. If they are right, this program cannot price the fund: group 2 is for members who are replaced"),
     ("eight certain claims", fund(horizon=6, rate_rows=CERTAIN, member_rows=((40, 2, 1, 0, 8),)), 10, 6, "wide", "line 3: horizon=6",
      "total claim 6 is above 250,000 units"),
+    ("eight certain claims, a horizon that can be lower", fund(horizon=6, deductible=6, rate_rows=CERTAIN, member_rows=((40, 2, 1, 0, 8),)), 10, 6, "wide",
+     "line 6: deductible=6", "lower the horizon to less than 6 (but not below 5): "),
+    ("eight certain claims, and no deductible", fund(horizon=6, deductible=0, rate_rows=CERTAIN, member_rows=((40, 2, 1, 0, 8),)), 10, 6, "wide",
+     "line 6: deductible=0", "lower the horizon to less than 6 (but not below 0): "),
+    ("eight certain claims, a deductible that is too high", fund(horizon=6, deductible=7, rate_rows=CERTAIN, member_rows=((40, 2, 1, 0, 8),)), 10, 6,
+     "wide", "line 6: deductible=7", "this program cannot price the fund with this deductible: its premium needs the cell of 6. A lower deductible is another cover"),
+    ("a deductible out of range", with_line(GOOD, 6, b"deductible=4097"), 2, 6, "range", "deductible=4097", "a higher deductible cannot be priced in this unit"),
 ]
 
 
@@ -137,7 +151,7 @@ def says(answer, program, where, number, word, shown, words):
     """That standard error has the place, the word, the line and what to do, and nothing that garbles a terminal."""
     lines = answer[2].splitlines()
     return (len(lines) >= 2 and lines[0].startswith(f"{program}: {where}: {word} ({number}): ") and lines[-1].startswith("what to do: ")
-            and words in answer[2] and (shown is None or "    " + shown in lines)
+            and all(each in answer[2] for each in ((words,) if isinstance(words, str) else words)) and (shown is None or "    " + shown in lines)
             and all(mark == "\n" or mark.isprintable() for mark in answer[2]))
 
 
@@ -300,11 +314,12 @@ REFUSED_SHEETS = [
     ("ages that do not rise", HEADER, floats(RATE, RATE), floats(MEMBER), 2, 9, "rates.sheet", "row 2 (line 9 of the file with these rows)",
      "range", "40, 0.1, 0", "the age is not above"),
     ("999 lives and 2", HEADER, floats(RATE), floats((*MEMBER[:4], 999.0), (*MEMBER[:4], 2.0)), 2, 10, "members.sheet",
-     "row 2 (line 10 of the file with these rows)", "range", "40, 1, 1, 0, 2", "more than 1,000 in all"),
+     "row 2 (line 10 of the file with these rows)", "range", "40, 1, 1, 0, 2",
+     ("more than 1,000 in all", "A fund of more than 1,000 cannot be priced by this program: its parts are other covers, with other premiums")),
     ("unmatched", HEADER, floats(RATE), floats(MEMBER, (39.0, *MEMBER[1:])), 5, 10, "members.sheet",
-     "row 2 (line 10 of the file with these rows)", "unmatched", "39, 1, 1, 0, 1", "add a rate line"),
+     "row 2 (line 10 of the file with these rows)", "unmatched", "39, 1, 1, 0, 1", "add a rate line with the edition's own rates for that age"),
     ("half", HEADER, floats((40.0, 0.5, 0.0)), floats(MEMBER), 6, 9, "members.sheet", "row 1 (line 9 of the file with these rows)", "half",
-     "40, 1, 1, 0, 1", "take the member in group 2"),
+     "40, 1, 1, 0, 1", "group 2 is for members who are replaced on leaving"),
     ("a header out of range", with_line(HEADER, 4, b"order=13"), floats(RATE), floats(MEMBER), 2, 4, "header.txt", "line 4", "range", "order=13",
      "order= takes 1 to 12"),
     ("a header cut", HEADER[:HEADER.index(b"worth")], floats(RATE), floats(MEMBER), 1, 7, "header.txt", "line 7", "form", None, "is missing"),
@@ -595,7 +610,81 @@ def document_checks(room, folder):
         yield f"documents: a refusal in words: {page}", shown_in(page, answer[1].decode() + answer[2])
 
 
-# A program that ends by a signal, writes something else, or ends with a status, where a name says so.
+# Advice
+
+def with_number(data, key, number):
+    return re.sub(rb"(?m)^%s=.*$" % key, b"%s=%d" % (key, number), data)
+
+
+def end_of(room, data):
+    """Premium, bound and gross premium, as the listing has them; the line of a refusal where there is none."""
+    lines = room.run("price", given=data)[1].split(b"\n")
+    return tuple(int(line.split(b"=")[1]) for line in lines[-4:-1]) if len(lines) > 3 else lines[0]
+
+
+def advice_checks(room, folder):
+    """Who follows the advice has the premium of the same fund; what the pages say of another fund is so."""
+    sixty = (EXAMPLES / "sixty-members.fund").read_bytes()
+    right = end_of(room, sixty)
+    yield "advice: the horizon changes no premium", all(end_of(room, with_number(sixty, b"horizon", most)) == right for most in (59, 60, 61, 150, 1000, 4095))
+    low = with_number(sixty, b"horizon", 58)
+    advised = int(re.search(r"raise the horizon to at least (\d+):", room.run("price", given=low)[2])[1])
+    yield "advice: deductible (4)", end_of(room, low) == b"refused=4,0" and end_of(room, with_number(low, b"horizon", advised)) == right
+    for order in (1, 2):
+        found = end_of(room, with_number(sixty, b"order", order))
+        yield f"advice: order (8): from {order}", found == b"refused=8,0" if order == 1 else abs(found[0] - right[0]) <= found[1] + right[1] and found[1] > right[1]
+    eight = fund(horizon=6, order=3, rate_rows=CERTAIN, member_rows=((40, 2, 1, 0, 8),))
+    for deductible in range(8):
+        wide = with_number(eight, b"deductible", deductible)
+        said = room.run("price", given=wide)[2]
+        advised = re.search(r"lower the horizon to less than (\d+) \(but not below (\d+)\)", said)
+        if deductible > 6:
+            yield f"advice: wide (10): {deductible}", not advised and "cannot price the fund with this deductible" in said and all(
+                isinstance(end_of(room, with_number(wide, b"horizon", horizon)), bytes) for horizon in range(8))
+            continue
+        most, least = int(advised[1]) - 1, int(advised[2])
+        found = {end_of(room, with_number(wide, b"horizon", horizon)) for horizon in range(least, most + 1)}
+        yield f"advice: wide (10): {deductible}", most == 5 and len(found) == 1 and isinstance(found.pop(), tuple)
+        yield f"advice: wide (10): {deductible}: no lower horizon", not least or end_of(room, with_number(wide, b"horizon", least - 1)) == b"refused=4,0"
+    page = (ROOT / "docs" / "FUND-FILE.md").read_text()
+    yield from page_checks(room, sixty, right, " ".join(page.split()))
+    for name in ("README.md", "docs/FUND-FILE.md", "docs/COMPARING.md", "scripts/refusals.sh", "price", "compare", "reprice", "sheet_bytes", "include/miguepo.h"):
+        found = (ROOT / name).read_text().lower()
+        yield f"advice: {name}: neither parts nor another group", not any(
+            words in found for words in ("priced in parts", "price the fund in parts", "take the member in group 2", "members to group 2", "rates to group 2"))
+
+
+def page_checks(room, sixty, right, page):
+    """The figures of docs/FUND-FILE.md on what is another fund."""
+    def francs(*parts):
+        gross = [end_of(room, part)[2] for part in parts]
+        words = [f"{centimes // 100:,}.{centimes % 100:02}" for centimes in (*gross, sum(gross))]
+        return f"{' + '.join(words[:-1])} = {words[-1]}" if len(parts) > 1 else words[-1]
+
+    lines = sixty.splitlines(True)
+    halves = [b"".join(lines[:48] + lines[start:start + 30] + [b"end=30\n"]) for start in (48, 78)]
+    yield "advice: the whole", f"| the whole fund, deductible 60 | {francs(sixty)} |" in page
+    for deductible in (30, 60):
+        found = francs(*(with_number(half, b"deductible", deductible) for half in halves))
+        yield f"advice: halves with {deductible}", f"| each half by itself, deductible {deductible} | {found} |" in page
+    half = (EXAMPLES / "half.fund").read_bytes()
+    premium = end_of(room, half.replace(b"member=40,1,", b"member=40,2,"))[0]
+    yield "advice: another group", end_of(room, half) == b"refused=6,9" and f"the premium is {comparison.units(premium)}." in page
+
+    def in_unit(amount, deductible, worth, horizon):
+        made = re.sub(rb"(?m)^(member=\d+,\d),(\d+),(\d+)", lambda m: b"%s,%d,%d" % (m[1], amount(int(m[2])), amount(int(m[3]))), sixty)
+        for key, number in ((b"deductible", deductible), (b"worth", worth), (b"horizon", horizon)):
+            made = with_number(made, key, number)
+        return made
+
+    hundreds = in_unit(lambda amount: 10 * amount, 600, 10000, 4095)
+    premium, bound, _ = end_of(room, hundreds)
+    yield "advice: hundreds of francs", abs(premium - 10 * right[0]) <= bound + 10 * right[1] and f"a gross premium of {francs(hundreds)}." in page
+    for words, amount in (("rounded to the nearest, the gross premium is", lambda amount: (amount + 5) // 10), ("all rounded up,", lambda amount: -(-amount // 10))):
+        yield f"advice: tens of thousands, {words}", f"{words} {francs(in_unit(amount, 6, 1000000, 60))}" in page
+
+
+# A program that ends by a signal, writes something else or not all, says something, or ends with a status, where a name says so.
 FAULTY = """#!/bin/sh
 echo "$#" >>"{log}"
 for path; do
@@ -604,6 +693,9 @@ for path; do
         *garbage*) echo garbage ;;
         *status*) exit 3 ;;
         *silent*) exit 0 ;;
+        *cut*) "{program}" "$@" | head -c 200; exit 0 ;;
+        *feed*) "{program}" "$@" | tr -d '\\n'; exit 0 ;;
+        *said*) echo 'standard output: No space left on device' >&2 ;;
     esac
 done
 exec "{program}" "$@"
@@ -613,13 +705,16 @@ exec "{program}" "$@"
 def faulty_checks(room, folder):
     old, new = folder / "faulty old", folder / "faulty new"
     made = {f"{k:03}.fund": (OLD, NEW) for k in range(90)}
-    faulty = ["010 killed", "020 garbage", "030 status", "040 silent"]
+    faulty = ["010 killed", "020 garbage", "030 status", "040 silent", "050 cut", "060 feed", "070 said"]
     for side, where in enumerate((old, new)):
         where.mkdir()
         for name, data in made.items():
             (where / name).write_bytes(data[side])
         for name in faulty:
             (where / name).write_bytes(GOOD)
+    (old / "080 said").write_bytes(OLD)
+    (new / "080 said").symlink_to(MEMORY)
+    faulty.append("080 said")
     program = room.root / "target" / "bin" / "compare"
     kept = program.rename(folder / "compare program")
     log = folder / "runs"
@@ -630,6 +725,8 @@ def faulty_checks(room, folder):
     expected = [failed.get(name) or [name, *row] for name in sorted([*made, *faulty])]
     yield "reprice: a failing program: status", answer[0] == 2
     yield "reprice: a failing program: the table", table_of(answer[1])[1:] == expected
+    yield "reprice: a failing program: why", [line.split(": ")[1] for line in answer[2].splitlines()] == faulty and (
+        "reprice: 070 said: the program failed: standard output: No space left on device; standard output: " in answer[2])
     yield "reprice: many pairs in a process", max(map(int, log.read_text().split())) >= 10
     room.put_program("compare", "#!/bin/sh\nexit 0\n")
     (folder / "one.fund").write_bytes(OLD)
@@ -640,6 +737,225 @@ def faulty_checks(room, folder):
     yield "compare: a file that is not there, without the program", answer[:2] == (2, b"unreadable=new\n") and answer[2].count("\n") == 1
     yield "reprice: rows without the program", not_read(room.run("reprice", "--rows", old, new, "000.fund"), "scripts/build compare")
     kept.rename(program)
+
+
+# A listing is printed whole, or not at all
+
+SAYS = "standard output: No space left on device"
+
+
+def cuts_of(listing):
+    """The listing cut in each of its lines, and in front of each line feed, and between two lines."""
+    found, at = [], 0
+    for line in listing.splitlines(True):
+        found += [at, at + len(line) // 2, at + len(line) - 1]
+        at += len(line)
+    return [listing[:end] for end in sorted(set(found))]
+
+
+def put_writer(room, folder, name, listing, said=""):
+    """A program that writes this and says that, and ends with status 0."""
+    (folder / "written").write_bytes(listing)
+    room.put_program(name, f"#!/bin/sh\ncat >/dev/null\ncat '{folder / 'written'}'\n" + (f"echo '{said}' >&2\n" if said else ""))
+
+
+def whole_checks(room, folder):
+    """Programs that answer status 0 and write a listing that is cut, or another one, or say something."""
+    good, sheet_files = folder / "good.fund", [folder / name for name in ("header.txt", "rates.sheet", "members.sheet")]
+    good.write_bytes(GOOD)
+    for file, data in zip(sheet_files, (HEADER, floats(RATE), floats(MEMBER))):
+        file.write_bytes(data)
+    (folder / "new.fund").write_bytes(NEW)
+    listing, level, refused = pricing.listing(pricing.price(GOOD)).encode(), b"quantile=1\n", b"refused=2,4\n"
+    other = NEW.replace(b"worth=100000", b"worth=99").replace(b"member=41,2,1,3,2", b"member=41,2,1,3,1")
+    pair = ("compare", folder / "new.fund", folder / "new.fund")
+    ways = [("listing", ("price", good), {}, (listing, refused), (level, refused * 2, b"x=1\n" + refused, b"gross=1\n")),
+            ("listing", ("price",), {"given": GOOD}, (listing, refused), (level,)),
+            ("level", ("price", "--level", "0.9", good), {}, (level, b"quantile=none\n", refused), (listing, level * 2)),
+            ("sheets", ("price", "--sheets", *sheet_files), {}, (listing, refused), (level,)),
+            ("sheets", ("price", "--level", "0.9", "--sheets", *sheet_files), {}, (level, refused), (listing,)),
+            ("compare", pair, {}, (compared(OLD, NEW), compared(REFUSED_OLD, NEW), compared(OLD, REFUSED_NEW), compared(REFUSED_OLD, REFUSED_NEW)),
+             (b"unreadable=old\n", b"unreadable=old\nunreadable=new\n", compared(OLD, NEW) * 2, b"other=none\n"))]
+    for program, words, options, whole, wrong in ways:
+        kept = (room.root / "target" / "bin" / program).rename(folder / "kept")
+        what = f"whole: {program} {' '.join(str(word) for word in words[1:] if str(word).startswith('--'))}{options and ' standard input' or ''}"
+        for made in whole:
+            put_writer(room, folder, program, made)
+            answer = room.run(*words, **options)
+            yield f"{what}: {made[:8]}.. is printed", answer[0] in (0, 1) and answer[1] == made
+            put_writer(room, folder, program, made, SAYS)
+            answer = room.run(*words, **options)
+            yield f"{what}: {made[:8]}.. with a message", not_read(answer, SAYS + "\n") and "gave no whole listing" in answer[2]
+        for made in [cut for text in whole for cut in cuts_of(text)] + list(wrong):
+            put_writer(room, folder, program, made)
+            yield f"{what}: {made[:8]}.. of {len(made)} bytes", not_read(room.run(*words, **options), f"the program {program} gave no ")
+        put_writer(room, folder, program, b"", "a\33[2Jb\nc")
+        yield f"{what}: a message that garbles", not_read(room.run(*words, **options), "a?[2Jb\nc\n")
+        kept.replace(room.root / "target" / "bin" / program)
+    # Cut between its two last lines it could be whole: then the message alone tells.
+    kept = (room.root / "target" / "bin" / "compare").rename(folder / "kept")
+    both = compared(OLD, other)
+    put_writer(room, folder, "compare", both[:both.index(b"other=member")], SAYS)
+    yield "whole: compare: without the second line of other", not_read(room.run(*pair), SAYS)
+    # The second of three pairs fails: the first is whole, and nothing follows it.
+    room.put_program("compare", f'#!/bin/sh\nif grep -q worth=99 "$2"; then "{kept}" "$@" | head -c 300; else exec "{kept}" "$@"; fi\n')
+    for name, data in (("old.fund", OLD), ("other.fund", other)):
+        (folder / name).write_bytes(data)
+    files = [folder / name for name in ("old.fund", "new.fund", "old.fund", "other.fund", "old.fund", "new.fund")]
+    answer = room.run("compare", *files)
+    yield "whole: compare: the second of three pairs", (answer[:2] == (2, compared(OLD, NEW))
+                                                        and f"compare: {files[2]} and {files[3]}: the program compare gave no whole listing" in answer[2])
+    kept.replace(room.root / "target" / "bin" / "compare")
+    yield "whole: nothing left", room.is_clean()
+
+
+def into(room, words, output, **options):
+    """Status, standard error and whether nothing is left, of a run whose standard output is this one."""
+    done = subprocess.run([room.root / words[0], *words[1:]], stdin=subprocess.DEVNULL, stdout=output, stderr=subprocess.PIPE, check=False,
+                          env={**os.environ, "TMPDIR": str(room.temporary), "PYTHONDONTWRITEBYTECODE": "1"}, **options)
+    return done.returncode, done.stderr.decode(errors="replace"), room.is_clean()
+
+
+def output_checks(room, folder):
+    """A standard output that is full, closed, or read by nobody."""
+    old, new = folder / "old", folder / "new"
+    for where, data in ((old, OLD), (new, NEW)):
+        where.mkdir()
+        (where / "a.fund").write_bytes(data)
+    one, two, sixty = old / "a.fund", new / "a.fund", EXAMPLES / "sixty-members.fund"
+    sheet_files = [EXAMPLES / "sheets" / name for name in ("header.txt", "rates.sheet", "members.sheet")]
+    for words in (("price", sixty), ("price", EXAMPLES / "half.fund"), ("price", "--level", "0.99", sixty), ("price", "--sheets", *sheet_files),
+                  ("price", "--level", "0.99", "--sheets", *sheet_files), ("price", "--help"), ("compare", one, two), ("compare", one, two, two, one),
+                  ("compare", one, folder / "none"), ("compare", "--help"), ("reprice", old, new), ("reprice", "--names", old, new),
+                  ("reprice", "--rows", old, new, "a.fund"), ("reprice", "--heading"), ("reprice", "--help")):
+        what = "output: " + " ".join(str(word) if not isinstance(word, Path) else word.name for word in words)
+        with open("/dev/full", "wb") as full:
+            status, said, clean = into(room, words, full)
+        yield f"{what}: full", status == 2 and f"{words[0]}: standard output could not be written" in said and clean
+        status, said, clean = into(room, words, None, preexec_fn=lambda: os.close(1))
+        yield f"{what}: closed", status == 2 and f"{words[0]}: standard output could not be written" in said and clean
+        for name, options in (("a pipe that nobody reads", {}), ("the same, with the signal ignored", {"restore_signals": False})):
+            reading, writing = os.pipe()
+            os.close(reading)
+            status, said, clean = into(room, words, writing, **options)
+            os.close(writing)
+            yield f"{what}: {name}", "Traceback" not in said and clean and (
+                status == 2 and f"{words[0]}: standard output could not be written" in said or "--help" in words and status < 0)
+
+
+def limited(most):
+    """No file can get longer than this, as on a disk that is full."""
+    return lambda: resource.setrlimit(resource.RLIMIT_FSIZE, (most, most))
+
+
+# As root of a name space of its own, whose mounts end with it: so many KiB for temporary files, of which so many are taken.
+SMALL = """mount -t tmpfs -o "size=$1k" tmpfs "$TMPDIR" || exit 99
+[ "$2" -eq 0 ] || head -c "$2k" /dev/zero >"$TMPDIR/taken" || exit 99
+shift 2
+"$@"
+status=$?
+rm -f "$TMPDIR/taken"
+[ ! "$(ls -A "$TMPDIR")" ] || exit 98
+exit "$status"
+"""
+
+
+def temporary_checks(room, folder):
+    """Where temporary files cannot get longer than so many bytes, or their folder is full, the answer is the right one or none."""
+    old, new, good = folder / "old.fund", folder / "new.fund", folder / "good.fund"
+    for file, data in ((old, OLD), (new, NEW), (good, GOOD)):
+        file.write_bytes(data)
+    sheet_files = [folder / name for name in ("header.txt", "rates.sheet", "members.sheet")]
+    for file, data in zip(sheet_files, (text(order=8).header(), floats(RATE), floats(*[MEMBER] * 4))):
+        file.write_bytes(data)
+    whole = {}
+    for words, given in ((("price", good), b""), (("price",), GOOD), (("price", "--level", "0.9", good), b""), (("price", "--sheets", *sheet_files), b""),
+                         (("compare", old, new), b""), (("compare", old, new, new, old), b"")):
+        what = f"temporary: {' '.join(str(word) if not isinstance(word, Path) else word.name for word in words)}"
+        right = whole[words] = room.run(*words, given=given)
+        for restored, way in ((True, "ended by the signal"), (False, "told so")):
+            found = [room.run(*words, given=given, preexec_fn=limited(most), restore_signals=restored) for most in (*range(0, 240, 20), 300, 1000)]
+            none = [answer for answer in found if answer[0] == 2 and answer[1] == b"" and answer[2]]
+            yield f"{what}: {way}", right[0] == 0 and all(answer == right or answer in none for answer in found)
+            yield f"{what}: {way}: of both kinds", found[0] in none and found[-1] == right
+            yield f"{what}: {way}: nothing left", room.is_clean()
+    answer = room.run("compare", old, new, preexec_fn=limited(len(OLD)), restore_signals=False)
+    yield "temporary: compare: a copy that is cut is not called unreadable", not_read(answer, "new file: a copy that could not be written to ")
+    yield from small_folder_checks(room, whole, sheet_files)
+
+
+def small_folder_checks(room, whole, sheet_files):
+    """The same with a folder that is really full."""
+    alone = ["unshare", "-m"] if os.geteuid() == 0 else ["unshare", "-rm"]
+    environment = {**os.environ, "TMPDIR": str(room.temporary)}
+
+    def run(size, taken, *words):
+        done = subprocess.run([*alone, "sh", "-c", SMALL, "sh", str(size), str(taken), room.root / words[0], *words[1:]], stdin=subprocess.DEVNULL,
+                              capture_output=True, env=environment, check=False)
+        return done.returncode, done.stdout, done.stderr.decode()
+
+    if not shutil.which("unshare") or run(16, 0, "price", "--help")[0]:
+        yield "temporary: a folder of 16 KiB", None
+        return
+    sixty = EXAMPLES / "sixty-members.fund"
+    whole = {words: answer for words, answer in whole.items() if len(words) > 1}
+    whole["price", sixty] = room.run("price", sixty)
+    for words, right in whole.items():
+        what = f"temporary: {words[0]} {words[1] if words[1] == '--level' else words[-1].name}"
+        found = [run(16, taken, *words) for taken in (16, 12, 8, 4, 0)] + [run(64, 0, *words)]
+        yield f"{what}: a folder that is full", all(answer == right or not_read(answer, f"{words[0]}: ") for answer in found)
+        yield f"{what}: a folder that is full: of both kinds", found[0] != right and found[-1] == right
+    yield "temporary: a listing that does not fit", not_read(run(16, 0, "price", sixty), SAYS + "\nprice: the program listing gave no whole listing")
+    yield "temporary: sheets that do not fit", not_read(run(16, 8, "price", "--sheets", *sheet_files), "members.sheet")
+
+
+# Symbolic links
+
+def link_checks(room, folder):
+    """The scripts through links: absolute, relative, a chain, in folders with spaces, found on the path."""
+    good, listing = EXAMPLES / "one-member.fund", pricing.listing(pricing.price(GOOD)).encode()
+    pool = folder / "pool"
+    pool.mkdir()
+    (pool / "a.fund").write_bytes(GOOD)
+    (folder / "rates.csv").write_text("40,0.1,0\n")
+    scripts = {"price": ((good,), lambda out: out == listing), "compare": ((good, good), lambda out: out == compared(GOOD, GOOD)),
+               "reprice": ((pool, pool), lambda out: table_of(out)[1:] == [expected_row("a.fund", GOOD, GOOD)]),
+               "sheet_bytes": (("--columns", "3", folder / "rates.csv", "/dev/null"), lambda out: out == b"1 rows of 3 cells\n")}
+    far = folder / "a folder" / "with 'one'"
+    (far / "deep").mkdir(parents=True)
+    (folder / "there").symlink_to(far / "deep")
+    (folder / "with 'one'").mkdir()              # where a link to ../ would lead if its folder were taken by its name
+    for name, (words, holds) in scripts.items():
+        (far / f"{name} absolute").symlink_to(room.root / name)
+        (folder / f"{name}-relative").symlink_to(Path("..") / room.root.relative_to(folder.parent) / name)
+        (far / "deep" / f"{name} chain").symlink_to(Path("..") / f"{name} absolute")
+        (folder / f"-{name}").symlink_to(Path("there") / f"{name} chain")
+        for link, where in ((far / f"{name} absolute", folder), (folder / f"{name}-relative", folder), (Path(f"./{name}-relative"), folder),
+                            (Path("there") / f"{name} chain", folder), (Path(f"{name} chain"), far / "deep"), (Path("/") / far / "deep" / f"{name} chain", "/"),
+                            (folder / f"-{name}", "/")):
+            command = [f"./{link}" if "/" not in str(link) else link, *words]
+            done = subprocess.run(command, capture_output=True, cwd=where, check=False, env={**os.environ, "CDPATH": str(folder.parent)})
+            yield f"links: {name}: {link}", done.returncode == 0 and holds(done.stdout) and done.stderr == b""
+        done = subprocess.run([f"{name}-relative", *words], capture_output=True, check=False, env={**os.environ, "PATH": f"{folder}:{os.environ['PATH']}"})
+        yield f"links: {name}: on the path", done.returncode == 0 and holds(done.stdout)
+        if name in ("price", "compare"):
+            done = subprocess.run(["sh", f"{name}-relative", *words], capture_output=True, check=False, cwd=folder)
+            yield f"links: {name}: by sh", done.returncode == 0 and holds(done.stdout)
+    same = [re.findall(r"(?s)# The folder of this script.*?\ndone\n", (ROOT / name).read_text()) for name in ("price", "compare", "scripts/build")]
+    yield "links: the same lines in all scripts", len(same[0]) == 1 and same == same[:1] * 3
+    program = room.root / "target" / "bin" / "listing"
+    kept = program.rename(folder / "listing program")
+    (folder / "rt").write_text(f'#!/bin/sh\npwd -P\ncp "{kept}" "{program}"\n')
+    (folder / "rt").chmod(0o755)
+    (far / "build link").symlink_to(room.root / "scripts" / "build")
+    environment = {**os.environ, "PATH": f"{folder}:{os.environ['PATH']}"}
+    for link, where in ((far / "build link", "/"), (Path("./build link"), far)):
+        program.unlink(missing_ok=True)
+        done = subprocess.run([f"./{link}" if where == far else link, "listing"], capture_output=True, cwd=where, check=False, env=environment)
+        yield f"links: build: {link}", done.returncode == 0 and program.exists() and b"building the listing program" in done.stderr
+    program.unlink(missing_ok=True)
+    yield "links: price builds", room.run(folder / "price-relative", good, path=folder)[:2] == (0, listing)
+    kept.replace(program)
 
 
 # scripts/build
@@ -729,8 +1045,8 @@ def checks():
         folder.chmod(0o755)
         room = Room(folder)
         add_programs(room)
-        for part in (price_checks, damaged_checks, accepted_checks, unread_checks, sheet_checks, compare_checks, reprice_checks, document_checks,
-                     faulty_checks, build_checks):
+        for part in (price_checks, damaged_checks, accepted_checks, unread_checks, sheet_checks, compare_checks, reprice_checks, document_checks, advice_checks,
+                     faulty_checks, whole_checks, output_checks, temporary_checks, link_checks, build_checks):
             own = folder / part.__name__
             own.mkdir()
             found += part(room, own)
@@ -743,10 +1059,13 @@ def main():
         print(f"not built: {' '.join(missing)}; rt check listing level sheets compare builds them", file=sys.stderr)
         return 2
     found = checks()
-    bad = [name for name, holds in found if not holds]
+    skipped = [name for name, holds in found if holds is None]
+    bad = [name for name, holds in found if not holds and holds is not None]
+    for name in skipped:
+        print(f"  skipped {name}: not possible on this machine")
     for name in bad:
         print(f"  FAILED {name}")
-    print(f"{len(found) - len(bad)} passed, {len(bad)} failed")
+    print(f"{len(found) - len(bad) - len(skipped)} passed, {len(bad)} failed")
     return 1 if bad else 0
 
 

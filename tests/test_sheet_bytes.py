@@ -5,6 +5,7 @@
 A check is a pair (name, holds).  The last line printed counts them.
 """
 
+import resource
 import struct
 import subprocess
 import sys
@@ -64,11 +65,13 @@ def ods(path, *tables, part="content.xml"):
 
 # One run: the exit status, what is said, and the bytes written or None
 
-def run(folder, name, columns, *options):
+def run(folder, name, columns, *options, most=resource.RLIM_INFINITY):
+    """Where most is given, no file can get longer, as on a disk that is full."""
     made = folder / "made"
     made.unlink(missing_ok=True)
     done = subprocess.run([sys.executable, ROOT / "sheet_bytes", "--columns", str(columns), *options, folder / name, made],
-                          stdout=subprocess.PIPE, stderr=subprocess.PIPE, text=True)
+                          stdout=subprocess.PIPE, stderr=subprocess.PIPE, text=True,
+                          preexec_fn=lambda: resource.setrlimit(resource.RLIMIT_FSIZE, (most, most)))
     return done.returncode, done.stdout + done.stderr, made.read_bytes() if made.exists() else None
 
 
@@ -192,6 +195,9 @@ def use_checks(folder):
     yield "use: a separator of two characters: an error", faulty(run(folder, "sheet.csv", 5, "--separator", "ab"), "one character")
     yield "use: a separator for .ods: an error", faulty(run(folder, "sheet.ods", 5, "--separator", ";"), "is for .csv")
     yield "use: a sheet for .csv: an error", faulty(run(folder, "sheet.csv", 5, "--sheet", "one"), "is for .ods")
+    for most in (0, 1, 40, 79):
+        yield f"use: no room for more than {most} bytes: an error", faulty(run(folder, "sheet.csv", 5, most=most), "made: File too large")
+    yield "use: room for all bytes", made(run(folder, "sheet.csv", 5, most=80), MEMBERS)
     yield "use: how many rows", run(folder, "sheet.csv", 5)[1] == "2 rows of 5 cells\n"
 
 
