@@ -22,7 +22,7 @@ use Rattle.cells.specs.Quotient.{whole-value}
 use Rattle.cells.specs.Taken.{NeverTaken, never-taken, infinite, rate-at, whole-at, whole-none, rate-value, rate-units, rate-most, rate-near}
 
 -- ---- blanks
-blank-of : (x : Float) → (T (isNan x) → cellOf x ≡ Blank) × (T (not (isNan x)) → cellOf x ≡ Number x)
+pub blank-of : (x : Float) → (T (isNan x) → cellOf x ≡ Blank) × (T (not (isNan x)) → cellOf x ≡ Number x)
 unfolding cellOf isNan
 blank-of nan = ((λ t. refl), (λ t. absurd t))
 blank-of (inf s) = ((λ t. absurd t), (λ t. refl))
@@ -103,7 +103,7 @@ scaled-carry h (suc x) t e =
     ∙ add-mul (h + t) 1 (2 ^ x) ∙ ap (λ (z : ℕ). (h + t) * 2 ^ x + z) (one-mul (2 ^ x))
 
 -- the fraction is not yet full, or it is
-full-or-not : (a b : ℕ) → (a < b) ⊎ (b ≤ a)
+pub full-or-not : (a b : ℕ) → (a < b) ⊎ (b ≤ a)
 full-or-not a b = let z : 0 ≤ b - a = zero-le in elim (eq-or-lt-of-le z) [ inl e ↦ inr (omega arith) | inr h ↦ inl (omega arith) ]
 
 pub units-next : (p : ℕ) → units (suc p) ≡ units p + ulp (p / 2 ^ 52)

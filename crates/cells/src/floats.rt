@@ -1,17 +1,25 @@
-// The floats of a row's bytes: eight bytes each, least byte first.
+// The bits of a row's cells, eight bytes each, least byte first, and the floats of these bits.
 use fund::MemberFloats;
 use fund::RateFloats;
 ghost use mathlib.Core.Path.{_≡_};
-ghost use Prim.Native.Nat.{_+_, _≤_, _<_};
-ghost use lib.ListN.{take, drop, getD};
-ghost use lib.Ieee.{binary64, ofBits};
-ghost use Rattle.fund.specs.Cells.{leastFirst, floatAt, rateFloats, memberFloats, rate-width, member-width};
+ghost use Prim.Native.Nat.{_+_, _^_, _≤_, _<_};
+ghost use lib.ListN.{take, drop};
+ghost use lib.Ieee.{binary64, nanBits, ofBits};
+ghost use Rattle.fund.specs.Cells.{leastFirst};
+ghost use Rattle.cells.specs.Plain.{ratesOf, membersOf};
+
+// A pattern without its sign is a NaN's where it is above the infinity's.
+pub(crate) fn is_nan(bits: u64) -> bool
+    ensures { λ r. ⌜ r ≡ nanBits binary64 bits ⌝ }
+{
+    0x7ff0_0000_0000_0000 < bits % 0x8000_0000_0000_0000
+}
 
 // The float of a bit pattern. `from_bits` asks that the pattern is no NaN's; 0 / 0 is the NaN.
-pub fn float(bits: u64) -> f64
+fn float(bits: u64) -> f64
     ensures { λ r. ⌜ r ≡ ofBits binary64 bits ⌝ }
 {
-    if 0x7ff0_0000_0000_0000 < bits % 0x8000_0000_0000_0000 {
+    if is_nan(bits) {
         0.0 / 0.0
     } else {
         f64::from_bits(bits)
@@ -24,57 +32,48 @@ fn wide(b: u8) -> u64
     b as u64
 }
 
-// The byte of the eight from `at` on that counts 256 to the power of i.
-fn byte(row: &[u8], at: usize, i: usize) -> u64
-    requires { do ⌜ (i < 8) × (at + 8 ≤ (← ⟦row.len()⟧)) ⌝ }
-    ensures { λ r. ⌜ (r ≡ getD (now (row .entry)) (at + i) 0) × (r < 256) ⌝ }
+// The bits of two bytes, of four, and of the eight of a cell, from `at` on.
+fn two(row: &[u8], at: usize) -> u64
+    requires { do ⌜ at + 2 ≤ (← ⟦row.len()⟧) ⌝ }
+    ensures { λ r. ⌜ (r ≡ leastFirst (take 2 (drop at (now (row .entry))))) × (r < 2 ^ 16) ⌝ }
 {
-    wide(row[at + i])
+    wide(row[at + 1]) * 0x100 + wide(row[at])
 }
 
-// The number of the eight bytes from `at` on.
-fn word(row: &[u8], at: usize) -> u64
+fn four(row: &[u8], at: usize) -> u64
+    requires { do ⌜ at + 4 ≤ (← ⟦row.len()⟧) ⌝ }
+    ensures { λ r. ⌜ (r ≡ leastFirst (take 4 (drop at (now (row .entry))))) × (r < 2 ^ 32) ⌝ }
+{
+    two(row, at + 2) * 0x1_0000 + two(row, at)
+}
+
+pub(crate) fn word(row: &[u8], at: usize) -> u64
     requires { do ⌜ at + 8 ≤ (← ⟦row.len()⟧) ⌝ }
     ensures { λ r. ⌜ r ≡ leastFirst (take 8 (drop at (now (row .entry)))) ⌝ }
 {
-    let mut v = 0u64;
-    let mut i = 8usize;
-    while 0 < i {
-        i -= 1;
-        v = v * 256 + byte(row, at, i);
-    }
-    v
+    four(row, at + 4) * 0x1_0000_0000 + four(row, at)
 }
 
-fn float_at(row: &[u8], at: usize) -> f64
-    requires { do ⌜ at + 8 ≤ (← ⟦row.len()⟧) ⌝ }
-    ensures { λ r. ⌜ r ≡ floatAt (now (row .entry)) at ⌝ }
-{
-    float(word(row, at))
-}
-
-// Three floats of 24 bytes.
-pub(crate) fn rate_floats(row: &[u8]) -> RateFloats
-    requires { do ⌜ rate-width ≤ (← ⟦row.len()⟧) ⌝ }
-    ensures { λ r. ⌜ r ≡ rateFloats (now (row .entry)) ⌝ }
+// Three floats, each from its bits.
+pub(crate) fn rate_floats(age: u64, q: u64, i: u64) -> RateFloats
+    ensures { λ r. ⌜ r ≡ ratesOf age q i ⌝ }
 {
     RateFloats {
-        age: float_at(row, 0),
-        q: float_at(row, 8),
-        i: float_at(row, 16),
+        age: float(age),
+        q: float(q),
+        i: float(i),
     }
 }
 
-// Five floats of 40 bytes.
-pub(crate) fn member_floats(row: &[u8]) -> MemberFloats
-    requires { do ⌜ member-width ≤ (← ⟦row.len()⟧) ⌝ }
-    ensures { λ r. ⌜ r ≡ memberFloats (now (row .entry)) ⌝ }
+// Five floats.
+pub(crate) fn member_floats(age: u64, group: u64, d: u64, e: u64, lives: u64) -> MemberFloats
+    ensures { λ r. ⌜ r ≡ membersOf age group d e lives ⌝ }
 {
     MemberFloats {
-        age: float_at(row, 0),
-        group: float_at(row, 8),
-        d: float_at(row, 16),
-        e: float_at(row, 24),
-        lives: float_at(row, 32),
+        age: float(age),
+        group: float(group),
+        d: float(d),
+        e: float(e),
+        lives: float(lives),
     }
 }

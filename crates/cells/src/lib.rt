@@ -1,18 +1,15 @@
-// A row of a sheet, from its bytes to floats, from floats to cells, from cells to numbers, and these to a rate or a member; or it is not taken.
+// A row of a sheet, from its bytes to bits and floats, from floats to cells, from cells to numbers, and these to a rate or a member; or it is not taken.
 mod floats;
 mod number;
 
-pub use floats::float;
 use fund::Fund;
 use fund::Member;
-use fund::MemberFloats;
 use fund::Rate;
-use fund::RateFloats;
 use fund::SheetRow;
 use fund::Taken;
-pub use number::rate;
 ghost use mathlib.Core.Path.{_≡_};
 ghost use Rattle.fund.specs.Cells.{rateJoined, memberJoined, rateTaken, memberTaken, rateRowOf, memberRowOf};
+ghost use Rattle.cells.specs.Plain.{ratesOf, membersOf};
 
 // A row of the rates' sheet.
 pub fn rate_row(row: &[u8]) -> SheetRow
@@ -21,7 +18,11 @@ pub fn rate_row(row: &[u8]) -> SheetRow
     if row.len() != Fund::RATE_WIDTH {
         return SheetRow::NotTaken;
     }
-    rate_taken(floats::rate_floats(row))
+    rate_taken(
+        floats::word(row, 0),
+        floats::word(row, 8),
+        floats::word(row, 16),
+    )
 }
 
 // A row of the members' sheet.
@@ -31,36 +32,44 @@ pub fn member_row(row: &[u8]) -> SheetRow
     if row.len() != Fund::MEMBER_WIDTH {
         return SheetRow::NotTaken;
     }
-    member_taken(floats::member_floats(row))
-}
-
-// Each float is classified, then taken or not, cell by cell.
-fn rate_taken(r: RateFloats) -> SheetRow
-    ensures { λ t. ⌜ t ≡ rateTaken r ⌝ }
-{
-    rate_joined(
-        number::number(0, Fund::MOST_AGE, number::classed(r.age)),
-        number::rate_in(number::classed(r.q)),
-        number::rate_in(number::classed(r.i)),
+    member_taken(
+        floats::word(row, 0),
+        floats::word(row, 8),
+        floats::word(row, 16),
+        floats::word(row, 24),
+        floats::word(row, 32),
     )
 }
 
-fn member_taken(r: MemberFloats) -> SheetRow
-    ensures { λ t. ⌜ t ≡ memberTaken r ⌝ }
+// A record of floats from the bits of a row's cells. Each is classified by its bits, then taken or not, cell by cell.
+fn rate_taken(age: u64, q: u64, i: u64) -> SheetRow
+    ensures { λ t. ⌜ t ≡ rateTaken (ratesOf age q i) ⌝ }
 {
+    let r = floats::rate_floats(age, q, i);
+    rate_joined(
+        number::number(0, Fund::MOST_AGE, number::classed(age, r.age)),
+        number::rate_in(number::classed(q, r.q)),
+        number::rate_in(number::classed(i, r.i)),
+    )
+}
+
+fn member_taken(age: u64, group: u64, d: u64, e: u64, lives: u64) -> SheetRow
+    ensures { λ t. ⌜ t ≡ memberTaken (membersOf age group d e lives) ⌝ }
+{
+    let r = floats::member_floats(age, group, d, e, lives);
     member_joined(
-        number::number(0, Fund::MOST_AGE, number::classed(r.age)),
+        number::number(0, Fund::MOST_AGE, number::classed(age, r.age)),
         number::number(
             Fund::LEAST_GROUP,
             Fund::MOST_GROUP,
-            number::classed(r.group),
+            number::classed(group, r.group),
         ),
-        number::amount(number::classed(r.d)),
-        number::amount(number::classed(r.e)),
+        number::amount(number::classed(d, r.d)),
+        number::amount(number::classed(e, r.e)),
         number::number(
             Fund::LEAST_LIVES,
             Fund::MOST_LIVES,
-            number::classed(r.lives),
+            number::classed(lives, r.lives),
         ),
     )
 }

@@ -3,14 +3,12 @@ use fund::Member;
 use fund::Rate;
 use fund::Refusal;
 use fund::SheetRow;
-use fund::Taken;
 use pricing::Priced;
 use reader::FileRead;
 use reader::Header;
 ghost use mathlib.Core.Path.{_≡_};
-ghost use lib.Ieee.{binary64, ofBits};
 ghost use Rattle.fund.specs.Reading.{stopped};
-ghost use Rattle.fund.specs.Cells.{rateOf, rateRowOf, memberRowOf};
+ghost use Rattle.fund.specs.Cells.{rateRowOf, memberRowOf};
 ghost use Rattle.fund.specs.Sheets.{sheetReading};
 ghost use Rattle.valuation.specs.Valued.{lengths};
 ghost use Rattle.reader.specs.Header.{HeaderRead};
@@ -149,17 +147,4 @@ pub fn claimed_member_row(row: &[u8]) -> SheetRow
     ensures { λ r. ⌜ r ≡ memberRowOf (now (row .entry)) ⌝ }
 {
     cells::member_row(row)
-}
-
-// A binary64 as a rate, and the binary64 of any bits.
-pub fn claimed_rate(x: f64) -> Taken
-    ensures { λ r. ⌜ r ≡ rateOf x ⌝ }
-{
-    cells::rate(x)
-}
-
-pub fn claimed_float(bits: u64) -> f64
-    ensures { λ r. ⌜ r ≡ ofBits binary64 bits ⌝ }
-{
-    cells::float(bits)
 }

@@ -2,6 +2,8 @@
 use Rattle.fund.specs.Cells.{amountOf}
 use mathlib.Core.Path.{sym, ap}
 use borrow.Author.Needs.{needs}
+use native.Mathlib.Omega.{arith}
+use Rattle.cells.specs.Plain.{number-no-nan}
 use Rattle.cells.proofs.number.amount.Statement.{statement}
 use Rattle.cells.proofs.number.amount.Tie as tie
 
@@ -11,8 +13,8 @@ enum-told c = search needs
 enum-known-cell : tie.Need-enum-known-cell
 enum-known-cell c = search needs
 
-whole-requires : tie.Need-whole-requires
-whole-requires c κs = search needs
+whole-of-requires : tie.Need-whole-of-requires
+whole-of-requires c κs = (omega arith, number-no-nan _ (c .before .cell .given .1) (c .before .before .before .pre))
 
 returns : tie.Need-returns
 unfolding amountOf
@@ -23,4 +25,4 @@ unfolding amountOf
 returns-2 c = cc
 
 pub amount-spec : {M : Type 1} → statement M
-amount-spec = tie.close (tie.spec enum-told enum-known-cell whole-requires returns returns-2)
+amount-spec = tie.close (tie.spec enum-told enum-known-cell whole-of-requires returns returns-2)

@@ -1,5 +1,6 @@
 -- `cells::number::rate_in`: by the two cases of a cell.
 use borrow.Author.Needs.{needs}
+use Rattle.cells.specs.Plain.{number-no-nan}
 use Rattle.fund.specs.Cells.{rateIn}
 use Rattle.cells.proofs.number.rate_in.Statement.{statement}
 use Rattle.cells.proofs.number.rate_in.Tie as tie
@@ -14,12 +15,12 @@ returns : tie.Need-returns
 unfolding rateIn
 returns c = cc
 
-rate-requires : tie.Need-rate-requires
-rate-requires c κs = search needs
+rate-of-requires : tie.Need-rate-of-requires
+rate-of-requires c κs = number-no-nan _ (c .before .cell .given .1) (c .before .before .before .pre)
 
 returns-2 : tie.Need-returns-2
 unfolding rateIn
 returns-2 c = cc
 
 pub rate-in-spec : {M : Type 1} → statement M
-rate-in-spec = tie.close (tie.spec enum-known-cell enum-told returns rate-requires returns-2)
+rate-in-spec = tie.close (tie.spec enum-known-cell enum-told returns rate-of-requires returns-2)

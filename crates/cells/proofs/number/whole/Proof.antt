@@ -15,12 +15,6 @@ use Rattle.cells.specs.Part.{OnlyWhole}
 use Rattle.cells.proofs.number.whole.Statement.{statement}
 use Rattle.cells.proofs.number.whole.Tie as tie
 
-no-nan : (x : Float) → ne x x ≡ false → T (not (isNan x))
-unfolding isNan
-no-nan nan e = absurd (subst T (sym nan-differs ∙ e) tt)
-no-nan (inf s) e = tt
-no-nan (fin s m p) e = tt
-
 -- what owning an `f64` tells: the format holds it
 held : (c : tie.Start) → T (fits binary64 (c .args .x))
 held c = subst T (sym (c .good .0 .1)) tt
@@ -34,35 +28,30 @@ above x most k m o l = sym (whole-none x most (λ n h t. not-le-of-lt l (subst (
 other : (x : Float) (most k : ℕ) → most ≤ 2 ^ 53 → OnlyWhole x k → eq x (ofWhole k) ≡ false → Not ≡ wholeOf x most
 other x most k m o e = sym (whole-none x most (λ n h t. subst T (ap (λ (z : ℕ). eq x (ofWhole z)) (o n (le-trans h m) t) ∙ e) t))
 
-returns : tie.Need-returns
-returns c =
-    let start = c .before in
-    sym (ap (λ (y : Float). wholeOf y (start .args .most)) (differs-from-itself (start .args .x) (subst T (sym (c .if1 .taken)) tt)) ∙ not-a-number .1 (start .args .most) (start .pre))
-
 float-to-bits-whole-part : tie.Need-float-to-bits-whole-part
-float-to-bits-whole-part c = no-nan (c .before .args .x) (c .if1 .left)
+float-to-bits-whole-part c = search needs
 
 whole-part-requires : tie.Need-whole-part-requires
 whole-part-requires c κs = search needs
 
+returns : tie.Need-returns
+returns c =
+    let start = c .before .before in
+    above (start .args .x) (start .args .most) _ (start .pre .0) (only (start .args .x) _ (held start) (c .before .whole-part .ensures)) (c .if1 .taken)
+
+int-to-float-if2 : tie.Need-int-to-float-if2
+unfolding inFloat
+int-to-float-if2 c = le→leb _ _ (le-trans (c .before .if1 .left) (c .before .before .before .pre .0))
+
 returns-2 : tie.Need-returns-2
 returns-2 c =
-    let start = c .before .before .before in
-    above (start .args .x) (start .args .most) _ (start .pre) (only (start .args .x) _ (held start) (c .before .whole-part .ensures)) (c .if2 .taken)
-
-int-to-float-if3 : tie.Need-int-to-float-if3
-unfolding inFloat
-int-to-float-if3 c = le→leb _ _ (le-trans (c .before .if2 .left) (c .before .before .before .before .pre))
+    let start = c .before .before .before .before in
+    sym (whole-at (start .args .x) (start .args .most) _ (start .pre .0) .1 (c .before .before .if1 .left) (subst T (sym (c .if2 .taken)) tt))
 
 returns-3 : tie.Need-returns-3
 returns-3 c =
-    let start = c .before .before .before .before .before in
-    sym (whole-at (start .args .x) (start .args .most) _ (start .pre) .1 (c .before .before .if2 .left) (subst T (sym (c .if3 .taken)) tt))
-
-returns-4 : tie.Need-returns-4
-returns-4 c =
-    let start = c .before .before .before .before .before in
-    other (start .args .x) (start .args .most) _ (start .pre) (only (start .args .x) _ (held start) (c .before .before .before .whole-part .ensures)) (c .if3 .left)
+    let start = c .before .before .before .before in
+    other (start .args .x) (start .args .most) _ (start .pre .0) (only (start .args .x) _ (held start) (c .before .before .before .whole-part .ensures)) (c .if2 .left)
 
 pub whole-spec : {M : Type 1} → statement M
-whole-spec = tie.close (tie.spec returns float-to-bits-whole-part whole-part-requires returns-2 int-to-float-if3 returns-3 returns-4)
+whole-spec = tie.close (tie.spec float-to-bits-whole-part whole-part-requires returns int-to-float-if2 returns-2 returns-3)
