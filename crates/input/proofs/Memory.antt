@@ -1,6 +1,6 @@
 -- What a read of a file in memory puts behind the bytes that stand there (one-more), and that where the loop stops or goes on behind it, the file is read so.
 use mathlib.Core.Path.{_≡_, refl, sym, _∙_, ap}
-use mathlib.Core.Bool.{Bool, true, false}
+use mathlib.Core.Bool.{Bool, true, false, true≢false}
 use mathlib.Core.List.{List, [], _∷_, _++_}
 use Prim.Native.Nat.{ℕ, suc, _+_, _-_, _≤_, _<_}
 use native.Mathlib.Omega.{arith}
@@ -12,9 +12,6 @@ use borrow.Author.Tests.{ltb-true}
 use Rattle.io.specs.Counts.{clamped}
 use Rattle.input.specs.Reads.{Reads, fails, ends, more}
 use Rattle.input.specs.Input.{Extends, Stands, Given, Gives, counted, none, ReadMemory}
-
-pub clash : {A : Type 0} → true ≡ false → A
-clash e = let z : _≡_ {A = ℕ} 0 1 = cc in absurd (omega arith)
 
 -- ---- one read
 pub any-default : (l : List ℕ) (i d e : ℕ) → i < length l → getD l i d ≡ getD l i e
@@ -48,12 +45,12 @@ module _ {file pieces before after : List ℕ} {size given : ℕ} where
   pub stops-ended : {z : ℤ} → Gives file pieces before size given after z → ltZ z (pos 0) ≡ false → 0 ≡ clamped z (length before - size) → size < length before →
       Reads file pieces (length before) size size false
   stops-ended (counted g) t c h = ends h (g .some) (omega (arith, g .count, g .some))
-  stops-ended (none g) t c h = clash t
+  stops-ended (none g) t c h = absurd (true≢false t)
 
   pub counts : {z : ℤ} {count : ℕ} → Gives file pieces before size given after z → ltZ z (pos 0) ≡ false → count ≡ clamped z (length before - size) →
       Given file pieces before size given after count
   counts {count = k} (counted {n} g) t c = let e : k ≡ n = omega (arith, g .count) in rw e g
-  counts (none g) t c = clash t
+  counts (none g) t c = absurd (true≢false t)
 
 -- the part that is lent to a read
 pub part-length : (before after : List ℕ) (size : ℕ) → length after ≡ length before → length (take (length after - size) (drop size after)) ≡ length before - size

@@ -1,10 +1,11 @@
 -- A file in memory gives its next bytes; a descriptor below 0 gives none; what stands before the part that is lent to `read` stays.
 use mathlib.Core.Path.{_≡_, refl, sym, _∙_}
+use mathlib.Core.Bool.{true≢false}
 use mir.Syntax.{w32, w64}
 use mir.Val.{toZ, ofZ}
 use lib.Seq.{take-at, length-take-le}
 use borrow.Author.Needs.{needs}
-use Rattle.input.proofs.Memory.{clash, extends}
+use Rattle.input.proofs.Memory.{extends}
 use Rattle.input.proofs.source.read_more.Statement.{statement}
 use Rattle.input.proofs.source.read_more.Tie as tie
 
@@ -20,14 +21,14 @@ returns c =
     record {
       extends = extends (g .ensures) (s .pre .1 memory .bytes);
       gives = λ _. rw same (g .ensures);
-      closed = λ e. clash (sym memory ∙ e .0);
+      closed = λ e. absurd (true≢false (sym memory ∙ e .0));
     }
 
 returns-2 : tie.Need-returns-2
 returns-2 c =
     record {
       extends = record { long = refl; kept = refl };
-      gives = λ e. clash (sym e ∙ c .before .before .before .if1 .left);
+      gives = λ e. absurd (true≢false (sym e ∙ c .before .before .before .if1 .left));
       closed = λ _. refl;
     }
 
@@ -42,8 +43,8 @@ returns-3 c =
     let same : toZ w32 (ofZ w32 (a .source .fd)) ≡ a .source .fd = search needs in
     record {
       extends = record { long = same-length-2 c; kept = take-at _ _ (a .size) (length-take-le (a .size) (a .buffer .now) (s .pre .0)) };
-      gives = λ e. clash (sym e ∙ o .before .before .before .if1 .left);
-      closed = λ e. clash (sym (e .1) ∙ rw same at (o .if2 .left));
+      gives = λ e. absurd (true≢false (sym e ∙ o .before .before .before .if1 .left));
+      closed = λ e. absurd (true≢false (sym (e .1) ∙ rw same at (o .if2 .left)));
     }
 
 pub read-more-spec : {M : Type 1} → statement M
