@@ -1,9 +1,9 @@
 -- The contracts of the pricing calls and of the listing, in plain words (price-answered, price-demands, host-answered, host-demands, prints, prints-level, prints-read,
--- prints-level-read).
+-- prints-level-read, prints-file).
 use mathlib.Core.Path.{_≡_, refl, sym, _∙_, ap, subst}
-use mathlib.Core.Bool.{Bool}
+use mathlib.Core.Bool.{Bool, true, false}
 use mathlib.Core.List.{List, []}
-use Prim.Native.Nat.{ℕ, _-_}
+use Prim.Native.Nat.{ℕ, _-_, _≤_}
 use borrow.Author.Tests.{le-leb, lt-leb}
 use lib.Dec.{leb}
 use lib.IntN.{ℤ}
@@ -23,14 +23,16 @@ use Rattle.distance.specs.Distance.{distance, level-within, never-below}
 use Rattle.text.specs.Shown.{room}
 use Rattle.writing.specs.Writing.{Written}
 use Rattle.printing.specs.declared.PrintedInput.{PrintedInput}
-use Rattle.printing.specs.Input.{PrintsInput, PrintsLevelInput}
+use Rattle.input.specs.AllRead.{first-bytes, fails-at, ends-at}
+use Rattle.prefix.specs.Prefix.{most-bytes}
+use Rattle.printing.specs.Input.{PrintsInput, PrintsLevelInput, ReadsFirst}
 use Rattle.printing.specs.Printed.{shownTo, levelLineTo, shownLevelTo}
 use Rattle.pricing.specs.declared.Priced.{Priced}
 use Rattle.pricing.specs.Priced.{left, horizonWith, Prices}
 use Rattle.pricing.specs.Joining.{told-horizon}
 use Rattle.miguepo.specs.Host.{Hosts}
 use Rattle.claims.specs.Demands.{partBytes, Demands}
-use Rattle.claims.specs.Listing.{Shows, PrintsTo, Prints, PrintsLevelTo, PrintsLevel, PrintsRead}
+use Rattle.claims.specs.Listing.{Shows, PrintsTo, Prints, PrintsLevelTo, PrintsLevel, PrintsRead, PrintsFile}
 use Rattle.claims.specs.Calls.{handed, priced, quantileRead, ResultStruct, hosted}
 use Rattle.claims.proofs.Deriving.{Answered, demands}
 
@@ -142,6 +144,7 @@ prints-read buffer before after p k =
     record {
       printed = λ e file h. prints file (reading file) (read-ranges file) before after (p .size) (k .prints e file h);
       stays = λ e. let s = k .kept e in record { none = s .0; same = s .1 };
+      inside = k .inside;
     }
 
 pub prints-level-read : (level : ℕ) (buffer before after : List ℕ) (p : PrintedInput) → PrintsLevelInput level buffer before after p → PrintsRead (PrintsLevel level) buffer before after (p .failed) (p .read) (p .size)
@@ -149,4 +152,17 @@ prints-level-read level buffer before after p k =
     record {
       printed = λ e file h. prints-level level file (reading file) (read-ranges file) before after (p .size) (k .prints e file h);
       stays = λ e. let s = k .kept e in record { none = s .0; same = s .1 };
+      inside = k .inside;
+    }
+
+-- of a file in memory the bytes that were read are its first ones
+pub prints-file : {prints : List ℕ → List ℕ → List ℕ → ℕ → Type 0} {file pieces buffer before after : List ℕ} {failed : Bool} {read size : ℕ} →
+    PrintsRead prints buffer before after failed read size → (failed ≡ false → most-bytes ≤ length buffer) → ReadsFirst file pieces buffer read failed →
+    PrintsFile prints file pieces buffer before after failed read size
+prints-file {file = file} {buffer = buffer} k enough m =
+    record {
+      printed = λ e. k .printed e file (first-bytes buffer (rw e at (m .reads (enough e))) (m .bytes));
+      stays = k .stays;
+      fails = λ e h. fails-at (rw e at (m .reads h));
+      ends = λ e h. ends-at (rw e at (m .reads (enough e))) h;
     }

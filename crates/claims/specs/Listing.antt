@@ -3,7 +3,7 @@ use mathlib.Core.Path.{_≡_}
 use mathlib.Core.Bool.{Bool, true, false}
 use mathlib.Core.List.{List}
 use Prim.Native.Nat.{ℕ, _^_, _<_, _≤_}
-use lib.ListN.{length, take, drop}
+use lib.ListN.{length, take, drop, getD}
 use Rattle.fund.specs.declared.Verdict.the-variants.{Accepted}
 use Rattle.fund.specs.Reading.{FundFile, Reading, read, reading}
 use Rattle.fund.specs.Quantile.{quantileOf}
@@ -53,3 +53,13 @@ PrintsLevel level file = PrintsLevelTo level file (reading file)
 pub record PrintsRead (prints : List ℕ → List ℕ → List ℕ → ℕ → Type 0) (buffer before after : List ℕ) (failed : Bool) (read size : ℕ) : Type 0 where
   pub printed : failed ≡ false → (file : List ℕ) → take (length buffer) file ≡ take read buffer → prints file before after size
   pub stays : failed ≡ true → Unchanged before after size
+  pub inside : read ≤ length buffer
+
+-- A file in memory that is read in pieces: a read at a place gives at most as many bytes as the piece there says, one behind the last piece, and fails where that is
+-- 0. Whatever the pieces are, the same is printed of the file's own bytes. It fails where a read does, which is the one behind the bytes that were read, or in a
+-- buffer without room for all that is read of a file; and a read that fails is not taken for the end.
+pub record PrintsFile (prints : List ℕ → List ℕ → List ℕ → ℕ → Type 0) (file pieces buffer before after : List ℕ) (failed : Bool) (read size : ℕ) : Type 0 where
+  pub printed : failed ≡ false → prints file before after size
+  pub stays : failed ≡ true → Unchanged before after size
+  pub fails : failed ≡ true → 65536 ≤ length buffer → (read < length buffer) × (getD pieces read 1 ≡ 0)
+  pub ends : failed ≡ false → read < length buffer → 0 < getD pieces read 1

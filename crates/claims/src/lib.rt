@@ -2,16 +2,18 @@
 // that call's contract alone; how near a listing and a line at a level are to the exact figures follows from the theorem over the
 // definitions. So a promise of a call that is weakened fails here.
 mod comparing;
+mod reading;
 mod sheets;
 mod steps;
 
+use input::Source;
 use pricing::Priced;
 use printing::PrintedInput;
 ghost use mathlib.Core.Path.{_≡_};
 ghost use Rattle.fund.specs.Reading.{reading};
 ghost use Rattle.valuation.specs.Valued.{lengths};
 ghost use Rattle.claims.specs.Demands.{Demands};
-ghost use Rattle.claims.specs.Listing.{Prints, PrintsLevel, PrintsRead};
+ghost use Rattle.claims.specs.Listing.{Prints, PrintsLevel, PrintsRead, PrintsFile};
 ghost use Rattle.claims.specs.Calls.{handed, priced, ResultStruct, hosted};
 ghost use Rattle.claims.specs.WrittenOut.{PricedWrittenOut};
 
@@ -79,6 +81,18 @@ pub fn claimed_input(buffer: &mut [u8], text: &mut [u8]) -> PrintedInput
     printing::print_input(buffer, text)
 }
 
+// The listing of a file in memory, which is read as standard input is.
+pub fn claimed_memory(
+    file: &[u8],
+    pieces: &[u32],
+    buffer: &mut [u8],
+    text: &mut [u8],
+) -> PrintedInput
+    ensures { λ p. ⌜ PrintsFile Prints (now (file .entry)) (now (pieces .entry)) (now (buffer .exit)) (now (text .entry)) (now (text .exit)) (p .failed) (p .read) (p .size) ⌝ }
+{
+    printing::print_source(Source::memory(), file, pieces, buffer, text)
+}
+
 // The line of the answer at a level.
 pub fn claimed_level(file: &[u8], level: u64, text: &mut [u8]) -> usize
     ensures { λ size. ⌜ PrintsLevel level (now (file .entry)) (now (text .entry)) (now (text .exit)) size ⌝ }
@@ -91,4 +105,17 @@ pub fn claimed_level_input(buffer: &mut [u8], level: u64, text: &mut [u8]) -> Pr
     ensures { λ p. ⌜ PrintsRead (PrintsLevel level) (now (buffer .exit)) (now (text .entry)) (now (text .exit)) (p .failed) (p .read) (p .size) ⌝ }
 {
     printing::print_level_input(buffer, level, text)
+}
+
+// The same of a file in memory.
+pub fn claimed_level_memory(
+    file: &[u8],
+    pieces: &[u32],
+    buffer: &mut [u8],
+    level: u64,
+    text: &mut [u8],
+) -> PrintedInput
+    ensures { λ p. ⌜ PrintsFile (PrintsLevel level) (now (file .entry)) (now (pieces .entry)) (now (buffer .exit)) (now (text .entry)) (now (text .exit)) (p .failed) (p .read) (p .size) ⌝ }
+{
+    printing::print_level_source(Source::memory(), file, pieces, buffer, level, text)
 }

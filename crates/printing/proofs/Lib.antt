@@ -1,4 +1,4 @@
 pub mod Bounded
 pub mod Printing
 pub mod Level
-pub mod Reading
+pub mod Input

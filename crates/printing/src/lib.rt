@@ -1,11 +1,10 @@
 // From a fund file's bytes, from standard input, or from a header text and two sheets, to the bytes of the listing, or of the line of the
 // answer at a level.
-mod input;
 mod sheets;
 
 use fund::Fund;
-pub use input::FileBytes;
-pub use input::read_bytes;
+use input::FileBytes;
+use input::Source;
 use libc::STDIN_FILENO;
 pub use sheets::print_sheets;
 pub use sheets::print_sheets_level;
@@ -14,7 +13,8 @@ ghost use Prim.Native.Nat.{_≤_};
 ghost use lib.ListN.{length, take};
 ghost use Rattle.writing.specs.Writing.{Written};
 ghost use Rattle.printing.specs.Printed.{shown, shownLevel};
-ghost use Rattle.printing.specs.Input.{HoldsFirst, PrintsFirst, PrintsInput, PrintsLevelFirst, PrintsLevelInput};
+ghost use Rattle.printing.specs.Input.{HoldsFirst, ReadFirst, PrintsFirst, PrintsInput, PrintsLevelFirst, PrintsLevelInput, PrintsMemory};
+ghost use Rattle.input.specs.Input.{InMemory};
 
 // Cells enough for every horizon.
 pub(crate) const CELLS: usize = Fund::MOST_HORIZON as usize + 1;
@@ -22,7 +22,7 @@ pub(crate) const CELLS: usize = Fund::MOST_HORIZON as usize + 1;
 // No more bytes of a file are read than these.
 pub const MOST_BYTES: usize = 65536;
 
-// How many bytes of standard input were read and the size of what was printed; or that nothing was.
+// How many bytes were read and the size of what was printed; or that nothing was.
 pub struct PrintedInput {
     pub read: usize,
     pub size: usize,
@@ -90,14 +90,34 @@ fn print_level_first(buffer: &[u8], size: usize, level: u64, text: &mut [u8]) ->
     print_level(&buffer[..size], level, text)
 }
 
-// The listing of the file on standard input, which is read into the buffer. It fails where a read does, or where the buffer has no
-// room for all that is read of a file.
-pub fn print_input(buffer: &mut [u8], text: &mut [u8]) -> PrintedInput
+// Reads into a buffer that has room for all that is read of a file; it fails where a read does, or where the buffer has no such room.
+fn read_first(source: Source, file: &[u8], pieces: &[u32], buffer: &mut [u8]) -> FileBytes
+    ensures { λ r. ⌜ ReadFirst source (now (file .entry)) (now (pieces .entry)) (now (buffer .entry)) (now (buffer .exit)) r ⌝ }
+{
+    let found = input::read_source(source, file, pieces, buffer);
+    if buffer.len() < MOST_BYTES {
+        return FileBytes {
+            size: found.size,
+            failed: true,
+        };
+    }
+    found
+}
+
+// The listing of what a source gives, which is read into the buffer.
+pub fn print_source(
+    source: Source,
+    file: &[u8],
+    pieces: &[u32],
+    buffer: &mut [u8],
+    text: &mut [u8],
+) -> PrintedInput
     ensures { λ p. ⌜ PrintsInput (now (buffer .exit)) (now (text .entry)) (now (text .exit)) p ⌝ }
+    ensures { λ p. ⌜ (InMemory source → PrintsMemory (now (file .entry)) (now (pieces .entry)) (now (buffer .exit)) p) ⌝ }
     ensures { λ p. ⌜ (p .size ≤ length (now (text .exit))) × (p .size ≡ length (take (p .size) (now (text .exit)))) ⌝ }
 {
-    let found = input::read_input(STDIN_FILENO, buffer, 0);
-    if found.last < 0 || buffer.len() < MOST_BYTES {
+    let found = read_first(source, file, pieces, buffer);
+    if found.failed {
         return PrintedInput {
             read: found.size,
             size: 0,
@@ -112,13 +132,21 @@ pub fn print_input(buffer: &mut [u8], text: &mut [u8]) -> PrintedInput
     }
 }
 
-// The line of the answer at a level, of the file on standard input, which is read as for the listing.
-pub fn print_level_input(buffer: &mut [u8], level: u64, text: &mut [u8]) -> PrintedInput
+// The line of the answer at a level, of what a source gives.
+pub fn print_level_source(
+    source: Source,
+    file: &[u8],
+    pieces: &[u32],
+    buffer: &mut [u8],
+    level: u64,
+    text: &mut [u8],
+) -> PrintedInput
     ensures { λ p. ⌜ PrintsLevelInput level (now (buffer .exit)) (now (text .entry)) (now (text .exit)) p ⌝ }
+    ensures { λ p. ⌜ (InMemory source → PrintsMemory (now (file .entry)) (now (pieces .entry)) (now (buffer .exit)) p) ⌝ }
     ensures { λ p. ⌜ (p .size ≤ length (now (text .exit))) × (p .size ≡ length (take (p .size) (now (text .exit)))) ⌝ }
 {
-    let found = input::read_input(STDIN_FILENO, buffer, 0);
-    if found.last < 0 || buffer.len() < MOST_BYTES {
+    let found = read_first(source, file, pieces, buffer);
+    if found.failed {
         return PrintedInput {
             read: found.size,
             size: 0,
@@ -131,4 +159,27 @@ pub fn print_level_input(buffer: &mut [u8], level: u64, text: &mut [u8]) -> Prin
         size,
         failed: false,
     }
+}
+
+// The listing of the file on standard input.
+pub fn print_input(buffer: &mut [u8], text: &mut [u8]) -> PrintedInput
+    ensures { λ p. ⌜ PrintsInput (now (buffer .exit)) (now (text .entry)) (now (text .exit)) p ⌝ }
+    ensures { λ p. ⌜ (p .size ≤ length (now (text .exit))) × (p .size ≡ length (take (p .size) (now (text .exit)))) ⌝ }
+{
+    print_source(Source::descriptor(STDIN_FILENO), b"", &[1u32], buffer, text)
+}
+
+// The line of the answer at a level, of the file on standard input.
+pub fn print_level_input(buffer: &mut [u8], level: u64, text: &mut [u8]) -> PrintedInput
+    ensures { λ p. ⌜ PrintsLevelInput level (now (buffer .exit)) (now (text .entry)) (now (text .exit)) p ⌝ }
+    ensures { λ p. ⌜ (p .size ≤ length (now (text .exit))) × (p .size ≡ length (take (p .size) (now (text .exit)))) ⌝ }
+{
+    print_level_source(
+        Source::descriptor(STDIN_FILENO),
+        b"",
+        &[1u32],
+        buffer,
+        level,
+        text,
+    )
 }
