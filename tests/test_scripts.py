@@ -628,8 +628,9 @@ def advice_checks(room, folder):
     right = end_of(room, sixty)
     yield "advice: the horizon changes no premium", all(end_of(room, with_number(sixty, b"horizon", most)) == right for most in (59, 60, 61, 150, 1000, 4095))
     low = with_number(sixty, b"horizon", 58)
-    advised = int(re.search(r"raise the horizon to at least (\d+):", room.run("price", given=low)[2])[1])
-    yield "advice: deductible (4)", end_of(room, low) == b"refused=4,0" and end_of(room, with_number(low, b"horizon", advised)) == right
+    advised = re.findall(r"raise the horizon to at least (\d+):", room.run("price", given=low)[2])
+    yield "advice: deductible (4)", end_of(room, low) == b"refused=4,0" and [
+        end_of(room, with_number(low, b"horizon", int(horizon))) for horizon in advised] == [right]
     for order in (1, 2):
         found = end_of(room, with_number(sixty, b"order", order))
         yield f"advice: order (8): from {order}", found == b"refused=8,0" if order == 1 else abs(found[0] - right[0]) <= found[1] + right[1] and found[1] > right[1]
@@ -642,7 +643,7 @@ def advice_checks(room, folder):
             yield f"advice: wide (10): {deductible}", not advised and "cannot price the fund with this deductible" in said and all(
                 isinstance(end_of(room, with_number(wide, b"horizon", horizon)), bytes) for horizon in range(8))
             continue
-        most, least = int(advised[1]) - 1, int(advised[2])
+        most, least = (int(advised[1]) - 1, int(advised[2])) if advised else (-1, 0)
         found = {end_of(room, with_number(wide, b"horizon", horizon)) for horizon in range(least, most + 1)}
         yield f"advice: wide (10): {deductible}", most == 5 and len(found) == 1 and isinstance(found.pop(), tuple)
         yield f"advice: wide (10): {deductible}: no lower horizon", not least or end_of(room, with_number(wide, b"horizon", least - 1)) == b"refused=4,0"
