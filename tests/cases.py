@@ -38,8 +38,9 @@ other rates with its last member changed.
 
 The programs `listing` and `overlong` of CRATES are one program, run on a full fund
 and on a file that is longer than what is read; `level` is asked at the level in its
-file args; `sheets` is run on the three files that its args name, in its folder data,
-and `compare` on the two: the fund of sixty members, and it under a new edition.
+file args; `sheets` and `sheets_level` are run on the three files that their args name, in
+their folder data, the second at the level behind them; `compare` is run on several pairs,
+among them files that are not there and a folder.
 """
 
 import random
@@ -307,35 +308,74 @@ def programs():
 
 
 SHEET_FILES = ("header", "rates", "members")
-COMPARED_FILES = ("old", "new")
+FULL_PAIR = ("old", "new")
+SMALL_PAIR = ("first", "second")
+MISSING = "missing"      # no file of this name is stored
+FOLDER = "."             # it can be opened, and no read of it succeeds
 
 
-def sheet_program():
+def full_sheets():
     """The full fund as sheets, with blanks and minus zeros."""
     return generate_sheets.other_zeros(random.Random(2030), generate_sheets.full_sheets()).sheets()
 
 
-def compared_program():
-    """The fund of sixty members, and it under a new edition."""
-    return tuple((EXAMPLES / name).read_bytes() for name in ("sixty-members.fund", "sixty-members-2031.fund"))
+def example_sheets():
+    """The fund of sixty members as sheets."""
+    return tuple((EXAMPLES / "sheets" / name).read_bytes() for name in ("header.txt", "rates.sheet", "members.sheet"))
 
 
-def store_with_data(folder, names, files, wanted):
+def sheet_programs():
+    """The programs of sheets with their files and, for one that is asked at a level, the level."""
+    return {"sheets": (full_sheets(), None), "sheets_level": (example_sheets(), 990000000000)}
+
+
+def compared_files():
+    """The fund of sixty members, and it under a new edition; and a small pair."""
+    full = [(EXAMPLES / name).read_bytes() for name in ("sixty-members.fund", "sixty-members-2031.fund")]
+    small = next((old, new) for name, old, new, _ in comparison_funds.PAIRS if name == "a unit lost")
+    return dict(zip(FULL_PAIR + SMALL_PAIR, [*full, *small]))
+
+
+def compared_names():
+    """The names of the pairs that are compared: each kind of file that cannot be read, old and new, and a pair the other way round."""
+    return [FULL_PAIR, (MISSING, "new"), ("old", FOLDER), (FOLDER, MISSING), SMALL_PAIR[::-1]]
+
+
+def line_of_sheets(three, level):
+    answer = sheets.price_sheets(*three) if level is None else sheets.price_sheets(*three, level=level)
+    return printed(answer) if level is None else quantile_line(answer)
+
+
+def read_stored(folder, name):
+    """The stored file of a name, or None where there is none."""
+    path = folder / "data" / name
+    return path.read_bytes() if path.is_file() else None
+
+
+def pair_text(old, new):
+    """What `compare` prints of two files, each None where it cannot be read."""
+    if old is not None and new is not None:
+        return comparison_of(old, new)
+    return b"".join(b"unreadable=%s\n" % side for side, data in ((b"old", old), (b"new", new)) if data is None)
+
+
+def store_with_data(folder, files, words, wanted):
     (folder / "data").mkdir(parents=True, exist_ok=True)
-    for name, data in zip(names, files, strict=True):
+    for name, data in files.items():
         (folder / "data" / name).write_bytes(data)
-    (folder / "args").write_text("".join(f"{name}\n" for name in names))
+    (folder / "args").write_text("".join(f"{word}\n" for word in words))
     (folder / "stdout").write_bytes(wanted)
 
 
-def write_sheet_program(folder):
-    three = sheet_program()
-    store_with_data(folder, SHEET_FILES, three, printed(sheets.price_sheets(*three)))
+def write_sheet_program(folder, three, level=None):
+    words = [*SHEET_FILES] if level is None else [*SHEET_FILES, str(level)]
+    store_with_data(folder, dict(zip(SHEET_FILES, three, strict=True)), words, line_of_sheets(three, level))
 
 
 def write_compared_program(folder):
-    two = compared_program()
-    store_with_data(folder, COMPARED_FILES, two, comparison_of(*two))
+    files, pairs = compared_files(), compared_names()
+    wanted = b"\n".join(pair_text(*map(files.get, pair)) for pair in pairs)
+    store_with_data(folder, files, [name for pair in pairs for name in pair], wanted)
 
 
 def write_programs(crates):
@@ -344,29 +384,36 @@ def write_programs(crates):
         (crates / name / "stdout").write_bytes(listing_of(data) if level is None else level_line(data, level))
         if level is not None:
             (crates / name / "args").write_text(f"{level}\n")
-    write_sheet_program(crates / "sheets")
+    for name, (three, level) in sheet_programs().items():
+        write_sheet_program(crates / name, three, level)
     write_compared_program(crates / "compare")
-    return len(programs()) + 2
+    return len(programs()) + len(sheet_programs()) + 1
 
 
-def wanted_of_data(folder):
-    """What a program should print for the files that its args name: two are compared, three are a fund."""
-    names = (folder / "args").read_text().splitlines()
-    files = [(folder / "data" / name).read_bytes() for name in names]
-    return comparison_of(*files) if len(files) == len(COMPARED_FILES) else printed(sheets.price_sheets(*files))
+def wanted_of_sheets(folder):
+    words = (folder / "args").read_text().splitlines()
+    names, levels = words[:len(SHEET_FILES)], words[len(SHEET_FILES):]
+    return line_of_sheets([read_stored(folder, name) for name in names], int(levels[0]) if levels else None)
+
+
+def wanted_of_pairs(folder):
+    files = [read_stored(folder, name) for name in (folder / "args").read_text().splitlines()]
+    return b"\n".join(map(pair_text, files[::2], files[1::2]))
 
 
 def wanted_of(folder):
     """What a program should print for what its folder holds."""
+    if (folder / "data" / SHEET_FILES[0]).exists():
+        return wanted_of_sheets(folder)
     if (folder / "data").exists():
-        return wanted_of_data(folder)
+        return wanted_of_pairs(folder)
     data = (folder / "stdin").read_bytes()
     arguments = folder / "args"
     return level_line(data, int(arguments.read_text())) if arguments.exists() else listing_of(data)
 
 
 def check_programs(crates):
-    names = [*programs(), "sheets", "compare"]
+    names = [*programs(), *sheet_programs(), "compare"]
     bad = [name for name in names if wanted_of(crates / name) != (crates / name / "stdout").read_bytes()]
     for name in bad:
         print(f"differs: {name}")

@@ -200,7 +200,12 @@ def stored_program_checks():
         folder = Path(directory) / "compare"
         cases.write_compared_program(folder)
         printed = (folder / "stdout").read_bytes()
-        checks = [("program compare: its arguments", (folder / "args").read_text() == "old\nnew\n"),
+        words = (folder / "args").read_text().splitlines()
+        checks = [("program compare: its arguments", words == ["old", "new", "missing", "new", "old", ".", ".", "missing", "second", "first"]),
+                  ("program compare: a listing or what cannot be read for each pair, with empty lines between",
+                   [part.split(b"=")[0] for part in printed.split(b"\n\n")] == [b"old-premium", *[b"unreadable"] * 3, b"old-premium"]),
+                  ("program compare: which file cannot be read",
+                   printed.split(b"\n\n")[1:4] == [b"unreadable=old", b"unreadable=new", b"unreadable=old\nunreadable=new"]),
                   ("program compare: its files", [(folder / "data" / name).read_bytes() for name in ("old", "new")]
                    == [OLD.read_bytes(), NEW.read_bytes()]),
                   ("program compare: does not differ", cases.wanted_of(folder) == printed)]

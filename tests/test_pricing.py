@@ -812,10 +812,10 @@ def sheet_stream_checks():
 
 
 def sheet_program_checks():
-    """The program on sheets is given the full fund, with blanks, and prints its listing."""
+    """The programs on sheets: the full fund's listing, with blanks; and the answer at a level."""
     with tempfile.TemporaryDirectory() as directory:
         folder = Path(directory)
-        cases.write_sheet_program(folder)
+        cases.write_sheet_program(folder, *cases.sheet_programs()["sheets"])
         printed = (folder / "stdout").read_bytes()
         names = [path.name for path in sorted((folder / "data").iterdir())]
         checks = [("program sheets: the full fund's listing", printed == cases.listing_of(generate.full_fund().data())),
@@ -825,7 +825,18 @@ def sheet_program_checks():
                    != sheets.sheets_of(generate.full_fund())[2]),
                   ("program sheets: does not differ", cases.wanted_of(folder) == printed)]
         (folder / "data" / "rates").write_bytes(b"")
-        return checks + [("program sheets: another sheet differs", cases.wanted_of(folder) != printed)]
+        checks += [("program sheets: another sheet differs", cases.wanted_of(folder) != printed)]
+        cases.write_sheet_program(folder, *cases.sheet_programs()["sheets_level"])
+        printed = (folder / "stdout").read_bytes()
+        file = (Path(__file__).resolve().parent.parent / "examples" / "sixty-members.fund").read_bytes()
+        checks += [("program sheets_level: the file's line", printed == cases.level_line(file, 990000000000)),
+                   ("program sheets_level: its arguments",
+                    (folder / "args").read_text() == "header\nrates\nmembers\n990000000000\n"),
+                   ("program sheets_level: does not differ", cases.wanted_of(folder) == printed)]
+        (folder / "args").write_text("header\nrates\nmembers\n495000000000\n")
+        checks += [("program sheets_level: half the level differs", cases.wanted_of(folder) != printed)]
+        (folder / "args").write_text("header\nmembers\nrates\n990000000000\n")
+        return checks + [("program sheets_level: sheets exchanged differ", cases.wanted_of(folder) != printed)]
 
 
 def row_checks():

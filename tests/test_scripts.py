@@ -2,7 +2,7 @@
 
     python3 tests/test_scripts.py
 
-It needs the programs listing, level, sheets and compare, which `rt check listing level sheets compare` builds. They and the scripts
+It needs the programs listing, level, sheets, sheets_level and compare, which `rt check listing level sheets sheets_level compare` builds. They and the scripts
 are copied to a folder of their own, so nothing of the repository is touched. What they should write comes from the independent
 calculation.
 
@@ -31,7 +31,7 @@ import pricing
 import sheets
 
 ROOT = Path(__file__).resolve().parent.parent
-PROGRAMS = [ROOT / "target" / "bin" / name for name in ("listing", "level", "sheets", "compare")]
+PROGRAMS = [ROOT / "target" / "bin" / name for name in ("listing", "level", "sheets", "sheets_level", "compare")]
 EXAMPLES = ROOT / "examples"
 NOBODY = 65534
 MEMORY = Path("/proc/self/mem")      # a regular file that can be opened, and not be read from its start

@@ -27,8 +27,8 @@ fn print_pair(i: usize)
 {
     let mut old = [0u8; MOST_BYTES];
     let mut new = [0u8; MOST_BYTES];
-    let first = arguments::read_argument(i, &mut old);
-    let second = arguments::read_argument(i + 1, &mut new);
+    let first = input::read_argument(i, &mut old);
+    let second = input::read_argument(i + 1, &mut new);
     if first.failed {
         print_text(b"unreadable=old\n");
     }

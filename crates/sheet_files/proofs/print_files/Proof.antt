@@ -2,8 +2,8 @@
 use mathlib.Core.Path.{sym}
 use lib.Seq.{length-take-le}
 use borrow.Author.Needs.{needs}
-use Rattle.sheets.proofs.print_files.Statement.{statement}
-use Rattle.sheets.proofs.print_files.Tie as tie
+use Rattle.sheet_files.proofs.print_files.Statement.{statement}
+use Rattle.sheet_files.proofs.print_files.Tie as tie
 
 pub print-files-spec : {M : Type 1} → statement M
 print-files-spec =

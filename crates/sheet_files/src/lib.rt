@@ -1,0 +1,62 @@
+// The fund in three files that a program's arguments name: a header text and two sheets of binary64 cells, the rates and the members. What is
+// asked of it, or the refusal's line, goes to standard output.
+use libc::STDOUT_FILENO;
+use printing::MOST_BYTES;
+
+pub enum Asked {
+    Listing,
+    AtLevel(u64),
+}
+
+fn print_text(text: &[u8]) {
+    if !io::write_all(STDOUT_FILENO, text) {
+        os::fail(b"standard output");
+    }
+}
+
+fn print_listing(header: &[u8], rates: &[u8], members: &[u8]) {
+    let mut text = [0u8; text::ROOM];
+    let size = printing::print_sheets(header, rates, members, &mut text);
+    print_text(&text[..size]);
+}
+
+fn print_line(header: &[u8], rates: &[u8], members: &[u8], level: u64) {
+    let mut text = [0u8; text::LEVEL_ROOM];
+    let size = printing::print_sheets_level(header, rates, members, level, &mut text);
+    print_text(&text[..size]);
+}
+
+fn print(asked: Asked, header: &[u8], rates: &[u8], members: &[u8]) {
+    match asked {
+        Asked::Listing => print_listing(header, rates, members),
+        Asked::AtLevel(level) => print_line(header, rates, members, level),
+    }
+}
+
+// The first three arguments are the paths of the header text, of the rates and of the members.
+pub fn print_files(asked: Asked) {
+    let mut header = [0u8; MOST_BYTES];
+    let mut rates = [0u8; MOST_BYTES];
+    let mut members = [0u8; MOST_BYTES];
+    let first = input::read_argument(1, &mut header);
+    let second = input::read_argument(2, &mut rates);
+    let third = input::read_argument(3, &mut members);
+    if first.failed {
+        return;
+    }
+    if second.failed {
+        return;
+    }
+    if third.failed {
+        return;
+    }
+    let header_size = first.size;
+    let rates_size = second.size;
+    let members_size = third.size;
+    print(
+        asked,
+        &header[..header_size],
+        &rates[..rates_size],
+        &members[..members_size],
+    );
+}
