@@ -1,6 +1,6 @@
 // What a customer may hold us to. Each function makes one public call and promises, in the plain words of specs/, what follows from
 // that call's contract alone; how near a listing and a line at a level are to the exact figures follows from the theorem over the
-// definitions. So a promise of a call that is weakened fails here.
+// definitions. So a clause that is dropped from a contract fails here, where specs/ says it in words of its own; nothing stands on these words.
 mod comparing;
 mod reading;
 mod sheets;

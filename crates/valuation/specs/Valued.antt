@@ -26,8 +26,8 @@ abbrev pub outcome : Fund → List Life → Lengths → Verdict → Answer
 outcome fund ms n Accepted = accepted fund ms n
 outcome fund ms n (Refused why place) = refused [] n (Refused why place)
 
--- A header or model points outside the ranges that a file can give, or a count above the table, break a limit (2) on no line; else 7 to 10, of
--- the lives.
+-- A header or model points that no file can give, or that have not passed 4 and 6 (a deductible above X + 1, a life that is half: these are asked before, where the lines are
+-- known), or a count above the table, break a limit (2) on no line; else 7 to 10, of the lives.
 unfoldable pub verdictOf : Fund → ℕ → List ModelPoint → Lengths → Verdict
 verdictOf fund count ps n = if inside fund count ps then valued fund (copies ps) n (fundCells fund (copies ps)) else Refused Range 0
 
