@@ -22,15 +22,6 @@ abbrev μ-loop : tie.MeasureT-loop
 loop-holds : tie.Need-loop-holds Inv-loop μ-loop
 loop-holds c = (omega arith, omega arith)
 
-add-magnitude : tie.Need-add-magnitude Inv-loop μ-loop
-add-magnitude c = omega arith
-
-mul-magnitude : tie.Need-mul-magnitude Inv-loop μ-loop
-mul-magnitude c = omega arith
-
-shared-slice-copy-out-magnitude : tie.Need-shared-slice-copy-out-magnitude Inv-loop μ-loop
-shared-slice-copy-out-magnitude c = omega arith
-
 magnitude-requires : tie.Need-magnitude-requires Inv-loop μ-loop
 magnitude-requires c κs = tt
 
@@ -44,12 +35,6 @@ returns c =
     let l = c .before .before .before .before .loop in
     let g = sumN-grow (λ k. natAbs (getD (a .d .now) (suc k) (pos 0))) (suc (l .k)) (a .horizon) (omega arith) in
     sym (lt-leb (sizes (a .d .now) (a .horizon)) most-transform (omega (arith, size-is (c .before), l .inv .1, c .if1 .taken)))
-
-add-k : tie.Need-add-k Inv-loop μ-loop
-add-k c = omega arith
-
-loop-less : tie.Need-loop-less Inv-loop μ-loop
-loop-less c = omega arith
 
 loop-again : tie.Need-loop-again Inv-loop μ-loop
 loop-again c =
@@ -66,16 +51,5 @@ returns-2 c =
 pub sizes-within-spec : {M : Type 1} → statement M
 sizes-within-spec =
     tie.close
-    (tie.spec
-    Inv-loop
-    μ-loop
-    loop-holds
-    add-magnitude
-    mul-magnitude
-    shared-slice-copy-out-magnitude
-    magnitude-requires
-    returns
-    add-k
-    loop-less
-    loop-again
-    returns-2)
+    (tie.spec Inv-loop μ-loop loop-holds (λ c. omega arith) (λ c. omega arith) (λ c. omega arith) magnitude-requires returns (λ c. omega arith)
+    (λ c. omega arith) loop-again returns-2)

@@ -9,9 +9,6 @@ use Rattle.limits.specs.Limits.{most-cell}
 use Rattle.limits.proofs.start_within.Statement.{statement}
 use Rattle.limits.proofs.start_within.Tie as tie
 
-magnitude-requires : tie.Need-magnitude-requires
-magnitude-requires c κs = search needs
-
 size-is : (c : tie.After-magnitude) → c .magnitude .result ≡ natAbs (c .before .args .first)
 size-is c = c .magnitude .ensures ∙ ap natAbs (toZ-ofZ (c .before .fits .first))
 
@@ -22,4 +19,5 @@ returns-2 : tie.Need-returns-2
 returns-2 c = rw (lt-leb (natAbs (c .before .before .args .first)) most-cell (omega (arith, size-is (c .before), c .if1 .left)))
 
 pub start-within-spec : {M : Type 1} → statement M
-start-within-spec = tie.close (tie.spec magnitude-requires returns returns-2)
+start-within-spec =
+    tie.close (tie.spec (λ c κs. search needs) returns returns-2)

@@ -40,9 +40,6 @@ returns c =
     let s = c .before .before in
     tested-horizon (s .args .horizon) _ _ (start s) _ _ (c .if1 .taken)
 
-short-requires : tie.Need-short-requires
-short-requires c κs = search needs
-
 -- X is within its limit
 within : (c : tie.Else1) → c .before .before .args .horizon ≤ most-horizon
 within c = omega (arith, c .if1 .left)
@@ -71,9 +68,6 @@ returns-4 c =
     let e = c .before .before in
     tested-sum (s .args .horizon) (s .args .d .now) (s .args .h .now) (start s) _ _ (within (e .before .before .before .before)) (not-short (e .before .before)) (error-none _ _ (errors e))
     (leb-false _ _ (sym (c .before .sizes-within .ensures) ∙ not-true _ (c .if4 .taken)))
-
-start-within-requires : tie.Need-start-within-requires
-start-within-requires c κs = search needs
 
 returns-5 : tie.Need-returns-5
 returns-5 c =
@@ -104,14 +98,5 @@ returns-6 c =
 pub tested-spec : {M : Type 1} → statement M
 tested-spec =
     tie.close
-    (tie.spec
-    returns
-    short-requires
-    returns-2
-    error-at-requires
-    returns-3
-    sizes-within-requires
-    returns-4
-    start-within-requires
-    returns-5
+    (tie.spec returns (λ c κs. search needs) returns-2 error-at-requires returns-3 sizes-within-requires returns-4 (λ c κs. search needs) returns-5
     returns-6)

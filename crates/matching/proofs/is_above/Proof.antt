@@ -10,11 +10,9 @@ use Rattle.matching.proofs.is_above.Tie as tie
 returns : tie.Need-returns
 returns c = let a = c .before .args in rw (le-ltb (suc (a .horizon)) (a .deductible) (omega arith))
 
-sub-result : tie.Need-sub-result
-sub-result c = search needs
-
 returns-2 : tie.Need-returns-2
 returns-2 c = let a = c .before .args in above-rest (a .deductible) (a .horizon) (omega arith)
 
 pub is-above-spec : {M : Type 1} → statement M
-is-above-spec = tie.close (tie.spec returns sub-result returns-2)
+is-above-spec =
+    tie.close (tie.spec returns (λ c. search needs) returns-2)

@@ -9,24 +9,15 @@ use Rattle.matching.proofs.Answering.{beyond-rates, beyond-members, thr
 use Rattle.matching.proofs.matched.Statement.{statement}
 use Rattle.matching.proofs.matched.Tie as tie
 
-without-points-requires : tie.Need-without-points-requires
-without-points-requires c κs = search needs
-
 returns : tie.Need-returns
 returns c =
     let a = c .before .before .args in
     beyond-rates (a .fund) (a .rates) (a .rated) (a .members) (a .enrolled) _ (c .before .if1 .taken) (c .without-points .ensures)
 
-without-points-requires-2 : tie.Need-without-points-requires-2
-without-points-requires-2 c κs = search needs
-
 returns-2 : tie.Need-returns-2
 returns-2 c =
     let a = c .before .before .before .args in
     beyond-members (a .fund) (a .rates) (a .rated) (a .members) (a .enrolled) _ (c .before .before .if1 .left) (c .before .if2 .taken) (c .without-points2 .ensures)
-
-without-points-requires-3 : tie.Need-without-points-requires-3
-without-points-requires-3 c κs = search needs
 
 returns-3 : tie.Need-returns-3
 returns-3 c =
@@ -34,27 +25,12 @@ returns-3 c =
     let a = t .before .before .args in
     three (a .fund) (a .rates) (a .rated) (a .members) (a .enrolled) _ (t .before .if1 .left) (t .if2 .left) (c .before .if3 .taken) (c .without-points3 .ensures)
 
-is-above-requires : tie.Need-is-above-requires
-is-above-requires c κs = search needs
-
-without-points-requires-4 : tie.Need-without-points-requires-4
-without-points-requires-4 c κs = search needs
-
 returns-4 : tie.Need-returns-4
 returns-4 c =
     let e = c .before .before .before in
     let t = e .before .before in
     let a = t .before .before .args in
     four (a .fund) (a .rates) (a .rated) (a .members) (a .enrolled) _ (t .before .if1 .left) (t .if2 .left) (e .if3 .left) (sym (c .before .before .is-above .ensures) ∙ c .before .if4 .taken) (c .without-points4 .ensures)
-
-add-line : tie.Need-add-line
-add-line c = search needs
-
-add-line-2 : tie.Need-add-line-2
-add-line-2 c = search needs
-
-by-member-requires : tie.Need-by-member-requires
-by-member-requires c κs = search needs
 
 returns-5 : tie.Need-returns-5
 unfolding firstMember headerLines
@@ -68,17 +44,5 @@ returns-5 c =
 pub matched-spec : {M : Type 1} → statement M
 matched-spec =
     tie.close
-    (tie.spec
-    without-points-requires
-    returns
-    without-points-requires-2
-    returns-2
-    without-points-requires-3
-    returns-3
-    is-above-requires
-    without-points-requires-4
-    returns-4
-    add-line
-    add-line-2
-    by-member-requires
-    returns-5)
+    (tie.spec (λ c κs. search needs) returns (λ c κs. search needs) returns-2 (λ c κs. search needs) returns-3 (λ c κs. search needs)
+    (λ c κs. search needs) returns-4 (λ c. search needs) (λ c. search needs) (λ c κs. search needs) returns-5)

@@ -31,32 +31,17 @@ returns-2 c =
     let a = at-loop .before .before .args in
     sym (quantile-none (a .level) (a .horizon) (a .sums .now) (at-loop .before .if1 .left) (λ k within inside. at-loop .loop .inv .2 k (omega arith)))
 
-mul-reaches : tie.Need-mul-reaches Inv-loop μ-loop
-mul-reaches c = search needs
-
-shared-slice-copy-out-reaches : tie.Need-shared-slice-copy-out-reaches Inv-loop μ-loop
-shared-slice-copy-out-reaches c = search needs
-
 -- whether the sum at x reaches the level
 asked : (c : tie.After-reaches Inv-loop μ-loop) →
     let at-loop = c .before .before .before .before in
     c .reaches .result ≡ reaches (at-loop .before .before .args .level) (getD (at-loop .before .before .args .sums .now) (at-loop .loop .x) (pos 0))
 asked c = rw (toZ-ofZ (sfits-of (c .before .reaches-arg .given))) at (c .reaches .ensures)
 
-reaches-requires : tie.Need-reaches-requires Inv-loop μ-loop
-reaches-requires c κs = search needs
-
 returns-3 : tie.Need-returns-3 Inv-loop μ-loop
 returns-3 c =
     let at-loop = c .before .before .before .before .before in
     let a = at-loop .before .before .args in
     sym (quantile-at (a .level) (a .horizon) (a .sums .now) (at-loop .before .if1 .left) (at-loop .loop .x) (omega arith) (omega arith) (at-loop .loop .inv .2) (sym (asked (c .before)) ∙ c .if3 .taken))
-
-add-x : tie.Need-add-x Inv-loop μ-loop
-add-x c = search needs
-
-loop-less : tie.Need-loop-less Inv-loop μ-loop
-loop-less c = search needs
 
 loop-again : tie.Need-loop-again Inv-loop μ-loop
 loop-again c =
@@ -71,17 +56,5 @@ returns-4 c =
 pub quantile-spec : {M : Type 1} → statement M
 quantile-spec =
     tie.close
-    (tie.spec
-    Inv-loop
-    μ-loop
-    returns
-    loop-holds
-    returns-2
-    mul-reaches
-    shared-slice-copy-out-reaches
-    reaches-requires
-    returns-3
-    add-x
-    loop-less
-    loop-again
-    returns-4)
+    (tie.spec Inv-loop μ-loop returns loop-holds returns-2 (λ c. search needs) (λ c. search needs) (λ c κs. search needs) returns-3
+    (λ c. search needs) (λ c. search needs) loop-again returns-4)

@@ -10,13 +10,11 @@ use Rattle.quantile.proofs.reaches.Tie as tie
 returns : tie.Need-returns
 returns c = let s = c .before in below-zero (s .args .level) (s .args .sum) (s .fits .sum) (c .if1 .taken)
 
-magnitude-requires : tie.Need-magnitude-requires
-magnitude-requires c κs = search needs
-
 returns-2 : tie.Need-returns-2
 returns-2 c =
     let s = c .before .before in
     ap (leb (s .args .level)) (rw (toZ-ofZ (s .fits .sum)) at (c .magnitude .ensures)) ∙ by-size (s .args .level) (s .args .sum) (s .fits .sum) (c .before .if1 .left)
 
 pub reaches-spec : {M : Type 1} → statement M
-reaches-spec = tie.close (tie.spec returns magnitude-requires returns-2)
+reaches-spec =
+    tie.close (tie.spec returns (λ c κs. search needs) returns-2)

@@ -8,12 +8,6 @@ use Rattle.recursion.proofs.Outcomes.{outcome-tested, outcome-steps}
 use Rattle.recursion.proofs.carried_out.Statement.{statement}
 use Rattle.recursion.proofs.carried_out.Tie as tie
 
-tested-requires : tie.Need-tested-requires
-tested-requires c κs = search needs
-
-enum-told : tie.Need-enum-told
-enum-told c = search needs
-
 -- the limits are kept
 kept : (c : tie.After-enum-told) → let s = c .before .before .before .before .before in Kept (s .args .horizon) (s .args .d .now) (s .args .h .now) (record { f = s .args .first; R = s .args .bound }) (length (s .args .f .now)) (length (s .args .r .now))
 kept c =
@@ -32,12 +26,6 @@ returns c =
 all-steps-requires : tie.Need-all-steps-requires
 all-steps-requires c κs = rw (toZ-ofZ (c .before .before .before .before .before .before .before .fits .first)) (kept (c .before .before))
 
-same-length : tie.Need-same-length
-same-length c = search needs
-
-same-length-2 : tie.Need-same-length-2
-same-length-2 c = search needs
-
 returns-2 : tie.Need-returns-2
 returns-2 c =
     let s = c .before .before .before .before .before .before .before .before .before .before .before in
@@ -48,12 +36,4 @@ returns-2 c =
 
 pub carried-out-spec : {M : Type 1} → statement M
 carried-out-spec =
-    tie.close
-    (tie.spec
-    tested-requires
-    enum-told
-    returns
-    all-steps-requires
-    same-length
-    same-length-2
-    returns-2)
+    tie.close (tie.spec (λ c κs. search needs) (λ c. search needs) returns all-steps-requires (λ c. search needs) (λ c. search needs) returns-2)

@@ -6,18 +6,6 @@ use Rattle.recursion.proofs.Outcomes.{settled-zeros}
 use Rattle.recursion.proofs.cleared_unless_done.Statement.{statement}
 use Rattle.recursion.proofs.cleared_unless_done.Tie as tie
 
-enum-told : tie.Need-enum-told
-enum-told c = search needs
-
-clear-cells-requires : tie.Need-clear-cells-requires
-clear-cells-requires c κs = search needs
-
-same-length : tie.Need-same-length
-same-length c = search needs
-
-same-length-2 : tie.Need-same-length-2
-same-length-2 c = search needs
-
 returns : tie.Need-returns
 returns c =
     let a = c .before .before .before .before .before .before .before .before .args in
@@ -30,4 +18,4 @@ returns-2 c =
 
 pub cleared-unless-done-spec : {M : Type 1} → statement M
 cleared-unless-done-spec =
-    tie.close (tie.spec enum-told clear-cells-requires same-length same-length-2 returns returns-2)
+    tie.close (tie.spec (λ c. search needs) (λ c κs. search needs) (λ c. search needs) (λ c. search needs) returns returns-2)

@@ -5,18 +5,6 @@ use Rattle.recursion.proofs.Outcomes.{outcome-left}
 use Rattle.recursion.proofs.recursion.Statement.{statement}
 use Rattle.recursion.proofs.recursion.Tie as tie
 
-carried-out-requires : tie.Need-carried-out-requires
-carried-out-requires c κs = search needs
-
-cleared-unless-done-requires : tie.Need-cleared-unless-done-requires
-cleared-unless-done-requires c κs = search needs
-
-same-length : tie.Need-same-length
-same-length c = search needs
-
-same-length-2 : tie.Need-same-length-2
-same-length-2 c = search needs
-
 returns : tie.Need-returns
 returns c =
     let carried = c .before .before .before .before .before .before .before .before .before in
@@ -30,4 +18,4 @@ returns c =
 
 pub recursion-spec : {M : Type 1} → statement M
 recursion-spec =
-    tie.close (tie.spec carried-out-requires cleared-unless-done-requires same-length same-length-2 returns)
+    tie.close (tie.spec (λ c κs. search needs) (λ c κs. search needs) (λ c. search needs) (λ c. search needs) returns)

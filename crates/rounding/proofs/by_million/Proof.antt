@@ -6,12 +6,6 @@ use Rattle.rounding.proofs.Product.{split-right}
 use Rattle.rounding.proofs.by_million.Statement.{statement}
 use Rattle.rounding.proofs.by_million.Tie as tie
 
-part-by-million-requires : tie.Need-part-by-million-requires
-part-by-million-requires c κs = search needs
-
-with-whole-requires : tie.Need-with-whole-requires
-with-whole-requires c κs = search needs
-
 returns : tie.Need-returns
 returns c =
     let s = c .before .before .args in
@@ -19,4 +13,5 @@ returns c =
     (c .with-whole .ensures (s .a * (s .b % 1000000)) 1000000 (c .before .part-by-million .ensures .0))
 
 pub by-million-spec : {M : Type 1} → statement M
-by-million-spec = tie.close (tie.spec part-by-million-requires with-whole-requires returns)
+by-million-spec =
+    tie.close (tie.spec (λ c κs. search needs) (λ c κs. search needs) returns)

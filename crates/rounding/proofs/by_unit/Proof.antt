@@ -6,12 +6,6 @@ use Rattle.rounding.proofs.Product.{split-right}
 use Rattle.rounding.proofs.by_unit.Statement.{statement}
 use Rattle.rounding.proofs.by_unit.Tie as tie
 
-part-by-unit-requires : tie.Need-part-by-unit-requires
-part-by-unit-requires c κs = search needs
-
-with-whole-requires : tie.Need-with-whole-requires
-with-whole-requires c κs = search needs
-
 returns : tie.Need-returns
 returns c =
     let s = c .before .before .args in
@@ -19,4 +13,5 @@ returns c =
     (c .with-whole .ensures (s .a * (s .b % 1000000000000)) 1000000000000 (c .before .part-by-unit .ensures .0))
 
 pub by-unit-spec : {M : Type 1} → statement M
-by-unit-spec = tie.close (tie.spec part-by-unit-requires with-whole-requires returns)
+by-unit-spec =
+    tie.close (tie.spec (λ c κs. search needs) (λ c κs. search needs) returns)

@@ -13,19 +13,14 @@ use Rattle.rounding.proofs.nearest_of.Tie as tie
 returns : tie.Need-returns
 returns c = λ p d. sym (round-many near-rounds p _ (omega arith) (d .many (not-true _ (c .if1 .taken))))
 
-sub-if2 : tie.Need-sub-if2
-sub-if2 c = search needs
-
 returns-2 : tie.Need-returns-2
 returns-2 c = λ p d.
     sym (ap word (near-rest-low p _ _ _ (d .whole (not-false _ (c .before .before .before .if1 .left))) (omega arith)) ∙ word-is _ (omega arith))
-
-next-requires : tie.Need-next-requires
-next-requires c κs = search needs
 
 returns-3 : tie.Need-returns-3
 returns-3 c = λ p d.
     c .next .ensures ∙ ap word (sym (near-rest-high p _ _ _ (d .whole (not-false _ (c .before .before .before .before .if1 .left))) (omega arith) (d .below)))
 
 pub nearest-of-spec : {M : Type 1} → statement M
-nearest-of-spec = tie.close (tie.spec returns sub-if2 returns-2 next-requires returns-3)
+nearest-of-spec =
+    tie.close (tie.spec returns (λ c. search needs) returns-2 (λ c κs. search needs) returns-3)

@@ -17,15 +17,6 @@ returns c = λ p d. rw (c .if1 .taken) (sym (scaled-zero near-rounds p _ (omega 
 returns-2 : tie.Need-returns-2
 returns-2 c = λ p d. sym (scaled-many near-rounds p _ (omega arith) _ (omega arith) (d .many (not-true _ (c .if2 .taken))))
 
-div-whole : tie.Need-div-whole
-div-whole c = search needs
-
-rem-left : tie.Need-rem-left
-rem-left c = search needs
-
-mul-carry : tie.Need-mul-carry
-mul-carry c = search needs
-
 left-below : (c : tie.Else2) → let s = c .before .before .before .args in s .d .quotient % s .n < s .n
 left-below c = mod-lt _ (omega arith)
 
@@ -42,9 +33,6 @@ returns-3 c = λ p d.
     let carry = 2 * s .d .remainder / 1000000000000 in
     sym (near-units-low d (not-false _ (e .if2 .left)) (s .n) (omega arith) (omega arith) carry (omega arith) (omega (arith, left-below e)))
 
-next-requires : tie.Need-next-requires
-next-requires c κs = search needs
-
 returns-4 : tie.Need-returns-4
 returns-4 c = λ p d.
     let e = c .before .before .before .before .before in
@@ -56,14 +44,4 @@ returns-4 c = λ p d.
 pub nearest-of-units-spec : {M : Type 1} → statement M
 nearest-of-units-spec =
     tie.close
-    (tie.spec
-    returns
-    returns-2
-    div-whole
-    rem-left
-    mul-carry
-    add-if3
-    sub-if3
-    returns-3
-    next-requires
-    returns-4)
+    (tie.spec returns returns-2 (λ c. search needs) (λ c. search needs) (λ c. search needs) add-if3 sub-if3 returns-3 (λ c κs. search needs) returns-4)

@@ -9,19 +9,10 @@ use Rattle.rounding.proofs.Word.{near-rounds, per-unit-is}
 use Rattle.rounding.proofs.nearest_per_unit.Statement.{statement}
 use Rattle.rounding.proofs.nearest_per_unit.Tie as tie
 
-raised-requires : tie.Need-raised-requires
-raised-requires c κs = search needs
-
 returns : tie.Need-returns
 returns c =
     let s = c .before .before .before .args in
     c .raised .ensures ∙ sym (per-unit-is near-rounds (s .a) (s .b) (omega arith) (omega arith) ∙ near-raised (s .a * s .b))
-
-by-unit-requires : tie.Need-by-unit-requires
-by-unit-requires c κs = search needs
-
-nearest-of-requires : tie.Need-nearest-of-requires
-nearest-of-requires c κs = search needs
 
 returns-2 : tie.Need-returns-2
 returns-2 c =
@@ -30,4 +21,4 @@ returns-2 c =
 
 pub nearest-per-unit-spec : {M : Type 1} → statement M
 nearest-per-unit-spec =
-    tie.close (tie.spec raised-requires returns by-unit-requires nearest-of-requires returns-2)
+    tie.close (tie.spec (λ c κs. search needs) returns (λ c κs. search needs) (λ c κs. search needs) returns-2)

@@ -4,16 +4,11 @@ use borrow.Author.Needs.{needs}
 use Rattle.rounding.proofs.nearest_per_units.Statement.{statement}
 use Rattle.rounding.proofs.nearest_per_units.Tie as tie
 
-by-unit-requires : tie.Need-by-unit-requires
-by-unit-requires c κs = search needs
-
-nearest-of-units-requires : tie.Need-nearest-of-units-requires
-nearest-of-units-requires c κs = search needs
-
 returns : tie.Need-returns
 returns c =
     let s = c .before .before .args in
     c .nearest-of-units .ensures (s .a * s .b) (c .before .by-unit .ensures)
 
 pub nearest-per-units-spec : {M : Type 1} → statement M
-nearest-per-units-spec = tie.close (tie.spec by-unit-requires nearest-of-units-requires returns)
+nearest-per-units-spec =
+    tie.close (tie.spec (λ c κs. search needs) (λ c κs. search needs) returns)

@@ -5,9 +5,6 @@ use Rattle.rounding.specs.Word.{word}
 use Rattle.rounding.proofs.next.Statement.{statement}
 use Rattle.rounding.proofs.next.Tie as tie
 
-add-result : tie.Need-add-result
-add-result c = search needs
-
 returns : tie.Need-returns
 unfolding word
 returns c = omega arith
@@ -17,4 +14,5 @@ unfolding word
 returns-2 c = omega arith
 
 pub next-spec : {M : Type 1} → statement M
-next-spec = tie.close (tie.spec add-result returns returns-2)
+next-spec =
+    tie.close (tie.spec (λ c. search needs) returns returns-2)

@@ -14,9 +14,6 @@ parts c = unit-parts (c .args .a) (c .args .b) (omega arith) (omega arith)
 mul-middle : tie.Need-mul-middle
 mul-middle c = omega (arith, parts c)
 
-mul-rest : tie.Need-mul-rest
-mul-rest c = search needs
-
 mul-rest-2 : tie.Need-mul-rest-2
 mul-rest-2 c = omega (arith, parts c)
 
@@ -37,4 +34,4 @@ returns c = (record { whole = λ _. omega (arith, parts c); below = omega arith;
 
 pub part-by-unit-spec : {M : Type 1} → statement M
 part-by-unit-spec =
-    tie.close (tie.spec mul-middle mul-rest mul-rest-2 add-rest mul-t7 add-t9 add-t11 returns)
+    tie.close (tie.spec mul-middle (λ c. search needs) mul-rest-2 add-rest mul-t7 add-t9 add-t11 returns)

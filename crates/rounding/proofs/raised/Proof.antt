@@ -11,9 +11,6 @@ parts c = small-parts (c .args .a) (c .args .b) (omega arith) (omega arith)
 mul-middle : tie.Need-mul-middle
 mul-middle c = omega (arith, parts c)
 
-mul-rest : tie.Need-mul-rest
-mul-rest c = search needs
-
 mul-rest-2 : tie.Need-mul-rest-2
 mul-rest-2 c = omega (arith, parts c)
 
@@ -37,14 +34,4 @@ returns c = omega (arith, parts c)
 
 pub raised-spec : {M : Type 1} → statement M
 raised-spec =
-    tie.close
-    (tie.spec
-    mul-middle
-    mul-rest
-    mul-rest-2
-    add-rest
-    add-rest-2
-    mul-result
-    add-result
-    add-result-2
-    returns)
+    tie.close (tie.spec mul-middle (λ c. search needs) mul-rest-2 add-rest add-rest-2 mul-result add-result add-result-2 returns)

@@ -18,12 +18,10 @@ returns-2 : tie.Need-returns-2
 returns-2 c = λ p d.
     sym (ap word (up-rest-zero p _ _ _ (d .whole (not-false _ (c .before .before .if1 .left))) (c .if2 .taken) (omega arith)) ∙ word-is _ (omega arith))
 
-next-requires : tie.Need-next-requires
-next-requires c κs = search needs
-
 returns-3 : tie.Need-returns-3
 returns-3 c = λ p d.
     c .next .ensures ∙ ap word (sym (up-rest p _ _ _ (d .whole (not-false _ (c .before .before .before .if1 .left))) (omega arith) (le-of-lt (d .below))))
 
 pub up-of-spec : {M : Type 1} → statement M
-up-of-spec = tie.close (tie.spec returns returns-2 next-requires returns-3)
+up-of-spec =
+    tie.close (tie.spec returns returns-2 (λ c κs. search needs) returns-3)

@@ -13,12 +13,6 @@ use Rattle.rounding.proofs.with_whole.Tie as tie
 returns : tie.Need-returns
 returns c = λ p unit d. rw (whole-none (c .before .args .a) (c .before .args .whole) unit p (c .if1 .taken)) d
 
-sub-if2 : tie.Need-sub-if2
-sub-if2 c = search needs
-
-div-if2 : tie.Need-div-if2
-div-if2 c = search needs
-
 returns-2 : tie.Need-returns-2
 returns-2 c = λ p unit d.
     let s = c .before .before .args in
@@ -49,4 +43,5 @@ returns-3 c = λ p unit d.
     }
 
 pub with-whole-spec : {M : Type 1} → statement M
-with-whole-spec = tie.close (tie.spec returns sub-if2 div-if2 returns-2 mul-t7 add-t8 returns-3)
+with-whole-spec =
+    tie.close (tie.spec returns (λ c. search needs) (λ c. search needs) returns-2 mul-t7 add-t8 returns-3)

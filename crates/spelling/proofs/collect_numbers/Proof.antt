@@ -24,28 +24,10 @@ loop-holds c =
     let a = c .before .args in
     (omega arith, omega arith, refl, rw sub-zero (numbers-collected (a .count) (a .text .now)), refl)
 
-find-requires : tie.Need-find-requires Inv-loop μ-loop
-find-requires c κs = search needs
-
-sub-number-of : tie.Need-sub-number-of Inv-loop μ-loop
-sub-number-of c = omega arith
-
-part-number-of-start : tie.Need-part-number-of-start Inv-loop μ-loop
-part-number-of-start c = omega arith
-
 part-number-of-end : tie.Need-part-number-of-end Inv-loop μ-loop
 part-number-of-end c =
     let a = c .before .before .before .before .args in
     end-within (a .text .now) (c .before .before .loop .at) (c .find .result) (c .find .ensures) (omega arith)
-
-number-of-requires : tie.Need-number-of-requires Inv-loop μ-loop
-number-of-requires c κs = search needs
-
-enum-known-v : tie.Need-enum-known-v Inv-loop μ-loop
-enum-known-v c = search needs
-
-enum-told : tie.Need-enum-told Inv-loop μ-loop
-enum-told c = search needs
 
 returns : tie.Need-returns Inv-loop μ-loop
 unfolding numbersIn
@@ -54,15 +36,6 @@ returns c =
     let l = c .before .before .before .before .before .before .loop in
     let f = c .before .before .before .before .find in
     (sym (l .inv .3 ∙ ill-at s (l .at) (f .result) (f .ensures) _ _ (sym (c .before .before .number-of .ensures) ∙ c .enum-told .given .1)), l .inv .4)
-
-mul-values : tie.Need-mul-values Inv-loop μ-loop
-mul-values c = omega arith
-
-array-write-values : tie.Need-array-write-values Inv-loop μ-loop
-array-write-values c = omega arith
-
-add-k : tie.Need-add-k Inv-loop μ-loop
-add-k c = omega arith
 
 returns-2 : tie.Need-returns-2 Inv-loop μ-loop
 unfolding numbersIn
@@ -81,9 +54,6 @@ add-at c =
     let a = c .before .before .before .before .before .before .before .before .before .before .args in
     let f = c .before .before .before .before .before .before .find in
     omega (arith, end-within (a .text .now) (c .before .before .before .before .before .before .before .before .loop .at) (f .result) (f .ensures) (omega arith))
-
-loop-less : tie.Need-loop-less Inv-loop μ-loop
-loop-less c = omega arith
 
 loop-again : tie.Need-loop-again Inv-loop μ-loop
 loop-again c =
@@ -114,23 +84,6 @@ returns-3 c =
 pub collect-numbers-spec : {M : Type 1} → statement M
 collect-numbers-spec =
     tie.close
-    (tie.spec
-    Inv-loop
-    μ-loop
-    loop-holds
-    find-requires
-    sub-number-of
-    part-number-of-start
-    part-number-of-end
-    number-of-requires
-    enum-known-v
-    enum-told
-    returns
-    mul-values
-    array-write-values
-    add-k
-    returns-2
-    add-at
-    loop-less
-    loop-again
-    returns-3)
+    (tie.spec Inv-loop μ-loop loop-holds (λ c κs. search needs) (λ c. omega arith) (λ c. omega arith) part-number-of-end (λ c κs. search needs)
+    (λ c. search needs) (λ c. search needs) returns (λ c. omega arith) (λ c. omega arith) (λ c. omega arith) returns-2 add-at (λ c. omega arith)
+    loop-again returns-3)

@@ -22,9 +22,6 @@ returns c = let s = c .before .args .text .now in sym (number-none s (omega arit
 returns-2 : tie.Need-returns-2 Inv-loop μ-loop
 returns-2 c = let s = c .before .before .args .text .now in sym (number-long s (omega arith))
 
-shared-slice-read-if3 : tie.Need-shared-slice-read-if3 Inv-loop μ-loop
-shared-slice-read-if3 c = omega arith
-
 returns-3 : tie.Need-returns-3 Inv-loop μ-loop
 returns-3 c = let s = c .before .before .before .before .before .args .text .now in sym (number-zero s (c .before .if3 .taken) (omega arith))
 
@@ -33,9 +30,6 @@ returns-4 c = let s = c .before .before .before .before .before .args .text .now
 
 loop-holds : tie.Need-loop-holds Inv-loop μ-loop
 loop-holds c = (omega arith, refl, omega arith, refl, refl)
-
-shared-slice-read-b : tie.Need-shared-slice-read-b Inv-loop μ-loop
-shared-slice-read-b c = omega arith
 
 returns-5 : tie.Need-returns-5 Inv-loop μ-loop
 returns-5 c =
@@ -54,19 +48,10 @@ mul-value c =
     let l = c .before .before .before .before .loop in
     omega (arith, below-most (l .value) (l .i) (omega arith) (l .inv .2))
 
-cast-value : tie.Need-cast-value Inv-loop μ-loop
-cast-value c = omega arith
-
 add-value : tie.Need-add-value Inv-loop μ-loop
 add-value c =
     let l = c .before .before .before .before .loop in
     omega (arith, below-most (l .value) (l .i) (omega arith) (l .inv .2))
-
-add-i : tie.Need-add-i Inv-loop μ-loop
-add-i c = omega arith
-
-loop-less : tie.Need-loop-less Inv-loop μ-loop
-loop-less c = omega arith
 
 loop-again : tie.Need-loop-again Inv-loop μ-loop
 loop-again c =
@@ -90,22 +75,5 @@ returns-7 c =
 pub number-of-spec : {M : Type 1} → statement M
 number-of-spec =
     tie.close
-    (tie.spec
-    Inv-loop
-    μ-loop
-    returns
-    returns-2
-    shared-slice-read-if3
-    returns-3
-    returns-4
-    loop-holds
-    shared-slice-read-b
-    returns-5
-    returns-6
-    mul-value
-    cast-value
-    add-value
-    add-i
-    loop-less
-    loop-again
-    returns-7)
+    (tie.spec Inv-loop μ-loop returns returns-2 (λ c. omega arith) returns-3 returns-4 loop-holds (λ c. omega arith) returns-5 returns-6 mul-value
+    (λ c. omega arith) add-value (λ c. omega arith) (λ c. omega arith) loop-again returns-7)

@@ -12,9 +12,6 @@ parts s = loaded-parts (s .args .high) (s .args .low) (s .args .loaded) (omega a
 mul-rest : tie.Need-mul-rest
 mul-rest c = omega (arith, parts c)
 
-sub-rest : tie.Need-sub-rest
-sub-rest c = omega arith
-
 add-rest : tie.Need-add-rest
 add-rest c = omega (arith, parts c)
 
@@ -35,4 +32,5 @@ unfolding up
 returns c = omega (arith, parts c)
 
 pub centimes-spec : {M : Type 1} → statement M
-centimes-spec = tie.close (tie.spec mul-rest sub-rest add-rest mul-result mul-result-2 add-result add-result-2 returns)
+centimes-spec =
+    tie.close (tie.spec mul-rest (λ c. omega arith) add-rest mul-result mul-result-2 add-result add-result-2 returns)

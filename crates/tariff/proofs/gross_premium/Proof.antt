@@ -13,9 +13,6 @@ returns c = let a = c .before .before .args in gross-low (a .fund) (a .premium) 
 returns-2 : tie.Need-returns-2
 returns-2 c = let a = c .before .before .before .before .args in gross-high (a .fund) (a .premium) (a .within) (omega arith) (omega arith)
 
-loading-requires : tie.Need-loading-requires
-loading-requires c κs = search needs
-
 -- the loaded worth fits a word
 loaded-small : (c : tie.After-loading) → let f = c .before .before .before .before .before .args .fund in f .worth * c .loading .result ≤ 21000000000
 loaded-small c =
@@ -24,9 +21,6 @@ loaded-small c =
 
 mul-loaded : tie.Need-mul-loaded
 mul-loaded c = omega (arith, loaded-small (c .before))
-
-with-bound-requires : tie.Need-with-bound-requires
-with-bound-requires c κs = search needs
 
 centimes-requires : tie.Need-centimes-requires
 centimes-requires c κs = let k = c .with-bound .ensures in (k .high-le, k .low-lt, loaded-small (c .before .before))
@@ -41,4 +35,4 @@ returns-3 c =
 
 pub gross-premium-spec : {M : Type 1} → statement M
 gross-premium-spec =
-    tie.close (tie.spec returns returns-2 loading-requires mul-loaded with-bound-requires centimes-requires returns-3)
+    tie.close (tie.spec returns returns-2 (λ c κs. search needs) mul-loaded (λ c κs. search needs) centimes-requires returns-3)

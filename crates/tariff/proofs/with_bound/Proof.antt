@@ -5,9 +5,6 @@ use Rattle.tariff.proofs.WithBound.{size-le, withBound-below, withBound
 use Rattle.tariff.proofs.with_bound.Statement.{statement}
 use Rattle.tariff.proofs.with_bound.Tie as tie
 
-magnitude-requires : tie.Need-magnitude-requires
-magnitude-requires c κs = search needs
-
 returns : tie.Need-returns
 returns c =
     let t = c .before in
@@ -24,12 +21,6 @@ returns-2 c =
     let e = withBound-below (s .args .premium) (s .args .within) _ (s .fits .premium) (m .magnitude .ensures) (t .if1 .taken) in
     record { sum-is = omega (arith, e); high-le = omega arith; low-lt = omega arith }
 
-add-t11 : tie.Need-add-t11
-add-t11 c = search needs
-
-add-t14 : tie.Need-add-t14
-add-t14 c = search needs
-
 returns-3 : tie.Need-returns-3
 returns-3 c =
     let m = c .before in
@@ -39,4 +30,5 @@ returns-3 c =
     record { sum-is = omega (arith, e); high-le = omega (arith, l); low-lt = omega arith }
 
 pub with-bound-spec : {M : Type 1} → statement M
-with-bound-spec = tie.close (tie.spec magnitude-requires returns returns-2 add-t11 add-t14 returns-3)
+with-bound-spec =
+    tie.close (tie.spec (λ c κs. search needs) returns returns-2 (λ c. search needs) (λ c. search needs) returns-3)

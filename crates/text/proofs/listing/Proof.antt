@@ -11,9 +11,6 @@ use borrow.Author.Needs.{needs}
 use Rattle.text.proofs.listing.Statement.{statement}
 use Rattle.text.proofs.listing.Tie as tie
 
-printable-requires : tie.Need-printable-requires
-printable-requires c κs = search needs
-
 -- Past the range test.
 test : (c : tie.Else1) → let a = c .before .before .before .before .args in printable (a .figures .truncation) (a .horizon) (length (a .f .now)) (a .r .now) (length (a .sums .now)) (length (a .text .now)) ≡ true
 test c = sym (c .before .printable .ensures) ∙ not-false _ (c .if1 .left)
@@ -27,16 +24,10 @@ returns c = written-as _ (listing-out _ _ _ (sym (c .before .printable .ensures)
 add-count : tie.Need-add-count
 add-count c = omega (arith, range c .horizon)
 
-enum-told : tie.Need-enum-told
-enum-told c = search needs
-
 put-accepted-requires : tie.Need-put-accepted-requires
 put-accepted-requires c κs =
     let r = range (c .before .before .before) in
     (given _ _ _ r, r .enough-text)
-
-enum-known-verdict : tie.Need-enum-known-verdict
-enum-known-verdict c = search needs
 
 put-refusal-requires : tie.Need-put-refusal-requires
 put-refusal-requires c κs = omega (arith, range (c .before .before .before .before) .enough-text)
@@ -47,30 +38,14 @@ returns-2 c =
     let told = p .before .before in
     written-as _ (listing-accepted _ _ _ (test (told .before .before)) (told .enum-told .given .1)) (p .put-accepted .ensures)
 
-same-length : tie.Need-same-length
-same-length c = search needs
-
 returns-3 : tie.Need-returns-3
 returns-3 c =
     let p = c .before .before in
     let told = p .before .before .before in
     written-as _ (listing-refused _ _ _ _ _ (test (told .before .before)) (told .verdict .given .1)) (p .put-refusal .ensures)
 
-same-length-2 : tie.Need-same-length-2
-same-length-2 c = search needs
-
 pub listing-spec : {M : Type 1} → statement M
 listing-spec =
     tie.close
-    (tie.spec
-    printable-requires
-    returns
-    add-count
-    enum-told
-    put-accepted-requires
-    enum-known-verdict
-    put-refusal-requires
-    same-length
-    returns-2
-    same-length-2
-    returns-3)
+    (tie.spec (λ c κs. search needs) returns add-count (λ c. search needs) put-accepted-requires (λ c. search needs) put-refusal-requires
+    (λ c. search needs) returns-2 (λ c. search needs) returns-3)

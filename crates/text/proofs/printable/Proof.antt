@@ -39,14 +39,8 @@ returns-6 c =
     let e = d .before in
     simp (le-leb _ _ (e .before .before .before .if1 .left), lt-ltb _ _ (e .before .before .if2 .left), lt-ltb _ _ (e .before .if3 .left), lt-ltb _ _ (e .if4 .left), le-leb _ _ (d .if5 .left), lt-leb _ _ (c .if6 .taken))
 
-add-count : tie.Need-add-count
-add-count c = search needs
-
 slice-aggregate-all-bounded : tie.Need-slice-aggregate-all-bounded
 slice-aggregate-all-bounded c = sym (length-take-le _ _ (omega arith))
-
-all-bounded-requires : tie.Need-all-bounded-requires
-all-bounded-requires c κs = search needs
 
 returns-7 : tie.Need-returns-7
 unfolding printable
@@ -60,14 +54,5 @@ returns-7 c =
 pub printable-spec : {M : Type 1} → statement M
 printable-spec =
     tie.close
-    (tie.spec
-    returns
-    returns-2
-    returns-3
-    returns-4
-    returns-5
-    returns-6
-    add-count
-    slice-aggregate-all-bounded
-    all-bounded-requires
+    (tie.spec returns returns-2 returns-3 returns-4 returns-5 returns-6 (λ c. search needs) slice-aggregate-all-bounded (λ c κs. search needs)
     returns-7)

@@ -38,45 +38,15 @@ bounds c =
       omega (arith, sum-most (s .args .count) (s .args .r .now) (s .pre .bounds) (l .x) (l .inv .0)),
     )
 
-mul-cut : tie.Need-mul-cut Inv-loop μ-loop
-mul-cut c = omega arith
-
 loop-holds : tie.Need-loop-holds Inv-loop μ-loop
 unfolding sum cellLines
 loop-holds c = (omega arith, omega arith, puts-none _ _, omega arith)
-
-mul-cell-bound : tie.Need-mul-cell-bound Inv-loop μ-loop
-mul-cell-bound c = omega arith
-
-shared-slice-read-cell-bound : tie.Need-shared-slice-read-cell-bound Inv-loop μ-loop
-shared-slice-read-cell-bound c = omega arith
 
 add-within : tie.Need-add-within Inv-loop μ-loop
 add-within c = omega (arith, bounds (c .before))
 
 add-bound : tie.Need-add-bound Inv-loop μ-loop
 add-bound c = omega (arith, bounds (c .before))
-
-mul-put-cell : tie.Need-mul-put-cell Inv-loop μ-loop
-mul-put-cell c = omega arith
-
-shared-slice-copy-out-put-cell : tie.Need-shared-slice-copy-out-put-cell Inv-loop μ-loop
-shared-slice-copy-out-put-cell c = omega arith
-
-mul-put-cell-2 : tie.Need-mul-put-cell-2 Inv-loop μ-loop
-mul-put-cell-2 c = omega arith
-
-shared-slice-copy-out-put-cell-2 : tie.Need-shared-slice-copy-out-put-cell-2 Inv-loop μ-loop
-shared-slice-copy-out-put-cell-2 c = omega arith
-
-put-cell-requires : tie.Need-put-cell-requires Inv-loop μ-loop
-put-cell-requires c κs = search needs
-
-add-x : tie.Need-add-x Inv-loop μ-loop
-add-x c = omega arith
-
-loop-less : tie.Need-loop-less Inv-loop μ-loop
-loop-less c = omega arith
 
 loop-again : tie.Need-loop-again Inv-loop μ-loop
 loop-again c =
@@ -106,22 +76,6 @@ returns c =
 pub put-cells-spec : {M : Type 1} → statement M
 put-cells-spec =
     tie.close
-    (tie.spec
-    Inv-loop
-    μ-loop
-    mul-cut
-    loop-holds
-    mul-cell-bound
-    shared-slice-read-cell-bound
-    add-within
-    add-bound
-    mul-put-cell
-    shared-slice-copy-out-put-cell
-    mul-put-cell-2
-    shared-slice-copy-out-put-cell-2
-    put-cell-requires
-    add-x
-    loop-less
-    loop-again
-    same-length
+    (tie.spec Inv-loop μ-loop (λ c. omega arith) loop-holds (λ c. omega arith) (λ c. omega arith) add-within add-bound (λ c. omega arith)
+    (λ c. omega arith) (λ c. omega arith) (λ c. omega arith) (λ c κs. search needs) (λ c. omega arith) (λ c. omega arith) loop-again same-length
     returns)

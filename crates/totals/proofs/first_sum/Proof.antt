@@ -6,14 +6,8 @@ use Rattle.totals.specs.Totals.{StartSumIs}
 use Rattle.totals.proofs.first_sum.Statement.{statement}
 use Rattle.totals.proofs.first_sum.Tie as tie
 
-least-requires : tie.Need-least-requires
-least-requires c κs = search needs
-
 terms-requires : tie.Need-terms-requires
 terms-requires c κs = omega (arith, c .least .ensures)
-
-difference-requires : tie.Need-difference-requires
-difference-requires c κs = search needs
 
 returns : tie.Need-returns
 returns c =
@@ -28,4 +22,5 @@ returns c =
     }
 
 pub first-sum-spec : {M : Type 1} → statement M
-first-sum-spec = tie.close (tie.spec least-requires terms-requires difference-requires returns)
+first-sum-spec =
+    tie.close (tie.spec (λ c κs. search needs) terms-requires (λ c κs. search needs) returns)

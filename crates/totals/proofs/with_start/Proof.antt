@@ -9,12 +9,6 @@ use Rattle.whole.specs.Sign.{most-value, signed}
 use Rattle.totals.proofs.with_start.Statement.{statement}
 use Rattle.totals.proofs.with_start.Tie as tie
 
-as-i64-requires : tie.Need-as-i64-requires
-as-i64-requires c κs = search needs
-
-add-t8 : tie.Need-add-t8
-add-t8 c = search needs
-
 returns : tie.Need-returns
 returns c =
     let s = c .before .before .before in
@@ -29,4 +23,5 @@ returns c =
     }
 
 pub with-start-spec : {M : Type 1} → statement M
-with-start-spec = tie.close (tie.spec as-i64-requires add-t8 returns)
+with-start-spec =
+    tie.close (tie.spec (λ c κs. search needs) (λ c. search needs) returns)

@@ -4,11 +4,9 @@ use borrow.Author.Needs.{needs}
 use Rattle.valuation.proofs.refused.Statement.{statement}
 use Rattle.valuation.proofs.refused.Tie as tie
 
-no-figures-requires : tie.Need-no-figures-requires
-no-figures-requires c κs = search needs
-
 returns : tie.Need-returns
 returns c = ap (λ f. record { verdict = c .before .args .verdict; figures = f }) (c .no-figures .ensures)
 
 pub refused-spec : {M : Type 1} → statement M
-refused-spec = tie.close (tie.spec no-figures-requires returns)
+refused-spec =
+    tie.close (tie.spec (λ c κs. search needs) returns)

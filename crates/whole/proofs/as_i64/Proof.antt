@@ -13,12 +13,6 @@ use Rattle.whole.proofs.as_i64.Tie as tie
 small : (c : tie.After-least) → c .least .result < 2 ^ 63
 small c = omega (arith, c .least .ensures)
 
-least-requires : tie.Need-least-requires
-least-requires c κs = search needs
-
-cast-size : tie.Need-cast-size
-cast-size c = search needs
-
 sub-result : tie.Need-sub-result
 sub-result c = minus (c .before .least .result) (small (c .before)) .fits
 
@@ -29,4 +23,5 @@ returns-2 : tie.Need-returns-2
 returns-2 c = rw (c .if1 .left) (toZ-pos w64 (small (c .before)) ∙ ap pos (c .before .least .ensures))
 
 pub as-i64-spec : {M : Type 1} → statement M
-as-i64-spec = tie.close (tie.spec least-requires cast-size sub-result returns returns-2)
+as-i64-spec =
+    tie.close (tie.spec (λ c κs. search needs) (λ c. search needs) sub-result returns returns-2)

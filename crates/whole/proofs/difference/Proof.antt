@@ -7,9 +7,6 @@ use Rattle.whole.proofs.Signs.{diff, diff-neg}
 use Rattle.whole.proofs.difference.Statement.{statement}
 use Rattle.whole.proofs.difference.Tie as tie
 
-sub-t4 : tie.Need-sub-t4
-sub-t4 c = search needs
-
 returns : tie.Need-returns
 returns c = (diff-neg (c .before .args .plus) (c .before .args .minus) (omega arith), omega arith, sym (lt-ltb (c .before .args .plus) (c .before .args .minus) (omega arith)))
 
@@ -17,4 +14,5 @@ returns-2 : tie.Need-returns-2
 returns-2 c = (diff (c .before .args .plus) (c .before .args .minus) (omega arith), omega arith, sym (le-ltb (c .before .args .plus) (c .before .args .minus) (omega arith)))
 
 pub difference-spec : {M : Type 1} → statement M
-difference-spec = tie.close (tie.spec sub-t4 returns returns-2)
+difference-spec =
+    tie.close (tie.spec (λ c. search needs) returns returns-2)

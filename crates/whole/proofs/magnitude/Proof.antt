@@ -26,8 +26,6 @@ cast-result-2 c =
 returns : tie.Need-returns
 returns c = let h = flipped c in rw (h .is) (omega arith)
 
-returns-2 : tie.Need-returns-2
-returns-2 c = search needs
-
 pub magnitude-spec : {M : Type 1} → statement M
-magnitude-spec = tie.close (tie.spec sub-y cast-result add-result cast-result-2 returns returns-2)
+magnitude-spec =
+    tie.close (tie.spec sub-y cast-result add-result cast-result-2 returns (λ c. search needs))

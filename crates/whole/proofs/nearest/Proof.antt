@@ -17,12 +17,6 @@ below c = N.mod-lt (c .before .args .a) (omega (arith, c .if1 .left))
 returns : tie.Need-returns
 returns c = sym (ap (near (c .before .args .a)) (c .if1 .taken) ∙ near-by-zero (c .before .args .a))
 
-div-quotient : tie.Need-div-quotient
-div-quotient c = search needs
-
-rem-rest : tie.Need-rem-rest
-rem-rest c = search needs
-
 sub-if2 : tie.Need-sub-if2
 sub-if2 c = omega (arith, below c)
 
@@ -42,4 +36,5 @@ returns-3 c =
     sym (near-rest-high (a .a) (a .b) _ _ (parts (a .a) (a .b)) (omega (arith, c .if2 .left, below (c .before))) (below (c .before)))
 
 pub nearest-spec : {M : Type 1} → statement M
-nearest-spec = tie.close (tie.spec returns div-quotient rem-rest sub-if2 returns-2 add-result returns-3)
+nearest-spec =
+    tie.close (tie.spec returns (λ c. search needs) (λ c. search needs) sub-if2 returns-2 add-result returns-3)

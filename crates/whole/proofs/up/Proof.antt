@@ -17,12 +17,6 @@ positive c = omega (arith, c .before .if1 .left)
 returns : tie.Need-returns
 returns c = sym (ap (up (c .before .args .a)) (c .if1 .taken) ∙ up-by-zero (c .before .args .a))
 
-div-quotient : tie.Need-div-quotient
-div-quotient c = search needs
-
-rem-if2 : tie.Need-rem-if2
-rem-if2 c = search needs
-
 returns-2 : tie.Need-returns-2
 returns-2 c =
     let a = c .before .before .args in
@@ -39,4 +33,5 @@ returns-3 c =
     sym (up-rest (a .a) (a .b) _ _ (parts (a .a) (a .b)) (omega (arith, c .if2 .left)) (omega (arith, N.mod-lt (a .a) (positive c))))
 
 pub up-spec : {M : Type 1} → statement M
-up-spec = tie.close (tie.spec returns div-quotient rem-if2 returns-2 add-result returns-3)
+up-spec =
+    tie.close (tie.spec returns (λ c. search needs) (λ c. search needs) returns-2 add-result returns-3)

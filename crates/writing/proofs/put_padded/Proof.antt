@@ -19,21 +19,6 @@ loop-holds : tie.Need-loop-holds Inv-loop μ-loop
 unfolding padded
 loop-holds c = (omega arith, puts-none _ _)
 
-add-i : tie.Need-add-i Inv-loop μ-loop
-add-i c = omega arith
-
-sub-without-places : tie.Need-sub-without-places Inv-loop μ-loop
-sub-without-places c = omega arith
-
-without-places-requires : tie.Need-without-places-requires Inv-loop μ-loop
-without-places-requires c κs = search needs
-
-put-digit-requires : tie.Need-put-digit-requires Inv-loop μ-loop
-put-digit-requires c κs = omega arith
-
-loop-less : tie.Need-loop-less Inv-loop μ-loop
-loop-less c = omega arith
-
 loop-again : tie.Need-loop-again Inv-loop μ-loop
 loop-again c =
     let digit = c .before .before in
@@ -54,15 +39,5 @@ returns c =
 pub put-padded-spec : {M : Type 1} → statement M
 put-padded-spec =
     tie.close
-    (tie.spec
-    Inv-loop
-    μ-loop
-    loop-holds
-    add-i
-    sub-without-places
-    without-places-requires
-    put-digit-requires
-    loop-less
-    loop-again
-    same-length
-    returns)
+    (tie.spec Inv-loop μ-loop loop-holds (λ c. omega arith) (λ c. omega arith) (λ c κs. search needs) (λ c κs. omega arith) (λ c. omega arith)
+    loop-again same-length returns)

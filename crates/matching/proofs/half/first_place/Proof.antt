@@ -8,9 +8,6 @@ use Rattle.matching.proofs.half.first_place.Tie as tie
 returns : tie.Need-returns
 returns c = rw (ne-eqb _ _ (c .if1 .taken))
 
-is-half-requires : tie.Need-is-half-requires
-is-half-requires c κs = search needs
-
 returns-2 : tie.Need-returns-2
 returns-2 c = rw (eq-eqb _ _ (c .before .before .if1 .left), sym (c .before .is-half .ensures) ∙ c .if2 .taken)
 
@@ -18,4 +15,5 @@ returns-3 : tie.Need-returns-3
 returns-3 c = rw (eq-eqb _ _ (c .before .before .if1 .left), sym (c .before .is-half .ensures) ∙ c .if2 .left)
 
 pub first-place-spec : {M : Type 1} → statement M
-first-place-spec = tie.close (tie.spec returns is-half-requires returns-2 returns-3)
+first-place-spec =
+    tie.close (tie.spec returns (λ c κs. search needs) returns-2 returns-3)

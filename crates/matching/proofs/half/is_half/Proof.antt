@@ -20,9 +20,6 @@ returns-2 c =
     let l : half-rate ≤ m .q + m .i = omega arith in
     rw (eq-eqb _ _ (c .before .before .if1 .left), le-leb _ _ l)
 
-sub-result : tie.Need-sub-result
-sub-result c = search needs
-
 returns-3 : tie.Need-returns-3
 unfolding half
 returns-3 c =
@@ -30,4 +27,5 @@ returns-3 c =
     rw (eq-eqb _ _ (c .before .before .before .before .if1 .left)) (half-rest (m .q) (m .i) (c .before .before .if2 .left))
 
 pub is-half-spec : {M : Type 1} → statement M
-is-half-spec = tie.close (tie.spec returns returns-2 sub-result returns-3)
+is-half-spec =
+    tie.close (tie.spec returns returns-2 (λ c. search needs) returns-3)

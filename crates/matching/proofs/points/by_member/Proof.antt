@@ -16,84 +16,27 @@ Inv-loop rated enrolled line rates members points₀ half-at₀ k₀ j₀ points
 abbrev μ-loop : tie.MeasureT-loop
 μ-loop rated enrolled line rates members points₀ half-at₀ k₀ j₀ points half-at k j = (enrolled - k) * suc most-rates + (rated - j)
 
-no-point-requires : tie.Need-no-point-requires Inv-loop μ-loop
-no-point-requires c κs = search needs
-
 loop-holds : tie.Need-loop-holds Inv-loop μ-loop
 unfolding pointTable lent
 loop-holds c =
     let a = c .before .args in
     rw (c .no-point .ensures) (start (a .t1) (a .rated) (a .t3) (a .enrolled) (a .line) (omega arith) (omega arith) (omega arith))
 
-mul-m : tie.Need-mul-m Inv-loop μ-loop
-mul-m c = search needs
-
-array-copy-out-m : tie.Need-array-copy-out-m Inv-loop μ-loop
-array-copy-out-m c = search needs
-
-mul-next : tie.Need-mul-next Inv-loop μ-loop
-mul-next c = search needs
-
-array-copy-out-next : tie.Need-array-copy-out-next Inv-loop μ-loop
-array-copy-out-next c = search needs
-
-add-j : tie.Need-add-j Inv-loop μ-loop
-add-j c = search needs
-
-loop-less : tie.Need-loop-less Inv-loop μ-loop
-loop-less c = omega arith
-
 loop-again : tie.Need-loop-again Inv-loop μ-loop
 loop-again c = next-rate (c .before .before .before .before .before .before .before .loop .inv) (omega arith) (omega arith) (omega arith)
-
-add-without-points : tie.Need-add-without-points Inv-loop μ-loop
-add-without-points c = search needs
-
-without-points-requires : tie.Need-without-points-requires Inv-loop μ-loop
-without-points-requires c κs = search needs
 
 returns : tie.Need-returns Inv-loop μ-loop
 returns c =
     let l = c .before .before .before .before .before in
     no-rate (l .loop .inv) (omega arith) (λ h. ⊎-elim (λ w. omega arith) (λ w. omega arith) (c .before .before .if1 .came)) (c .before .if3 .taken) _ (c .without-points .ensures)
 
-sub-r : tie.Need-sub-r Inv-loop μ-loop
-sub-r c = search needs
-
-mul-r : tie.Need-mul-r Inv-loop μ-loop
-mul-r c = search needs
-
-array-copy-out-r : tie.Need-array-copy-out-r Inv-loop μ-loop
-array-copy-out-r c = search needs
-
-folded-requires : tie.Need-folded-requires Inv-loop μ-loop
-folded-requires c κs = search needs
-
-add-first-place : tie.Need-add-first-place Inv-loop μ-loop
-add-first-place c = search needs
-
-first-place-requires : tie.Need-first-place-requires Inv-loop μ-loop
-first-place-requires c κs = search needs
-
-mul-points : tie.Need-mul-points Inv-loop μ-loop
-mul-points c = search needs
-
 array-set-from-points : tie.Need-array-set-from-points Inv-loop μ-loop
 array-set-from-points c = omega (arith, points-long (c .before .before .before .before .before .before .before .loop .inv))
-
-add-k : tie.Need-add-k Inv-loop μ-loop
-add-k c = search needs
-
-loop-less-2 : tie.Need-loop-less-2 Inv-loop μ-loop
-loop-less-2 c = omega arith
 
 loop-again-2 : tie.Need-loop-again-2 Inv-loop μ-loop
 loop-again-2 c =
     let l = c .before .before .before .before .before .before .before in
     its-rate (l .loop .inv) (omega arith) (λ h. ⊎-elim (λ w. omega arith) (λ w. omega arith) (c .before .before .before .before .if1 .came)) (omega arith) (l .loop .j - 1) (omega arith) _ _ (c .before .folded .ensures) (c .first-place .ensures)
-
-without-points-requires-2 : tie.Need-without-points-requires-2 Inv-loop μ-loop
-without-points-requires-2 c κs = search needs
 
 returns-2 : tie.Need-returns-2 Inv-loop μ-loop
 returns-2 c = half-found (c .before .before .before .loop .inv) (omega arith) (c .before .if4 .taken) _ (c .without-points2 .ensures)
@@ -104,32 +47,7 @@ returns-3 c = all-points (c .before .before .loop .inv) (omega arith) (c .if4 .l
 pub by-member-spec : {M : Type 1} → statement M
 by-member-spec =
     tie.close
-    (tie.spec
-    Inv-loop
-    μ-loop
-    no-point-requires
-    loop-holds
-    mul-m
-    array-copy-out-m
-    mul-next
-    array-copy-out-next
-    add-j
-    loop-less
-    loop-again
-    add-without-points
-    without-points-requires
-    returns
-    sub-r
-    mul-r
-    array-copy-out-r
-    folded-requires
-    add-first-place
-    first-place-requires
-    mul-points
-    array-set-from-points
-    add-k
-    loop-less-2
-    loop-again-2
-    without-points-requires-2
-    returns-2
-    returns-3)
+    (tie.spec Inv-loop μ-loop (λ c κs. search needs) loop-holds (λ c. search needs) (λ c. search needs) (λ c. search needs) (λ c. search needs)
+    (λ c. search needs) (λ c. omega arith) loop-again (λ c. search needs) (λ c κs. search needs) returns (λ c. search needs) (λ c. search needs)
+    (λ c. search needs) (λ c κs. search needs) (λ c. search needs) (λ c κs. search needs) (λ c. search needs) array-set-from-points
+    (λ c. search needs) (λ c. omega arith) loop-again-2 (λ c κs. search needs) returns-2 returns-3)

@@ -4,15 +4,10 @@ use Rattle.fund.specs.Folding.{folded}
 use Rattle.matching.proofs.points.folded.Statement.{statement}
 use Rattle.matching.proofs.points.folded.Tie as tie
 
-counted-requires : tie.Need-counted-requires
-counted-requires c κs = search needs
-
-counted-requires-2 : tie.Need-counted-requires-2
-counted-requires-2 c κs = search needs
-
 returns : tie.Need-returns
 unfolding folded
 returns c = rw (c .before .counted .ensures, c .counted2 .ensures)
 
 pub folded-spec : {M : Type 1} → statement M
-folded-spec = tie.close (tie.spec counted-requires counted-requires-2 returns)
+folded-spec =
+    tie.close (tie.spec (λ c κs. search needs) (λ c κs. search needs) returns)

@@ -5,12 +5,10 @@ use Rattle.matching.specs.Matching.{pointTable, withPoints}
 use Rattle.matching.proofs.table.without_points.Statement.{statement}
 use Rattle.matching.proofs.table.without_points.Tie as tie
 
-no-point-requires : tie.Need-no-point-requires
-no-point-requires c κs = search needs
-
 returns : tie.Need-returns
 unfolding withPoints pointTable lent
 returns c = rw (c .no-point .ensures)
 
 pub without-points-spec : {M : Type 1} → statement M
-without-points-spec = tie.close (tie.spec no-point-requires returns)
+without-points-spec =
+    tie.close (tie.spec (λ c κs. search needs) returns)

@@ -22,9 +22,6 @@ abbrev μ-loop : tie.MeasureT-loop
 loop-holds : tie.Need-loop-holds Inv-loop μ-loop
 loop-holds c = (omega arith, ahead-all _ _)
 
-add-next : tie.Need-add-next Inv-loop μ-loop
-add-next c = omega arith
-
 returns : tie.Need-returns Inv-loop μ-loop
 returns c =
     let l = c .before .before .before in
@@ -42,21 +39,6 @@ returns-3 c =
     let l = c .before .before .before in
     let a = l .before .args in
     (sym (ahead-old _ _ (l .loop .k) (l .loop .inv .1) (omega (arith, length-take (a .enrolled) (a .t1))) (omega (arith, length-take (a .others) (a .t3)))), omega arith)
-
-mul-is-same : tie.Need-mul-is-same Inv-loop μ-loop
-mul-is-same c = search needs
-
-array-copy-out-is-same : tie.Need-array-copy-out-is-same Inv-loop μ-loop
-array-copy-out-is-same c = search needs
-
-mul-is-same-2 : tie.Need-mul-is-same-2 Inv-loop μ-loop
-mul-is-same-2 c = search needs
-
-array-copy-out-is-same-2 : tie.Need-array-copy-out-is-same-2 Inv-loop μ-loop
-array-copy-out-is-same-2 c = search needs
-
-is-same-requires : tie.Need-is-same-requires Inv-loop μ-loop
-is-same-requires c κs = search needs
 
 -- behind the comparison of line k: both files have it, and what the comparison says of the two lines
 abbrev at : tie.After-is-same Inv-loop μ-loop → tie.At-loop Inv-loop μ-loop
@@ -80,12 +62,6 @@ returns-4 c =
     let s = c .before in
     (sym (ahead-other _ _ _ (at s .loop .inv .1) (old-has s) (new-has s) (says s ∙ not-true _ (c .if4 .taken))), omega arith)
 
-add-k : tie.Need-add-k Inv-loop μ-loop
-add-k c = omega arith
-
-loop-less : tie.Need-loop-less Inv-loop μ-loop
-loop-less c = omega arith
-
 loop-again : tie.Need-loop-again Inv-loop μ-loop
 loop-again c =
     let s = c .before in
@@ -100,21 +76,5 @@ returns-5 c =
 pub first-member-line-spec : {M : Type 1} → statement M
 first-member-line-spec =
     tie.close
-    (tie.spec
-    Inv-loop
-    μ-loop
-    loop-holds
-    add-next
-    returns
-    returns-2
-    returns-3
-    mul-is-same
-    array-copy-out-is-same
-    mul-is-same-2
-    array-copy-out-is-same-2
-    is-same-requires
-    returns-4
-    add-k
-    loop-less
-    loop-again
-    returns-5)
+    (tie.spec Inv-loop μ-loop loop-holds (λ c. omega arith) returns returns-2 returns-3 (λ c. search needs) (λ c. search needs) (λ c. search needs)
+    (λ c. search needs) (λ c κs. search needs) returns-4 (λ c. omega arith) (λ c. omega arith) loop-again returns-5)

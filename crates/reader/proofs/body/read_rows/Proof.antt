@@ -15,12 +15,6 @@ Inv-loop file fund start rates₀ members₀ rated₀ enrolled₀ least₀ lives
 abbrev μ-loop : tie.MeasureT-loop
 μ-loop file fund start rates₀ members₀ rated₀ enrolled₀ least₀ lives₀ at₀ rates members rated enrolled least lives at = length file - at
 
-no-rate-requires : tie.Need-no-rate-requires Inv-loop μ-loop
-no-rate-requires c κs = search needs
-
-no-member-requires : tie.Need-no-member-requires Inv-loop μ-loop
-no-member-requires c κs = search needs
-
 loop-holds : tie.Need-loop-holds Inv-loop μ-loop
 unfolding rateTable memberTable lent
 loop-holds c =
@@ -29,9 +23,6 @@ loop-holds c =
 
 row-step-requires : tie.Need-row-step-requires Inv-loop μ-loop
 row-step-requires c κs = (c .loop .inv .tables .few-rates, c .loop .inv .tables .few-members)
-
-enum-known-r : tie.Need-enum-known-r Inv-loop μ-loop
-enum-known-r c = search needs
 
 mul-rates : tie.Need-mul-rates Inv-loop μ-loop
 mul-rates c = omega (arith, c .before .before .before .before .loop .inv .tables .few-rates)
@@ -60,9 +51,6 @@ loop-again c =
     let w = rw (c .before .before .r .given .1) at (c .before .before .before .before .row-step .ensures) in
     rate-taken _ _ _ _ _ _ _ _ _ (c .before .before .before .before .before .loop .inv) _ _ w
 
-enum-known-m : tie.Need-enum-known-m Inv-loop μ-loop
-enum-known-m c = search needs
-
 mul-members : tie.Need-mul-members Inv-loop μ-loop
 mul-members c = omega (arith, c .before .before .before .before .loop .inv .tables .few-members)
 
@@ -90,19 +78,10 @@ loop-again-2 c =
     let w = rw (c .before .before .m .given .1) at (c .before .before .before .before .row-step .ensures) in
     member-taken _ _ _ _ _ _ _ _ _ (c .before .before .before .before .before .loop .inv) _ _ w
 
-enum-told : tie.Need-enum-told Inv-loop μ-loop
-enum-told c = search needs
-
 returns : tie.Need-returns Inv-loop μ-loop
 returns c =
     let w = rw (c .enum-told .given .1) at (c .before .before .row-step .ensures) in
     at-end _ _ _ _ _ _ _ _ _ (c .before .before .before .loop .inv) w
-
-enum-known-why : tie.Need-enum-known-why Inv-loop μ-loop
-enum-known-why c = search needs
-
-without-rows-requires : tie.Need-without-rows-requires Inv-loop μ-loop
-without-rows-requires c κs = search needs
 
 returns-2 : tie.Need-returns-2 Inv-loop μ-loop
 returns-2 c =
@@ -112,29 +91,6 @@ returns-2 c =
 pub read-rows-spec : {M : Type 1} → statement M
 read-rows-spec =
     tie.close
-    (tie.spec
-    Inv-loop
-    μ-loop
-    no-rate-requires
-    no-member-requires
-    loop-holds
-    row-step-requires
-    enum-known-r
-    mul-rates
-    array-set-from-rates
-    add-rated
-    add-least
-    loop-less
-    loop-again
-    enum-known-m
-    mul-members
-    array-set-from-members
-    add-enrolled
-    add-lives
-    loop-less-2
-    loop-again-2
-    enum-told
-    returns
-    enum-known-why
-    without-rows-requires
-    returns-2)
+    (tie.spec Inv-loop μ-loop (λ c κs. search needs) (λ c κs. search needs) loop-holds row-step-requires (λ c. search needs) mul-rates
+    array-set-from-rates add-rated add-least loop-less loop-again (λ c. search needs) mul-members array-set-from-members add-enrolled add-lives
+    loop-less-2 loop-again-2 (λ c. search needs) returns (λ c. search needs) (λ c κs. search needs) returns-2)

@@ -5,18 +5,10 @@ use Rattle.reader.specs.Read.{rateTable, memberTable, fileRead}
 use Rattle.reader.proofs.body.without_rows.Statement.{statement}
 use Rattle.reader.proofs.body.without_rows.Tie as tie
 
-no-fund-requires : tie.Need-no-fund-requires
-no-fund-requires c κs = search needs
-
-no-rate-requires : tie.Need-no-rate-requires
-no-rate-requires c κs = search needs
-
-no-member-requires : tie.Need-no-member-requires
-no-member-requires c κs = search needs
-
 returns : tie.Need-returns
 unfolding fileRead rateTable memberTable lent
 returns c = rw (c .before .before .no-fund .ensures, c .before .no-rate .ensures, c .no-member .ensures)
 
 pub without-rows-spec : {M : Type 1} → statement M
-without-rows-spec = tie.close (tie.spec no-fund-requires no-rate-requires no-member-requires returns)
+without-rows-spec =
+    tie.close (tie.spec (λ c κs. search needs) (λ c κs. search needs) (λ c κs. search needs) returns)

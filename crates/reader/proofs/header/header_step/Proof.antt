@@ -12,21 +12,6 @@ returns c =
     let a = s .args in
     step-missing (a .file .now) (a .k) (a .at) (s .pre) (omega arith)
 
-next-line-requires : tie.Need-next-line-requires
-next-line-requires c κs = search needs
-
-numbers-at-requires : tie.Need-numbers-at-requires
-numbers-at-requires c κs = search needs
-
-array-read-first : tie.Need-array-read-first
-array-read-first c = search needs
-
-array-read-second : tie.Need-array-read-second
-array-read-second c = search needs
-
-header-in-range-requires : tie.Need-header-in-range-requires
-header-in-range-requires c κs = search needs
-
 returns-2 : tie.Need-returns-2
 returns-2 c =
     let l = c .before .before .before .before .before in
@@ -54,13 +39,5 @@ returns-4 c =
 pub header-step-spec : {M : Type 1} → statement M
 header-step-spec =
     tie.close
-    (tie.spec
-    returns
-    next-line-requires
-    numbers-at-requires
-    array-read-first
-    array-read-second
-    header-in-range-requires
-    returns-2
-    returns-3
+    (tie.spec returns (λ c κs. search needs) (λ c κs. search needs) (λ c. search needs) (λ c. search needs) (λ c κs. search needs) returns-2 returns-3
     returns-4)

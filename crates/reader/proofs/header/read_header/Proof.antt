@@ -28,9 +28,6 @@ header-step-requires : tie.Need-header-step-requires Inv-loop μ-loop
 unfolding headerLines
 header-step-requires c κs = omega arith
 
-enum-known-why : tie.Need-enum-known-why Inv-loop μ-loop
-enum-known-why c = search needs
-
 add-t15 : tie.Need-add-t15 Inv-loop μ-loop
 unfolding headerLines
 add-t15 c = omega arith
@@ -40,9 +37,6 @@ returns c =
     let l = c .before .before .before .before .before .loop in
     let e = rw (c .before .why .given .1) at (c .before .before .before .header-step .ensures) in
     record { same = λ after. l .inv .4 after ∙ e .same after (numbersBefore (l .k) (l .firsts) (l .seconds)); inside = omega arith }
-
-enum-known-first : tie.Need-enum-known-first Inv-loop μ-loop
-enum-known-first c = search needs
 
 mul-firsts : tie.Need-mul-firsts Inv-loop μ-loop
 unfolding headerLines
@@ -93,21 +87,6 @@ pub read-header-spec : {M : Type 1} → statement M
 unfolding headerLines
 read-header-spec =
     tie.close
-    (tie.spec
-    Inv-loop
-    μ-loop
-    loop-holds
-    header-step-requires
-    enum-known-why
-    add-t15
-    returns
-    enum-known-first
-    mul-firsts
-    array-write-firsts
-    mul-seconds
-    array-write-seconds
-    add-k
-    loop-less
-    loop-again
-    (λ c. omega arith) (λ c. omega arith) (λ c. omega arith) (λ c. omega arith) (λ c. omega arith) (λ c. omega arith) (λ c. omega arith) (λ c. omega arith)
-    returns-2)
+    (tie.spec Inv-loop μ-loop loop-holds header-step-requires (λ c. search needs) add-t15 returns (λ c. search needs) mul-firsts array-write-firsts
+    mul-seconds array-write-seconds add-k loop-less loop-again (λ c. omega arith) (λ c. omega arith) (λ c. omega arith) (λ c. omega arith)
+    (λ c. omega arith) (λ c. omega arith) (λ c. omega arith) (λ c. omega arith) returns-2)

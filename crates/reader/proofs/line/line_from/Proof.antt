@@ -4,12 +4,6 @@ use Rattle.reader.proofs.Lines.{line-ended, line-open}
 use Rattle.reader.proofs.line.line_from.Statement.{statement}
 use Rattle.reader.proofs.line.line_from.Tie as tie
 
-find-requires : tie.Need-find-requires
-find-requires c κs = search needs
-
-add-t6 : tie.Need-add-t6
-add-t6 c = search needs
-
 returns : tie.Need-returns
 returns c = let a = c .before .before .before .args in line-ended (a .file .now) (a .at) (c .before .find .result) (c .before .find .ensures) (c .before .before .before .pre) (c .if1 .taken)
 
@@ -17,4 +11,5 @@ returns-2 : tie.Need-returns-2
 returns-2 c = let a = c .before .before .before .args in line-open (a .file .now) (a .at) (c .before .find .result) (c .before .find .ensures) (c .before .before .before .pre) (c .if1 .left)
 
 pub line-from-spec : {M : Type 1} → statement M
-line-from-spec = tie.close (tie.spec find-requires add-t6 returns returns-2)
+line-from-spec =
+    tie.close (tie.spec (λ c κs. search needs) (λ c. search needs) returns returns-2)

@@ -18,18 +18,6 @@ returns c =
     let a = c .before .before .before .before .args in
     sym (spelled-open (a .file .now) (a .line) (a .key .now) (a .count) (omega arith))
 
-sub-text : tie.Need-sub-text
-sub-text c = search needs
-
-part-text-start : tie.Need-part-text-start
-part-text-start c = search needs
-
-part-text-end : tie.Need-part-text-end
-part-text-end c = search needs
-
-begins-requires : tie.Need-begins-requires
-begins-requires c κs = search needs
-
 -- behind the key, where it begins the text
 begun : (c : tie.Then2) → let a = c .before .before .before .before .before .before .before .args in behind (a .key .now) (lineIn (a .file .now) (a .line) .text) ≡ some (drop (length (a .key .now)) (lineIn (a .file .now) (a .line) .text))
 begun c = rw (c .if2 .taken) at (c .before .begins .ensures)
@@ -39,12 +27,6 @@ sub-numbers-of c = behind-length _ _ _ (begun c)
 
 part-numbers-of-start : tie.Need-part-numbers-of-start
 part-numbers-of-start c = behind-length _ _ _ (begun c)
-
-part-numbers-of-end : tie.Need-part-numbers-of-end
-part-numbers-of-end c = search needs
-
-numbers-of-requires : tie.Need-numbers-of-requires
-numbers-of-requires c κs = search needs
 
 returns-2 : tie.Need-returns-2
 returns-2 c =
@@ -63,15 +45,5 @@ returns-3 c =
 pub spelled-spec : {M : Type 1} → statement M
 spelled-spec =
     tie.close
-    (tie.spec
-    returns
-    sub-text
-    part-text-start
-    part-text-end
-    begins-requires
-    sub-numbers-of
-    part-numbers-of-start
-    part-numbers-of-end
-    numbers-of-requires
-    returns-2
-    returns-3)
+    (tie.spec returns (λ c. search needs) (λ c. search needs) (λ c. search needs) (λ c κs. search needs) sub-numbers-of part-numbers-of-start
+    (λ c. search needs) (λ c κs. search needs) returns-2 returns-3)

@@ -29,9 +29,6 @@ loop-holds c =
     let z : 0 ≡ n - n = omega arith in
     record { fewer = omega arith; passed = subst (λ (k : ℕ). Passed (c .before .args .file .now) k 0) z (record { left = refl }) }
 
-next-line-requires : tie.Need-next-line-requires Inv-loop μ-loop
-next-line-requires c κs = search needs
-
 returns : tie.Need-returns Inv-loop μ-loop
 returns c =
     let l = c .before .before .before .loop in
@@ -41,9 +38,6 @@ returns c =
       inside = n .within .inside;
       same = line-there _ _ _ (l .inv .passed) _ _ (omega (arith, l .inv .fewer, c .if1 .taken)) n;
     }
-
-sub-left : tie.Need-sub-left Inv-loop μ-loop
-sub-left c = search needs
 
 loop-less : tie.Need-loop-less Inv-loop μ-loop
 loop-less c =
@@ -58,9 +52,6 @@ loop-again c =
     let z : a .before - l .left + 1 ≡ a .before - (l .left - 1) = omega (arith, l .inv .fewer, c .if1 .left) in
     record { fewer = omega (arith, l .inv .fewer); passed = subst (λ (k : ℕ). Passed (a .file .now) k (c .before .next-line .result .next)) z (passed-next _ _ _ (l .inv .passed) _ n) }
 
-empty-requires : tie.Need-empty-requires Inv-loop μ-loop
-empty-requires c κs = search needs
-
 returns-2 : tie.Need-returns-2 Inv-loop μ-loop
 returns-2 c =
     let l = c .before .before .loop in
@@ -69,14 +60,4 @@ returns-2 c =
 pub line-behind-spec : {M : Type 1} → statement M
 line-behind-spec =
     tie.close
-    (tie.spec
-    Inv-loop
-    μ-loop
-    loop-holds
-    next-line-requires
-    returns
-    sub-left
-    loop-less
-    loop-again
-    empty-requires
-    returns-2)
+    (tie.spec Inv-loop μ-loop loop-holds (λ c κs. search needs) returns (λ c. search needs) loop-less loop-again (λ c κs. search needs) returns-2)

@@ -5,28 +5,10 @@ use Rattle.reader.proofs.Parts.{spans-line, spans-no-line, spans-accept
 use Rattle.reader.proofs.part.part_of.Statement.{statement}
 use Rattle.reader.proofs.part.part_of.Tie as tie
 
-enum-told : tie.Need-enum-told
-enum-told c = search needs
-
-empty-requires : tie.Need-empty-requires
-empty-requires c κs = search needs
-
-enum-known-verdict : tie.Need-enum-known-verdict
-enum-known-verdict c = search needs
-
-names-line-requires : tie.Need-names-line-requires
-names-line-requires c κs = search needs
-
-line-at-requires : tie.Need-line-at-requires
-line-at-requires c κs = search needs
-
 returns : tie.Need-returns
 returns c =
     let v = c .before .before .before .before in
     spans-line _ _ _ _ _ (v .verdict .given .1) (sym (c .before .before .names-line .ensures) ∙ c .before .if1 .taken) (c .line-at .ensures)
-
-empty-requires-2 : tie.Need-empty-requires-2
-empty-requires-2 c κs = search needs
 
 returns-2 : tie.Need-returns-2
 returns-2 c = spans-accepted _ _ _ (c .before .enum-told .given .1) (c .empty .ensures)
@@ -39,13 +21,5 @@ returns-3 c =
 pub part-of-spec : {M : Type 1} → statement M
 part-of-spec =
     tie.close
-    (tie.spec
-    enum-told
-    empty-requires
-    enum-known-verdict
-    names-line-requires
-    line-at-requires
-    returns
-    empty-requires-2
-    returns-2
-    returns-3)
+    (tie.spec (λ c. search needs) (λ c κs. search needs) (λ c. search needs) (λ c κs. search needs) (λ c κs. search needs) returns
+    (λ c κs. search needs) returns-2 returns-3)

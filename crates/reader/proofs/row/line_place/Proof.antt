@@ -5,18 +5,10 @@ use Rattle.fund.specs.Reading.{headerLines}
 use Rattle.reader.proofs.row.line_place.Statement.{statement}
 use Rattle.reader.proofs.row.line_place.Tie as tie
 
-add-result : tie.Need-add-result
-add-result c = search needs
-
-add-result-2 : tie.Need-add-result-2
-add-result-2 c = search needs
-
-add-result-3 : tie.Need-add-result-3
-add-result-3 c = search needs
-
 returns : tie.Need-returns
 unfolding headerLines
 returns c = omega arith
 
 pub line-place-spec : {M : Type 1} → statement M
-line-place-spec = tie.close (tie.spec add-result add-result-2 add-result-3 returns)
+line-place-spec =
+    tie.close (tie.spec (λ c. search needs) (λ c. search needs) (λ c. search needs) returns)

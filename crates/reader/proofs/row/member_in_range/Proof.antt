@@ -18,9 +18,6 @@ returns-2 c =
     let a = c .before .before .before .args in
     rw (lt-ltb (a .enrolled) most-members (omega arith), lt-leb (a .m .age) most-age (omega arith))
 
-within-requires : tie.Need-within-requires
-within-requires c κs = search needs
-
 returns-3 : tie.Need-returns-3
 unfolding memberFits
 returns-3 c =
@@ -43,9 +40,6 @@ returns-4 c =
       le-leb (a .m .d) most-amount (omega arith),
       lt-leb (a .m .e) most-amount (omega arith),
     )
-
-lives-in-range-requires : tie.Need-lives-in-range-requires
-lives-in-range-requires c κs = search needs
 
 returns-5 : tie.Need-returns-5
 unfolding memberFits
@@ -72,4 +66,4 @@ returns-6 c =
 
 pub member-in-range-spec : {M : Type 1} → statement M
 member-in-range-spec =
-    tie.close (tie.spec returns returns-2 within-requires returns-3 returns-4 lives-in-range-requires returns-5 returns-6)
+    tie.close (tie.spec returns returns-2 (λ c κs. search needs) returns-3 returns-4 (λ c κs. search needs) returns-5 returns-6)

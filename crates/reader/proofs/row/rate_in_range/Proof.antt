@@ -55,9 +55,6 @@ returns-5 c =
       lt-leb (a .r .i) most-rate (omega arith),
     )
 
-add-result : tie.Need-add-result
-add-result c = search needs
-
 returns-6 : tie.Need-returns-6
 unfolding rateFits
 returns-6 c =
@@ -72,4 +69,4 @@ returns-6 c =
 
 pub rate-in-range-spec : {M : Type 1} → statement M
 rate-in-range-spec =
-    tie.close (tie.spec returns returns-2 returns-3 returns-4 returns-5 add-result returns-6)
+    tie.close (tie.spec returns returns-2 returns-3 returns-4 returns-5 (λ c. search needs) returns-6)

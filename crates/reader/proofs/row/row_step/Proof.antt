@@ -8,25 +8,10 @@ use Rattle.reader.proofs.Steps.{step-missing, step-other, step-order, s
 use Rattle.reader.proofs.row.row_step.Statement.{statement}
 use Rattle.reader.proofs.row.row_step.Tie as tie
 
-line-place-requires : tie.Need-line-place-requires
-line-place-requires c κs = search needs
-
 returns : tie.Need-returns
 returns c =
     let a = c .before .before .before .args in
     step-missing (a .file .now) (a .at) (a .rated) (a .enrolled) (a .least) (a .lives) _ (c .before .line-place .ensures) (c .if1 .taken)
-
-next-line-requires : tie.Need-next-line-requires
-next-line-requires c κs = search needs
-
-row-of-requires : tie.Need-row-of-requires
-row-of-requires c κs = search needs
-
-enum-told : tie.Need-enum-told
-enum-told c = search needs
-
-enum-known-r : tie.Need-enum-known-r
-enum-known-r c = search needs
 
 returns-2 : tie.Need-returns-2
 returns-2 c =
@@ -35,9 +20,6 @@ returns-2 c =
     let o = sym (c .before .before .before .before .row-of .ensures) ∙ ap rowIn (c .before .before .r .given .1) in
     step-order (a .file .now) (a .at) (a .rated) (a .enrolled) (a .least) (a .lives) _ (n .before .before .line-place .ensures) _ (n .next-line .ensures) _ o (c .if2 .taken)
 
-rate-in-range-requires : tie.Need-rate-in-range-requires
-rate-in-range-requires c κs = search needs
-
 returns-3 : tie.Need-returns-3
 returns-3 c =
     let n = c .before .before .before .before .before .before .before in
@@ -45,21 +27,12 @@ returns-3 c =
     let o = sym (c .before .before .before .before .before .before .row-of .ensures) ∙ ap rowIn (c .before .before .before .before .r .given .1) in
     step-rate (a .file .now) (a .at) (a .rated) (a .enrolled) (a .least) (a .lives) _ (n .before .before .line-place .ensures) _ (n .next-line .ensures) _ o (omega (arith, c .before .before .if2 .left)) (sym (c .before .rate-in-range .ensures) ∙ c .if3 .taken)
 
-enum-known-m : tie.Need-enum-known-m
-enum-known-m c = search needs
-
-member-in-range-requires : tie.Need-member-in-range-requires
-member-in-range-requires c κs = search needs
-
 returns-4 : tie.Need-returns-4
 returns-4 c =
     let n = c .before .before .before .before .before .before in
     let a = n .before .before .before .before .args in
     let o = sym (c .before .before .before .before .before .row-of .ensures) ∙ ap rowIn (c .before .before .before .m .given .1) in
     step-member (a .file .now) (a .at) (a .rated) (a .enrolled) (a .least) (a .lives) _ (n .before .before .line-place .ensures) _ (n .next-line .ensures) _ o (sym (c .before .member-in-range .ensures) ∙ c .if4 .taken)
-
-enum-known-k : tie.Need-enum-known-k
-enum-known-k c = search needs
 
 returns-5 : tie.Need-returns-5
 returns-5 c =
@@ -112,24 +85,6 @@ returns-10 c =
 pub row-step-spec : {M : Type 1} → statement M
 row-step-spec =
     tie.close
-    (tie.spec
-    line-place-requires
-    returns
-    next-line-requires
-    row-of-requires
-    enum-told
-    enum-known-r
-    returns-2
-    rate-in-range-requires
-    returns-3
-    enum-known-m
-    member-in-range-requires
-    returns-4
-    enum-known-k
-    returns-5
-    add-t29
-    returns-6
-    returns-7
-    returns-8
-    returns-9
-    returns-10)
+    (tie.spec (λ c κs. search needs) returns (λ c κs. search needs) (λ c κs. search needs) (λ c. search needs) (λ c. search needs) returns-2
+    (λ c κs. search needs) returns-3 (λ c. search needs) (λ c κs. search needs) returns-4 (λ c. search needs) returns-5 add-t29 returns-6 returns-7
+    returns-8 returns-9 returns-10)

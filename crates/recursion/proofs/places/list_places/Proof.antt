@@ -22,35 +22,11 @@ abbrev μ-loop : tie.MeasureT-loop
 loop-holds : tie.Need-loop-holds Inv-loop μ-loop
 loop-holds c = (omega arith, refl, listed-none _ _ _, λ e j l. absurd (omega arith))
 
-add-note : tie.Need-add-note Inv-loop μ-loop
-add-note c = omega arith
-
-mul-note : tie.Need-mul-note Inv-loop μ-loop
-mul-note c = omega arith
-
-shared-slice-copy-out-note : tie.Need-shared-slice-copy-out-note Inv-loop μ-loop
-shared-slice-copy-out-note c = omega arith
-
-add-note-2 : tie.Need-add-note-2 Inv-loop μ-loop
-add-note-2 c = omega arith
-
-mul-note-2 : tie.Need-mul-note-2 Inv-loop μ-loop
-mul-note-2 c = omega arith
-
-shared-slice-read-note : tie.Need-shared-slice-read-note Inv-loop μ-loop
-shared-slice-read-note c = omega arith
-
 note-requires : tie.Need-note-requires Inv-loop μ-loop
 note-requires c κs =
     let s = c .before .before .before .before .before .before .before in
     let l = c .before .before .before .before .loop in
     omega (arith, l .inv .2 .few, l .inv .1, s .pre .2)
-
-add-k : tie.Need-add-k Inv-loop μ-loop
-add-k c = omega arith
-
-loop-less : tie.Need-loop-less Inv-loop μ-loop
-loop-less c = omega arith
 
 loop-again : tie.Need-loop-again Inv-loop μ-loop
 loop-again c =
@@ -79,19 +55,5 @@ returns c =
 pub list-places-spec : {M : Type 1} → statement M
 list-places-spec =
     tie.close
-    (tie.spec
-    Inv-loop
-    μ-loop
-    loop-holds
-    add-note
-    mul-note
-    shared-slice-copy-out-note
-    add-note-2
-    mul-note-2
-    shared-slice-read-note
-    note-requires
-    add-k
-    loop-less
-    loop-again
-    same-length
-    returns)
+    (tie.spec Inv-loop μ-loop loop-holds (λ c. omega arith) (λ c. omega arith) (λ c. omega arith) (λ c. omega arith) (λ c. omega arith)
+    (λ c. omega arith) note-requires (λ c. omega arith) (λ c. omega arith) loop-again same-length returns)

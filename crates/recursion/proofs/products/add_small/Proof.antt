@@ -30,12 +30,6 @@ size-is c = c .magnitude .ensures ∙ ap natAbs (toZ-ofZ (c .before .fits .d))
 level-is : (c : tie.After-magnitude2) → c .magnitude2 .result ≡ natAbs (c .before .before .args .f)
 level-is c = c .magnitude2 .ensures ∙ ap natAbs (toZ-ofZ (c .before .before .fits .f))
 
-magnitude-requires : tie.Need-magnitude-requires
-magnitude-requires c κs = search needs
-
-magnitude-requires-2 : tie.Need-magnitude-requires-2
-magnitude-requires-2 c κs = search needs
-
 product-nearest-requires : tie.Need-product-nearest-requires
 product-nearest-requires c κs =
     let p = c .before .before .pre in
@@ -81,12 +75,6 @@ add-bound c =
     let w = fits c in
     omega (arith, w .D-within, w .H-within, c .before .before .before .before .before .pre .0 .transform)
 
-opposite-requires : tie.Need-opposite-requires
-opposite-requires c κs = search needs
-
-with-part-requires : tie.Need-with-part-requires
-with-part-requires c κs = search needs
-
 part-fits : (c : tie.After-opposite) → PartFits (c .before .before .before .before .before .before .args .s) (c .before .before .before .product-nearest .result) (c .before .before .product-up .result + c .before .error-up .result)
 part-fits c =
     let w = fits (c .before) in
@@ -107,14 +95,5 @@ returns c =
 pub add-small-spec : {M : Type 1} → statement M
 add-small-spec =
     tie.close
-    (tie.spec
-    magnitude-requires
-    magnitude-requires-2
-    product-nearest-requires
-    product-up-requires
-    add-error-up
-    error-up-requires
-    add-bound
-    opposite-requires
-    with-part-requires
-    returns)
+    (tie.spec (λ c κs. search needs) (λ c κs. search needs) product-nearest-requires product-up-requires add-error-up error-up-requires add-bound
+    (λ c κs. search needs) (λ c κs. search needs) returns)

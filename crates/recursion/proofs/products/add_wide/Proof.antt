@@ -58,26 +58,17 @@ small c =
     let s = c .before .before .before .before .before .before in
     within (entry s) (cell s) (s .pre .cell-fits) (s .pre .error) _ _ _ (parts c)
 
-magnitude-requires : tie.Need-magnitude-requires
-magnitude-requires c κs = search needs
-
 returns : tie.Need-returns
 returns c =
     let s = c .before .before .before in
     added-empty (entry s) (cell s) (s .pre .cell-fits) (s .pre .error) (s .args .s)
     (sym (c .before .before .magnitude .ensures ∙ ap natAbs (toZ-ofZ (s .fits .d))) ∙ c .before .if1 .taken) (c .if2 .taken)
 
-magnitude-requires-2 : tie.Need-magnitude-requires-2
-magnitude-requires-2 c κs = search needs
-
 add-up-per-unit : tie.Need-add-up-per-unit
 add-up-per-unit c =
     let s = c .before .before .before .before in
     let p = s .pre in
     omega (arith, c .magnitude2 .ensures ∙ ap natAbs (toZ-ofZ (s .fits .f)), p .cell-fits .level, p .cell-fits .narrow)
-
-up-per-unit-requires : tie.Need-up-per-unit-requires
-up-per-unit-requires c κs = search needs
 
 -- the part of H where D is 0
 lone : (c : tie.After-up-per-unit) →
@@ -87,9 +78,6 @@ lone c =
     let s = c .before .before .before .before .before in
     let m = c .before .magnitude2 in
     error-is s (m .result) (c .up-per-unit .result) (m .ensures ∙ ap natAbs (toZ-ofZ (s .fits .f))) (c .up-per-unit .ensures)
-
-with-part-requires : tie.Need-with-part-requires
-with-part-requires c κs = search needs
 
 returns-2 : tie.Need-returns-2
 returns-2 c =
@@ -105,34 +93,16 @@ returns-2 c =
       bound-fits = omega (arith, lone (c .before), H-most (entry s) (cell s) (s .pre .cell-fits) (s .pre .error), s .pre .bound-within);
     })))
 
-magnitude-requires-3 : tie.Need-magnitude-requires-3
-magnitude-requires-3 c κs = search needs
-
-nearest-per-unit-requires : tie.Need-nearest-per-unit-requires
-nearest-per-unit-requires c κs = search needs
-
-up-per-unit-requires-2 : tie.Need-up-per-unit-requires-2
-up-per-unit-requires-2 c κs = search needs
-
 add-up-per-unit-2 : tie.Need-add-up-per-unit-2
 add-up-per-unit-2 c =
     let s = c .before .before .before .before .before in
     let p = s .pre in
     omega (arith, c .before .before .magnitude3 .ensures ∙ ap natAbs (toZ-ofZ (s .fits .f)), p .cell-fits .level, p .cell-fits .narrow)
 
-up-per-unit-requires-3 : tie.Need-up-per-unit-requires-3
-up-per-unit-requires-3 c κs = search needs
-
 add-bound : tie.Need-add-bound
 add-bound c =
     let w = small c in
     omega (arith, w .D-within, w .H-within, c .before .before .before .before .before .before .pre .transform)
-
-opposite-requires : tie.Need-opposite-requires
-opposite-requires c κs = search needs
-
-with-part-requires-2 : tie.Need-with-part-requires-2
-with-part-requires-2 c κs = search needs
 
 part-fits : (c : tie.After-opposite) →
     PartFits (c .before .before .before .before .before .before .before .args .s) (c .before .before .before .nearest-per-unit .result) (c .before .before .up-per-unit2 .result + c .before .up-per-unit3 .result)
@@ -154,20 +124,6 @@ returns-3 c =
 pub add-wide-spec : {M : Type 1} → statement M
 add-wide-spec =
     tie.close
-    (tie.spec
-    magnitude-requires
-    returns
-    magnitude-requires-2
-    add-up-per-unit
-    up-per-unit-requires
-    with-part-requires
-    returns-2
-    magnitude-requires-3
-    nearest-per-unit-requires
-    up-per-unit-requires-2
-    add-up-per-unit-2
-    up-per-unit-requires-3
-    add-bound
-    opposite-requires
-    with-part-requires-2
-    returns-3)
+    (tie.spec (λ c κs. search needs) returns (λ c κs. search needs) add-up-per-unit (λ c κs. search needs) (λ c κs. search needs) returns-2
+    (λ c κs. search needs) (λ c κs. search needs) (λ c κs. search needs) add-up-per-unit-2 (λ c κs. search needs) add-bound (λ c κs. search needs)
+    (λ c κs. search needs) returns-3)

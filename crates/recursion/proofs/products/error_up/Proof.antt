@@ -10,11 +10,6 @@ returns : tie.Need-returns
 unfolding up
 returns c = rw (c .if1 .taken, zero-mul) refl
 
-product-up-requires : tie.Need-product-up-requires
-product-up-requires c κs = search needs
-
-returns-2 : tie.Need-returns-2
-returns-2 c = search needs
-
 pub error-up-spec : {M : Type 1} → statement M
-error-up-spec = tie.close (tie.spec returns product-up-requires returns-2)
+error-up-spec =
+    tie.close (tie.spec returns (λ c κs. search needs) (λ c. search needs))

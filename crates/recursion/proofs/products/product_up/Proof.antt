@@ -6,17 +6,9 @@ use borrow.Author.Needs.{needs}
 use Rattle.recursion.proofs.products.product_up.Statement.{statement}
 use Rattle.recursion.proofs.products.product_up.Tie as tie
 
-mul-result : tie.Need-mul-result
-mul-result c = search needs
-
-sub-result : tie.Need-sub-result
-sub-result c = search needs
-
-add-result : tie.Need-add-result
-add-result c = search needs
-
 returns : tie.Need-returns
 returns c = sym (up-raised (c .args .a * c .args .b))
 
 pub product-up-spec : {M : Type 1} → statement M
-product-up-spec = tie.close (tie.spec mul-result sub-result add-result returns)
+product-up-spec =
+    tie.close (tie.spec (λ c. search needs) (λ c. search needs) (λ c. search needs) returns)

@@ -11,9 +11,6 @@ use Rattle.recursion.proofs.Outcomes.{start-cell, steps-from}
 use Rattle.recursion.proofs.steps.all_steps.Statement.{statement}
 use Rattle.recursion.proofs.steps.all_steps.Tie as tie
 
-start-cells-requires : tie.Need-start-cells-requires
-start-cells-requires c κs = search needs
-
 -- the first cell is the start
 first-is : (c : tie.After-start-cells) →
     let a = c .before .before .before .before .before .args in
@@ -29,12 +26,6 @@ steps-requires c κs =
     let k = c .before .before .before .before .before .start-cells .kept in
     (s .pre .transform, (omega (arith, k .0, s .pre .f-long), omega (arith, k .1 .0, s .pre .r-long), subst CellFits (sym (first-is (c .before .before .before .before .before))) (s .pre .start-fits)))
 
-same-length : tie.Need-same-length
-same-length c = search needs
-
-same-length-2 : tie.Need-same-length-2
-same-length-2 c = search needs
-
 returns : tie.Need-returns
 returns c =
     let started = c .before .before .before .before .before .before .before .before .before in
@@ -45,4 +36,4 @@ returns c =
 
 pub all-steps-spec : {M : Type 1} → statement M
 all-steps-spec =
-    tie.close (tie.spec start-cells-requires steps-requires same-length same-length-2 returns)
+    tie.close (tie.spec (λ c κs. search needs) steps-requires (λ c. search needs) (λ c. search needs) returns)

@@ -8,9 +8,6 @@ use Rattle.rounding.proofs.Laws.{up-least}
 use Rattle.recursion.proofs.steps.bound_of.Statement.{statement}
 use Rattle.recursion.proofs.steps.bound_of.Tie as tie
 
-up-requires : tie.Need-up-requires
-up-requires c κs = search needs
-
 add-result : tie.Need-add-result
 add-result c =
     let a = c .before .args in
@@ -22,4 +19,5 @@ returns : tie.Need-returns
 returns c = ap (λ n. n + 1) (c .up .ensures)
 
 pub bound-of-spec : {M : Type 1} → statement M
-bound-of-spec = tie.close (tie.spec up-requires add-result returns)
+bound-of-spec =
+    tie.close (tie.spec (λ c κs. search needs) add-result returns)

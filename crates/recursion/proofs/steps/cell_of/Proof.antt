@@ -13,15 +13,6 @@ use Rattle.whole.proofs.Signs.{nearest-signed}
 use Rattle.recursion.proofs.steps.cell_of.Statement.{statement}
 use Rattle.recursion.proofs.steps.cell_of.Tie as tie
 
-difference-requires : tie.Need-difference-requires
-difference-requires c κs = search needs
-
-nearest-over-requires : tie.Need-nearest-over-requires
-nearest-over-requires c κs = search needs
-
-as-i64-requires : tie.Need-as-i64-requires
-as-i64-requires c κs = search needs
-
 -- the rounded magnitude is at most the sum's, which fits
 size-is : (c : tie.After-nearest-over) → min (c .nearest-over .result .size) most-value ≡ near (c .before .difference .result .size) (c .before .before .args .x)
 size-is c =
@@ -44,4 +35,5 @@ returns c =
     ∙ ap (λ z. nearest z (a .x)) (d .ensures .0)
 
 pub cell-of-spec : {M : Type 1} → statement M
-cell-of-spec = tie.close (tie.spec difference-requires nearest-over-requires as-i64-requires returns)
+cell-of-spec =
+    tie.close (tie.spec (λ c κs. search needs) (λ c κs. search needs) (λ c κs. search needs) returns)

@@ -51,9 +51,6 @@ sums-requires c κs =
       ((filled-known (a .horizon) (a .d .now) (a .h .now) (a .f .now) (a .r .now) (l .f) (l .r) (l .last) (l .inv .3) (omega arith) (omega arith), omega arith), s .pre .1 .1),
     )
 
-add-x : tie.Need-add-x Inv-loop μ-loop
-add-x c = omega arith
-
 -- the sums for the next cell fit
 fit : (c : tie.After-sums Inv-loop μ-loop) →
     (c .sums .result .plus ≤ most-part-sum) × (c .sums .result .minus ≤ most-part-sum) × (c .sums .result .bound ≤ most-part-sum)
@@ -132,24 +129,6 @@ returns-2 c =
       large = omega (arith, size-is (c .before), c .if2 .taken);
     })
 
-add-last : tie.Need-add-last Inv-loop μ-loop
-add-last c = omega arith
-
-mul-cell : tie.Need-mul-cell Inv-loop μ-loop
-mul-cell c = omega arith
-
-slice-set-from-cell : tie.Need-slice-set-from-cell Inv-loop μ-loop
-slice-set-from-cell c = omega arith
-
-mul-r : tie.Need-mul-r Inv-loop μ-loop
-mul-r c = omega arith
-
-slice-write-r : tie.Need-slice-write-r Inv-loop μ-loop
-slice-write-r c = omega arith
-
-loop-less : tie.Need-loop-less Inv-loop μ-loop
-loop-less c = omega arith
-
 loop-again : tie.Need-loop-again Inv-loop μ-loop
 loop-again c =
     let turn = c .before .before .before in
@@ -185,28 +164,6 @@ returns-3 c =
 pub fill-cells-spec : {M : Type 1} → statement M
 fill-cells-spec =
     tie.close
-    (tie.spec
-    Inv-loop
-    μ-loop
-    loop-holds
-    sums-requires
-    add-x
-    bound-of-requires
-    same-length
-    same-length-2
-    returns
-    cell-of-requires
-    magnitude-requires
-    same-length-3
-    same-length-4
-    returns-2
-    add-last
-    mul-cell
-    slice-set-from-cell
-    mul-r
-    slice-write-r
-    loop-less
-    loop-again
-    same-length-5
-    same-length-6
-    returns-3)
+    (tie.spec Inv-loop μ-loop loop-holds sums-requires (λ c. omega arith) bound-of-requires same-length same-length-2 returns cell-of-requires
+    magnitude-requires same-length-3 same-length-4 returns-2 (λ c. omega arith) (λ c. omega arith) (λ c. omega arith) (λ c. omega arith)
+    (λ c. omega arith) (λ c. omega arith) loop-again same-length-5 same-length-6 returns-3)

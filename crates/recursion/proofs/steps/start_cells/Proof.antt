@@ -6,21 +6,6 @@ use mir.Facts.{toZ-ofZ}
 use Rattle.recursion.proofs.steps.start_cells.Statement.{statement}
 use Rattle.recursion.proofs.steps.start_cells.Tie as tie
 
-clear-cells-requires : tie.Need-clear-cells-requires
-clear-cells-requires c κs = search needs
-
-slice-set-from-first : tie.Need-slice-set-from-first
-slice-set-from-first c = search needs
-
-slice-write-r : tie.Need-slice-write-r
-slice-write-r c = search needs
-
-same-length : tie.Need-same-length
-same-length c = search needs
-
-same-length-2 : tie.Need-same-length-2
-same-length-2 c = search needs
-
 returns : tie.Need-returns
 returns c =
     let s = c .before .before .before .before .before .before .before in
@@ -29,11 +14,4 @@ returns c =
 
 pub start-cells-spec : {M : Type 1} → statement M
 start-cells-spec =
-    tie.close
-    (tie.spec
-    clear-cells-requires
-    slice-set-from-first
-    slice-write-r
-    same-length
-    same-length-2
-    returns)
+    tie.close (tie.spec (λ c κs. search needs) (λ c. search needs) (λ c. search needs) (λ c. search needs) (λ c. search needs) returns)

@@ -6,38 +6,14 @@ use lib.ListN.{length-replicate}
 use Rattle.recursion.proofs.steps.steps.Statement.{statement}
 use Rattle.recursion.proofs.steps.steps.Tie as tie
 
-slice-aggregate-list-places : tie.Need-slice-aggregate-list-places
-slice-aggregate-list-places c = search needs
-
-list-places-requires : tie.Need-list-places-requires
-list-places-requires c κs = search needs
-
-slice-aggregate-fill-cells : tie.Need-slice-aggregate-fill-cells
-slice-aggregate-fill-cells c = search needs
-
 fill-cells-requires : tie.Need-fill-cells-requires
 fill-cells-requires c κs =
     let s = c .before .before .before .before .before .before .before .before in
     let p = c .before .before .before .before .list-places in
     (s .pre .0, (s .pre .1, record { listed = p .ensures .0; room = omega (arith, p .ensures .0 .few, s .pre .0 .horizon, p .kept .1 .1 .1 .0, length-replicate {A = ℕ} 4095 0); all-small = p .ensures .1 }))
 
-same-length : tie.Need-same-length
-same-length c = search needs
-
-same-length-2 : tie.Need-same-length-2
-same-length-2 c = search needs
-
-returns : tie.Need-returns
-returns c = search needs
-
 pub steps-spec : {M : Type 1} → statement M
 steps-spec =
     tie.close
-    (tie.spec
-    slice-aggregate-list-places
-    list-places-requires
-    slice-aggregate-fill-cells
-    fill-cells-requires
-    same-length
-    same-length-2
-    returns)
+    (tie.spec (λ c. search needs) (λ c κs. search needs) (λ c. search needs) fill-cells-requires (λ c. search needs) (λ c. search needs)
+    (λ c. search needs))

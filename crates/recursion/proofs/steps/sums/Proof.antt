@@ -27,48 +27,12 @@ loop-holds c =
     let a = c .before .before .before .args in
     (omega arith, omega arith, sums-none (a .d .now) (a .h .now) (a .f .now) (a .r .now) (a .last))
 
-mul-k : tie.Need-mul-k Inv-loop μ-loop
-mul-k c = omega arith
-
-shared-slice-read-k : tie.Need-shared-slice-read-k Inv-loop μ-loop
-shared-slice-read-k c = omega arith
-
 returns : tie.Need-returns Inv-loop μ-loop
 returns c =
     let s = c .before .before .before .before .before .before .before .before in
     let a = s .args in
     let l = c .before .before .before .before .loop in
     sums-over (a .d .now) (a .h .now) (a .f .now) (a .r .now) (a .last) (a .horizon) (a .list .now) (a .p .count) (l .s) (s .pre .0) (s .pre .1 .0 .0) (s .pre .1 .0 .1) (s .pre .1 .1 .listed) (l .j) (omega arith) (c .if2 .taken) (l .inv .1) (l .inv .2)
-
-add-add : tie.Need-add-add Inv-loop μ-loop
-add-add c = omega arith
-
-mul-add : tie.Need-mul-add Inv-loop μ-loop
-mul-add c = omega arith
-
-shared-slice-copy-out-add : tie.Need-shared-slice-copy-out-add Inv-loop μ-loop
-shared-slice-copy-out-add c = omega arith
-
-add-add-2 : tie.Need-add-add-2 Inv-loop μ-loop
-add-add-2 c = omega arith
-
-mul-add-2 : tie.Need-mul-add-2 Inv-loop μ-loop
-mul-add-2 c = omega arith
-
-shared-slice-read-add : tie.Need-shared-slice-read-add Inv-loop μ-loop
-shared-slice-read-add c = omega arith
-
-mul-add-3 : tie.Need-mul-add-3 Inv-loop μ-loop
-mul-add-3 c = omega arith
-
-shared-slice-copy-out-add-2 : tie.Need-shared-slice-copy-out-add-2 Inv-loop μ-loop
-shared-slice-copy-out-add-2 c = omega arith
-
-mul-add-4 : tie.Need-mul-add-4 Inv-loop μ-loop
-mul-add-4 c = omega arith
-
-shared-slice-read-add-2 : tie.Need-shared-slice-read-add-2 Inv-loop μ-loop
-shared-slice-read-add-2 c = omega arith
 
 -- what was read of D and of f are the elements
 read-D : (c : tie.After-shared-slice-known6 Inv-loop μ-loop) → let a = c .before .before .before .before .before .before .before .before .before .before .before .before .args in let k = getD (a .list .now) (c .before .before .before .before .before .before .before .before .loop .j) 0 in toZ w64 (ofZ w64 (getD (a .d .now) (k + 1) (pos 0))) ≡ getD (a .d .now) (k + 1) (pos 0)
@@ -87,12 +51,6 @@ add-requires c κs =
     let sums = sums-at (a .d .now) (a .h .now) (a .f .now) (a .r .now) (a .last) (a .horizon) (a .list .now) (a .p .count) (l .s) (s .pre .0) (s .pre .1 .0 .0) (s .pre .1 .0 .1) (i .listed) (l .j) (omega arith) (c .before .before .before .before .if2 .left) (l .inv .2) in
     rw (read-D c, read-f c, add-one)
     (sums-small (a .d .now) (a .h .now) (a .f .now) (a .r .now) (a .last) (a .horizon) k (l .s) (s .pre .0) (s .pre .1 .0 .0) (s .pre .1 .0 .1) (c .before .before .before .before .if2 .left) sums, λ e. i .all-small e k (i .listed .within (l .j) (omega arith)))
-
-add-j : tie.Need-add-j Inv-loop μ-loop
-add-j c = omega arith
-
-loop-less : tie.Need-loop-less Inv-loop μ-loop
-loop-less c = omega arith
 
 loop-again : tie.Need-loop-again Inv-loop μ-loop
 loop-again c =
@@ -121,25 +79,6 @@ returns-2 c =
 pub sums-spec : {M : Type 1} → statement M
 sums-spec =
     tie.close
-    (tie.spec
-    Inv-loop
-    μ-loop
-    loop-holds
-    mul-k
-    shared-slice-read-k
-    returns
-    add-add
-    mul-add
-    shared-slice-copy-out-add
-    add-add-2
-    mul-add-2
-    shared-slice-read-add
-    mul-add-3
-    shared-slice-copy-out-add-2
-    mul-add-4
-    shared-slice-read-add-2
-    add-requires
-    add-j
-    loop-less
-    loop-again
-    returns-2)
+    (tie.spec Inv-loop μ-loop loop-holds (λ c. omega arith) (λ c. omega arith) returns (λ c. omega arith) (λ c. omega arith) (λ c. omega arith)
+    (λ c. omega arith) (λ c. omega arith) (λ c. omega arith) (λ c. omega arith) (λ c. omega arith) (λ c. omega arith) (λ c. omega arith) add-requires
+    (λ c. omega arith) (λ c. omega arith) loop-again returns-2)

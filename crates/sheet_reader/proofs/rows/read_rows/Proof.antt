@@ -15,18 +15,12 @@ Inv-loop fund rates members rate-rows₀ member-rows₀ rated₀ enrolled₀ lea
 abbrev μ-loop : tie.MeasureT-loop
 μ-loop fund rates members rate-rows₀ member-rows₀ rated₀ enrolled₀ least₀ lives₀ rate-rows member-rows rated enrolled least lives = most-rates + most-members - (rated + enrolled)
 
-without-rows-requires : tie.Need-without-rows-requires Inv-loop μ-loop
-without-rows-requires c κs = search needs
-
 loop-holds : tie.Need-loop-holds Inv-loop μ-loop
 unfolding fileRead
 loop-holds c = rw (c .before .before .without-rows .ensures) (start _ _ _)
 
 row-step-requires : tie.Need-row-step-requires Inv-loop μ-loop
 row-step-requires c κs = (c .loop .inv .tables .few-rates, c .loop .inv .tables .few-members)
-
-enum-known-r : tie.Need-enum-known-r Inv-loop μ-loop
-enum-known-r c = search needs
 
 mul-rate-rows : tie.Need-mul-rate-rows Inv-loop μ-loop
 mul-rate-rows c = omega (arith, c .before .before .before .before .loop .inv .tables .few-rates)
@@ -55,9 +49,6 @@ loop-again c =
     let w = rw (c .before .before .r .given .1) at (c .before .before .before .before .row-step .ensures) in
     rate-taken _ _ _ _ _ _ _ _ _ (c .before .before .before .before .before .loop .inv) _ w
 
-enum-known-m : tie.Need-enum-known-m Inv-loop μ-loop
-enum-known-m c = search needs
-
 mul-member-rows : tie.Need-mul-member-rows Inv-loop μ-loop
 mul-member-rows c = omega (arith, c .before .before .before .before .loop .inv .tables .few-members)
 
@@ -85,19 +76,10 @@ loop-again-2 c =
     let w = rw (c .before .before .m .given .1) at (c .before .before .before .before .row-step .ensures) in
     member-taken _ _ _ _ _ _ _ _ _ (c .before .before .before .before .before .loop .inv) _ w
 
-enum-told : tie.Need-enum-told Inv-loop μ-loop
-enum-told c = search needs
-
 returns : tie.Need-returns Inv-loop μ-loop
 returns c =
     let w = rw (c .enum-told .given .1) at (c .before .before .row-step .ensures) in
     at-end _ _ _ _ _ _ _ _ _ (c .before .before .before .loop .inv) w
-
-enum-known-why : tie.Need-enum-known-why Inv-loop μ-loop
-enum-known-why c = search needs
-
-without-rows-requires-2 : tie.Need-without-rows-requires-2 Inv-loop μ-loop
-without-rows-requires-2 c κs = search needs
 
 returns-2 : tie.Need-returns-2 Inv-loop μ-loop
 returns-2 c =
@@ -107,28 +89,6 @@ returns-2 c =
 pub read-rows-spec : {M : Type 1} → statement M
 read-rows-spec =
     tie.close
-    (tie.spec
-    Inv-loop
-    μ-loop
-    without-rows-requires
-    loop-holds
-    row-step-requires
-    enum-known-r
-    mul-rate-rows
-    array-set-from-rate-rows
-    add-rated
-    add-least
-    loop-less
-    loop-again
-    enum-known-m
-    mul-member-rows
-    array-set-from-member-rows
-    add-enrolled
-    add-lives
-    loop-less-2
-    loop-again-2
-    enum-told
-    returns
-    enum-known-why
-    without-rows-requires-2
-    returns-2)
+    (tie.spec Inv-loop μ-loop (λ c κs. search needs) loop-holds row-step-requires (λ c. search needs) mul-rate-rows array-set-from-rate-rows add-rated
+    add-least loop-less loop-again (λ c. search needs) mul-member-rows array-set-from-member-rows add-enrolled add-lives loop-less-2 loop-again-2
+    (λ c. search needs) returns (λ c. search needs) (λ c κs. search needs) returns-2)

@@ -23,9 +23,6 @@ returns c = sym (level-none (c .before .args .text .now) (c .if1 .taken))
 loop-holds : tie.Need-loop-holds Inv-loop μ-loop
 loop-holds c = (omega arith, omega arith, refl, refl)
 
-shared-slice-read-b : tie.Need-shared-slice-read-b Inv-loop μ-loop
-shared-slice-read-b c = omega arith
-
 returns-2 : tie.Need-returns-2 Inv-loop μ-loop
 returns-2 c =
     let l = c .before .before .before in
@@ -38,12 +35,6 @@ returns-3 c =
     let s = l .before .before .args .text .now in
     sym (level-misspelled s (l .loop .inv .2 ∙ digits-above s (l .loop .i) (omega arith) (c .before .if2 .left) (c .if3 .taken)))
 
-cast-digit : tie.Need-cast-digit Inv-loop μ-loop
-cast-digit c = omega arith
-
-sub-if4 : tie.Need-sub-if4 Inv-loop μ-loop
-sub-if4 c = omega arith
-
 returns-4 : tie.Need-returns-4 Inv-loop μ-loop
 unfolding valueOf
 returns-4 c =
@@ -52,18 +43,6 @@ returns-4 c =
     let i = l .loop .i in
     let next = value-next (l .loop .value) s i (omega arith) in
     sym (level-wide s (omega (arith, l .loop .inv .3, next, value-least (10 * l .loop .value + (getD s i 0 - 48)) (drop (suc i) s))))
-
-mul-value : tie.Need-mul-value Inv-loop μ-loop
-mul-value c = omega arith
-
-add-value : tie.Need-add-value Inv-loop μ-loop
-add-value c = omega arith
-
-add-i : tie.Need-add-i Inv-loop μ-loop
-add-i c = omega arith
-
-loop-less : tie.Need-loop-less Inv-loop μ-loop
-loop-less c = omega arith
 
 loop-again : tie.Need-loop-again Inv-loop μ-loop
 loop-again c =
@@ -86,20 +65,5 @@ returns-5 c =
 pub level-of-spec : {M : Type 1} → statement M
 level-of-spec =
     tie.close
-    (tie.spec
-    Inv-loop
-    μ-loop
-    returns
-    loop-holds
-    shared-slice-read-b
-    returns-2
-    returns-3
-    cast-digit
-    sub-if4
-    returns-4
-    mul-value
-    add-value
-    add-i
-    loop-less
-    loop-again
-    returns-5)
+    (tie.spec Inv-loop μ-loop returns loop-holds (λ c. omega arith) returns-2 returns-3 (λ c. omega arith) (λ c. omega arith) returns-4
+    (λ c. omega arith) (λ c. omega arith) (λ c. omega arith) (λ c. omega arith) loop-again returns-5)

@@ -5,9 +5,6 @@ use Prim.Native.Nat.{_+_, _*_}
 use Rattle.totals.proofs.figures.lambda_step.Statement.{statement}
 use Rattle.totals.proofs.figures.lambda_step.Tie as tie
 
-lambda-part-requires : tie.Need-lambda-part-requires
-lambda-part-requires c κs = search needs
-
 with-lives-requires : tie.Need-with-lives-requires
 with-lives-requires c κs = rw (c .lambda-part .ensures) (c .before .pre .2)
 
@@ -15,4 +12,5 @@ returns : tie.Need-returns
 returns c = let a = c .before .before .args in c .with-lives .ensures ∙ ap (λ k. a .sum + a .p .lives * k) (c .before .lambda-part .ensures)
 
 pub lambda-step-spec : {M : Type 1} → statement M
-lambda-step-spec = tie.close (tie.spec lambda-part-requires with-lives-requires returns)
+lambda-step-spec =
+    tie.close (tie.spec (λ c κs. search needs) with-lives-requires returns)

@@ -5,9 +5,6 @@ use Prim.Native.Nat.{_+_, _*_}
 use Rattle.totals.proofs.figures.load_step.Statement.{statement}
 use Rattle.totals.proofs.figures.load_step.Tie as tie
 
-single-part-requires : tie.Need-single-part-requires
-single-part-requires c κs = search needs
-
 with-lives-requires : tie.Need-with-lives-requires
 with-lives-requires c κs = rw (c .single-part .ensures) (c .before .pre .1)
 
@@ -15,4 +12,5 @@ returns : tie.Need-returns
 returns c = let a = c .before .before .args in c .with-lives .ensures ∙ ap (λ k. a .sum + a .p .lives * k) (c .before .single-part .ensures)
 
 pub load-step-spec : {M : Type 1} → statement M
-load-step-spec = tie.close (tie.spec single-part-requires with-lives-requires returns)
+load-step-spec =
+    tie.close (tie.spec (λ c κs. search needs) with-lives-requires returns)

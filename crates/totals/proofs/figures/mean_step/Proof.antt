@@ -9,9 +9,6 @@ use Rattle.widths.specs.PartBounds.{mean-le, lambda-le, single-le}
 use Rattle.totals.proofs.figures.mean_step.Statement.{statement}
 use Rattle.totals.proofs.figures.mean_step.Tie as tie
 
-mean-part-requires : tie.Need-mean-part-requires
-mean-part-requires c κs = search needs
-
 product : (c : tie.After-mean-part) → c .before .args .p .lives * c .mean-part .result ≤ 65535 * 6000000000000
 product c =
     let p = c .before .pre in
@@ -28,17 +25,11 @@ product c =
 mul-least : tie.Need-mul-least
 mul-least c = omega (arith, product (c .before))
 
-least-requires : tie.Need-least-requires
-least-requires c κs = search needs
-
 mul-least-2 : tie.Need-mul-least-2
 mul-least-2 c = omega (arith, c .least .ensures)
 
 add-least : tie.Need-add-least
 add-least c = omega (arith, c .least .ensures, c .before .before .before .pre .2)
-
-least-requires-2 : tie.Need-least-requires-2
-least-requires-2 c κs = search needs
 
 in-units : (c : tie.After-mean-part) → let a = c .before .args in a .p .lives * c .mean-part .result * 1000 ≡ a .p .lives * meanPart (a .ab) (a .p .life)
 in-units c = let n = c .before .args .p .lives in mul-assoc n (c .mean-part .result) 1000 ∙ ap (λ k. n * k) (c .mean-part .ensures)
@@ -47,4 +38,5 @@ returns : tie.Need-returns
 returns c = omega (arith, c .least2 .ensures, c .before .least .ensures, in-units (c .before .before .before))
 
 pub mean-step-spec : {M : Type 1} → statement M
-mean-step-spec = tie.close (tie.spec mean-part-requires mul-least least-requires mul-least-2 add-least least-requires-2 returns)
+mean-step-spec =
+    tie.close (tie.spec (λ c κs. search needs) mul-least (λ c κs. search needs) mul-least-2 add-least (λ c κs. search needs) returns)

@@ -8,9 +8,6 @@ use Rattle.fund.specs.Transform.{unit}
 use Rattle.totals.proofs.figures.next_weight.Statement.{statement}
 use Rattle.totals.proofs.figures.next_weight.Tie as tie
 
-add-claim : tie.Need-add-claim
-add-claim c = search needs
-
 product : (c : tie.Start) → c .args .last * claim (c .args .m) ≤ 1000000000000 * 500000
 unfolding unit
 product c = mul-le-mul (c .pre .1) (le-of-lt (c .pre .0))
@@ -18,14 +15,9 @@ product c = mul-le-mul (c .pre .1) (le-of-lt (c .pre .0))
 mul-up : tie.Need-mul-up
 mul-up c = omega (arith, product (c .before))
 
-sub-up : tie.Need-sub-up
-sub-up c = search needs
-
-up-requires : tie.Need-up-requires
-up-requires c κs = search needs
-
 returns : tie.Need-returns
 returns c = c .up .ensures
 
 pub next-weight-spec : {M : Type 1} → statement M
-next-weight-spec = tie.close (tie.spec add-claim mul-up sub-up up-requires returns)
+next-weight-spec =
+    tie.close (tie.spec (λ c. search needs) mul-up (λ c. search needs) (λ c κs. search needs) returns)

@@ -5,18 +5,6 @@ use Rattle.fund.specs.Transform.{unit}
 use Rattle.totals.proofs.figures.single_part.Statement.{statement}
 use Rattle.totals.proofs.figures.single_part.Tie as tie
 
-add-claim : tie.Need-add-claim
-add-claim c = search needs
-
-mul-up : tie.Need-mul-up
-mul-up c = search needs
-
-sub-up : tie.Need-sub-up
-sub-up c = search needs
-
-up-requires : tie.Need-up-requires
-up-requires c κs = search needs
-
 returns : tie.Need-returns
 unfolding unit
 returns c = rw (eq-eqb _ _ (c .before .before .if1 .taken)) (c .up .ensures)
@@ -25,4 +13,5 @@ returns-2 : tie.Need-returns-2
 returns-2 c = rw (ne-eqb _ _ (c .if1 .left))
 
 pub single-part-spec : {M : Type 1} → statement M
-single-part-spec = tie.close (tie.spec add-claim mul-up sub-up up-requires returns returns-2)
+single-part-spec =
+    tie.close (tie.spec (λ c. search needs) (λ c. search needs) (λ c. search needs) (λ c κs. search needs) returns returns-2)

@@ -12,15 +12,6 @@ use Rattle.widths.specs.PartBounds.{w-le}
 use Rattle.totals.proofs.figures.truncation_part.Statement.{statement}
 use Rattle.totals.proofs.figures.truncation_part.Tie as tie
 
-add-claim : tie.Need-add-claim
-add-claim c = search needs
-
-sub-stay : tie.Need-sub-stay
-sub-stay c = search needs
-
-add-weight : tie.Need-add-weight
-add-weight c = search needs
-
 limited : (c : tie.After-struct-known2) → claim (c .before .before .before .args .m) < 500000
 limited c = c .before .before .before .pre .0 .limited (eq-eqb _ _ (c .before .if1 .taken))
 
@@ -52,14 +43,8 @@ mul-up c = omega (arith, product c)
 sub-up : tie.Need-sub-up
 sub-up c = omega (arith, limited (c .before))
 
-add-up : tie.Need-add-up
-add-up c = search needs
-
 mul-up-2 : tie.Need-mul-up-2
 mul-up-2 c = omega (arith, divisor c .1)
-
-up-requires : tie.Need-up-requires
-up-requires c κs = search needs
 
 returns : tie.Need-returns
 returns c =
@@ -72,15 +57,5 @@ returns-2 c = rw (ne-eqb _ _ (c .if1 .left))
 pub truncation-part-spec : {M : Type 1} → statement M
 truncation-part-spec =
     tie.close
-    (tie.spec
-    add-claim
-    sub-stay
-    add-weight
-    weight-requires
-    mul-up
-    sub-up
-    add-up
-    mul-up-2
-    up-requires
-    returns
-    returns-2)
+    (tie.spec (λ c. search needs) (λ c. search needs) (λ c. search needs) weight-requires mul-up sub-up (λ c. search needs) mul-up-2
+    (λ c κs. search needs) returns returns-2)

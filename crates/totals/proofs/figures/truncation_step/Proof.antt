@@ -10,12 +10,6 @@ use Rattle.totals.proofs.Caps.{capped-times}
 use Rattle.totals.proofs.figures.truncation_step.Statement.{statement}
 use Rattle.totals.proofs.figures.truncation_step.Tie as tie
 
-truncation-part-requires : tie.Need-truncation-part-requires
-truncation-part-requires c κs = search needs
-
-least-requires : tie.Need-least-requires
-least-requires c κs = search needs
-
 part-is : (c : tie.After-least) → let a = c .before .before .args in c .least .result ≡ min (truncationPart (a .r) (a .p .life)) (most-truncation + 1)
 part-is c = c .least .ensures ∙ ap (λ k. min k (most-truncation + 1)) (c .before .truncation-part .ensures)
 
@@ -25,9 +19,6 @@ product c = let w : c .least .result ≤ most-truncation + 1 = omega (arith, par
 with-lives-requires : tie.Need-with-lives-requires
 with-lives-requires c κs = omega (arith, product c, c .before .before .pre .2)
 
-least-requires-2 : tie.Need-least-requires-2
-least-requires-2 c κs = search needs
-
 returns : tie.Need-returns
 returns c =
     let a = c .before .before .before .before .args in
@@ -36,4 +27,5 @@ returns c =
     ∙ capped-times (a .sum) (a .p .lives) (truncationPart (a .r) (a .p .life)) (most-truncation + 1)
 
 pub truncation-step-spec : {M : Type 1} → statement M
-truncation-step-spec = tie.close (tie.spec truncation-part-requires least-requires with-lives-requires least-requires-2 returns)
+truncation-step-spec =
+    tie.close (tie.spec (λ c κs. search needs) (λ c κs. search needs) with-lives-requires (λ c κs. search needs) returns)

@@ -21,12 +21,6 @@ loop-holds c = (c .pre, omega arith, w-first _)
 next-weight-requires : tie.Need-next-weight-requires Inv-loop μ-loop
 next-weight-requires c κs = let v = c .before .loop .inv in (v .0, rw (v .2) (w-le _ (v .0) _))
 
-add-k : tie.Need-add-k Inv-loop μ-loop
-add-k c = omega arith
-
-loop-less : tie.Need-loop-less Inv-loop μ-loop
-loop-less c = omega arith
-
 loop-again : tie.Need-loop-again Inv-loop μ-loop
 loop-again c =
     let v = c .before .before .loop .inv in
@@ -37,4 +31,4 @@ returns c = let v = c .before .loop .inv in v .2 ∙ ap (w _) (le-antisymm (v .1
 
 pub weight-spec : {M : Type 1} → statement M
 weight-spec =
-    tie.close (tie.spec Inv-loop μ-loop loop-holds next-weight-requires add-k loop-less loop-again returns)
+    tie.close (tie.spec Inv-loop μ-loop loop-holds next-weight-requires (λ c. omega arith) (λ c. omega arith) loop-again returns)

@@ -8,11 +8,9 @@ use Rattle.totals.proofs.inside.headed.Tie as tie
 returns : tie.Need-returns
 returns c = tells-no (λ h. omega arith)
 
-header-inside-requires : tie.Need-header-inside-requires
-header-inside-requires c κs = search needs
-
 returns-2 : tie.Need-returns-2
 returns-2 c = tells-as (c .header-inside .ensures) (λ h. (omega (arith, c .before), h)) (λ p. p .1)
 
 pub headed-spec : {M : Type 1} → statement M
-headed-spec = tie.close (tie.spec returns header-inside-requires returns-2)
+headed-spec =
+    tie.close (tie.spec returns (λ c κs. search needs) returns-2)

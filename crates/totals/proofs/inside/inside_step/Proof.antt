@@ -6,9 +6,6 @@ use Rattle.laws.specs.Tells.{tells-no, tells-as}
 use Rattle.totals.proofs.inside.inside_step.Statement.{statement}
 use Rattle.totals.proofs.inside.inside_step.Tie as tie
 
-point-inside-requires : tie.Need-point-inside-requires
-point-inside-requires c κs = search needs
-
 returns : tie.Need-returns
 returns c = tells-as (c .point-inside .ensures) (λ r. (c .before .if1 .taken, r)) (λ h. h .1)
 
@@ -16,4 +13,5 @@ returns-2 : tie.Need-returns-2
 returns-2 c = tells-no (λ h. true≢false (sym (h .0) ∙ c .if1 .left))
 
 pub inside-step-spec : {M : Type 1} → statement M
-inside-step-spec = tie.close (tie.spec point-inside-requires returns returns-2)
+inside-step-spec =
+    tie.close (tie.spec (λ c κs. search needs) returns returns-2)

@@ -18,9 +18,6 @@ returns-3 c = tells-no (λ h. omega arith)
 returns-4 : tie.Need-returns-4
 returns-4 c = tells-no (λ h. omega arith)
 
-add-if5 : tie.Need-add-if5
-add-if5 c = search needs
-
 returns-5 : tie.Need-returns-5
 returns-5 c = tells-no (λ h. omega arith)
 
@@ -30,20 +27,11 @@ returns-6 c = tells-no (λ h. omega arith)
 returns-7 : tie.Need-returns-7
 returns-7 c = tells-no (λ h. omega arith)
 
-limited-requires : tie.Need-limited-requires
-limited-requires c κs = search needs
-
 returns-8 : tie.Need-returns-8
 returns-8 c = tells-no (λ h. tells-not (c .before .limited .ensures) (not-true _ (c .if8 .taken)) (h .limited))
 
-is-folded-requires : tie.Need-is-folded-requires
-is-folded-requires c κs = search needs
-
 returns-9 : tie.Need-returns-9
 returns-9 c = tells-no (λ h. tells-not (c .before .is-folded .ensures) (not-true _ (c .if9 .taken)) (h .no-death))
-
-is-folded-requires-2 : tie.Need-is-folded-requires-2
-is-folded-requires-2 c κs = search needs
 
 returns-10 : tie.Need-returns-10
 returns-10 c =
@@ -66,18 +54,5 @@ returns-10 c =
 pub life-inside-spec : {M : Type 1} → statement M
 life-inside-spec =
     tie.close
-    (tie.spec
-    returns
-    returns-2
-    returns-3
-    returns-4
-    add-if5
-    returns-5
-    returns-6
-    returns-7
-    limited-requires
-    returns-8
-    is-folded-requires
-    returns-9
-    is-folded-requires-2
-    returns-10)
+    (tie.spec returns returns-2 returns-3 returns-4 (λ c. search needs) returns-5 returns-6 returns-7 (λ c κs. search needs) returns-8
+    (λ c κs. search needs) returns-9 (λ c κs. search needs) returns-10)

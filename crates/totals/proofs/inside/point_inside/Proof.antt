@@ -8,11 +8,9 @@ use Rattle.totals.proofs.inside.point_inside.Tie as tie
 returns : tie.Need-returns
 returns c = tells-no (λ h. omega (arith, h .lives-most))
 
-life-inside-requires : tie.Need-life-inside-requires
-life-inside-requires c κs = search needs
-
 returns-2 : tie.Need-returns-2
 returns-2 c = tells-as (c .life-inside .ensures) (λ h. record { life-in = h; lives-most = omega (arith, c .before) }) (λ h. h .life-in)
 
 pub point-inside-spec : {M : Type 1} → statement M
-point-inside-spec = tie.close (tie.spec returns life-inside-requires returns-2)
+point-inside-spec =
+    tie.close (tie.spec returns (λ c κs. search needs) returns-2)

@@ -18,12 +18,6 @@ mul-up c =
     let p = c .before .pre in
     omega (arith, product-within (a .c) (a .lambda) (p .0) (p .1))
 
-mul-up-2 : tie.Need-mul-up-2
-mul-up-2 c = search needs
-
-up-requires : tie.Need-up-requires
-up-requires c κs = search needs
-
 returns-2 : tie.Need-returns-2
 returns-2 c =
     let o = c .before .before in
@@ -36,4 +30,5 @@ add-result c =
     omega (arith, returns-2 c, next-within (a .lambda) (a .c) (a .n) (p .0) (p .1) (omega (arith, p)))
 
 pub next-bound-spec : {M : Type 1} → statement M
-next-bound-spec = tie.close (tie.spec returns mul-up mul-up-2 up-requires add-result returns-2)
+next-bound-spec =
+    tie.close (tie.spec returns mul-up (λ c. search needs) (λ c κs. search needs) add-result returns-2)

@@ -16,9 +16,6 @@ returns c =
     sym (ap (λ (k : ℕ). near (k * a .lambda) (a .n * 10 ^ 12)) (c .if1 .taken) ∙ ap (λ (k : ℕ). near k (a .n * 10 ^ 12)) (N.zero-mul (a .lambda))
     ∙ near-zero (a .n * 10 ^ 12) (omega (arith, c .before .pre .2)))
 
-nearest-per-units-requires : tie.Need-nearest-per-units-requires
-nearest-per-units-requires c κs = search needs
-
 returns-2 : tie.Need-returns-2
 returns-2 c =
     let a = c .before .before .args in
@@ -26,4 +23,5 @@ returns-2 c =
     c .nearest-per-units .ensures ∙ per-units-is near-rounds (a .t) (a .lambda) (omega (arith, p .0)) (a .n) (omega (arith, p .1))
 
 pub next-term-spec : {M : Type 1} → statement M
-next-term-spec = tie.close (tie.spec returns nearest-per-units-requires returns-2)
+next-term-spec =
+    tie.close (tie.spec returns (λ c κs. search needs) returns-2)

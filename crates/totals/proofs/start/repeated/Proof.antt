@@ -23,12 +23,6 @@ loop-holds c = (N.le-refl (c .args .size), λ s. refl)
 times-requires : tie.Need-times-requires Inv-loop μ-loop
 times-requires c κs = let p = c .before .before .pre in (p .1, omega (arith, c .before .loop .inv .0, p .2))
 
-sub-left : tie.Need-sub-left Inv-loop μ-loop
-sub-left c = omega arith
-
-loop-less : tie.Need-loop-less Inv-loop μ-loop
-loop-less c = omega arith
-
 loop-again : tie.Need-loop-again Inv-loop μ-loop
 loop-again c =
     let m = c .before .before .before .args .m in
@@ -49,4 +43,5 @@ returns c =
     record { product = λ s. sym (l .inv .1 s) ∙ ap (λ n. multiplied (signed s (l .product)) (replicate n (c .before .before .args .m))) e; within = l .inv .0 }
 
 pub repeated-spec : {M : Type 1} → statement M
-repeated-spec = tie.close (tie.spec Inv-loop μ-loop loop-holds times-requires sub-left loop-less loop-again returns)
+repeated-spec =
+    tie.close (tie.spec Inv-loop μ-loop loop-holds times-requires (λ c. omega arith) (λ c. omega arith) loop-again returns)

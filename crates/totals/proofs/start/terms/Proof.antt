@@ -36,9 +36,6 @@ c-is c =
     let l = c .before .loop in
     rw (l .inv .2) (c-within (c .before .before .args .lambda) (c .before .before .pre) (l .n) (c .loop-test .taken))
 
-with-part-requires : tie.Need-with-part-requires Inv-loop μ-loop
-with-part-requires c κs = search needs
-
 part-fits : (c : tie.In-loop Inv-loop μ-loop) → PartFits (c .before .loop .s) (c .before .loop .t) (c .before .loop .c)
 part-fits c =
     let i = c .before .loop .inv .3 in
@@ -46,17 +43,11 @@ part-fits c =
     let few = c-is c in
     record { plus-fits = omega (arith, i .plus-within); minus-fits = omega (arith, i .minus-within); bound-fits = omega (arith, i .bound-within) }
 
-add-n : tie.Need-add-n Inv-loop μ-loop
-add-n c = omega arith
-
 next-term-requires : tie.Need-next-term-requires Inv-loop μ-loop
 next-term-requires c κs = (t-is (c .before), c .before .before .before .pre, omega arith)
 
 next-bound-requires : tie.Need-next-bound-requires Inv-loop μ-loop
 next-bound-requires c κs = (c-is (c .before .before), c .before .before .before .before .pre, omega arith, omega arith)
-
-loop-less : tie.Need-loop-less Inv-loop μ-loop
-loop-less c = omega arith
 
 loop-again : tie.Need-loop-again Inv-loop μ-loop
 loop-again c =
@@ -86,14 +77,5 @@ returns c =
 pub terms-spec : {M : Type 1} → statement M
 terms-spec =
     tie.close
-    (tie.spec
-    Inv-loop
-    μ-loop
-    loop-holds
-    with-part-requires
-    add-n
-    next-term-requires
-    next-bound-requires
-    loop-less
-    loop-again
-    returns)
+    (tie.spec Inv-loop μ-loop loop-holds (λ c κs. search needs) (λ c. omega arith) next-term-requires next-bound-requires (λ c. omega arith)
+    loop-again returns)

@@ -17,9 +17,6 @@ returns-3 c =
     let o = c .before .before in
     tested-order _ (o .before .before .before .before .args .t) _ (not-false _ (o .before .before .if1 .left)) (o .if2 .left) (c .if3 .taken)
 
-slices-short-requires : tie.Need-slices-short-requires
-slices-short-requires c κs = search needs
-
 returns-4 : tie.Need-returns-4
 returns-4 c =
     let o = c .before .before in
@@ -33,4 +30,5 @@ returns-5 c =
     record { inside-is = not-false _ (l .before .before .if1 .left); load-within = l .if2 .left; truncation-within = o .if3 .left; long = sym (c .before .slices-short .ensures) ∙ c .if4 .left }
 
 pub tested-totals-spec : {M : Type 1} → statement M
-tested-totals-spec = tie.close (tie.spec returns returns-2 returns-3 slices-short-requires returns-4 returns-5)
+tested-totals-spec =
+    tie.close (tie.spec returns returns-2 returns-3 (λ c κs. search needs) returns-4 returns-5)

@@ -26,21 +26,6 @@ loop-holds c =
     let a = c .before .args in
     (omega arith, below-none (a .deductible) (a .f .now) (a .r .now))
 
-sub-with-cell : tie.Need-sub-with-cell Inv-loop μ-loop
-sub-with-cell c = omega arith
-
-mul-with-cell : tie.Need-mul-with-cell Inv-loop μ-loop
-mul-with-cell c = omega arith
-
-shared-slice-copy-out-with-cell : tie.Need-shared-slice-copy-out-with-cell Inv-loop μ-loop
-shared-slice-copy-out-with-cell c = omega arith
-
-mul-with-cell-2 : tie.Need-mul-with-cell-2 Inv-loop μ-loop
-mul-with-cell-2 c = omega arith
-
-shared-slice-read-with-cell : tie.Need-shared-slice-read-with-cell Inv-loop μ-loop
-shared-slice-read-with-cell c = omega arith
-
 -- what was read of f is the element
 read-f : (c : tie.After-shared-slice-known2 Inv-loop μ-loop) →
     let a = c .before .before .before .before .before .args in
@@ -61,12 +46,6 @@ with-cell-requires c κs =
       (omega (arith, i .plus-within, part, whole), omega (arith, i .minus-within, part, whole), omega (arith, i .bound-within, s .pre .few)),
       (omega (arith, s .pre .few), rw (read-f c) (omega (arith, term, whole)), s .pre .narrow (l .x) (omega arith)),
     )
-
-add-x : tie.Need-add-x Inv-loop μ-loop
-add-x c = omega arith
-
-loop-less : tie.Need-loop-less Inv-loop μ-loop
-loop-less c = omega arith
 
 loop-again : tie.Need-loop-again Inv-loop μ-loop
 loop-again c =
@@ -89,17 +68,5 @@ returns c =
 pub below-spec : {M : Type 1} → statement M
 below-spec =
     tie.close
-    (tie.spec
-    Inv-loop
-    μ-loop
-    loop-holds
-    sub-with-cell
-    mul-with-cell
-    shared-slice-copy-out-with-cell
-    mul-with-cell-2
-    shared-slice-read-with-cell
-    with-cell-requires
-    add-x
-    loop-less
-    loop-again
-    returns)
+    (tie.spec Inv-loop μ-loop loop-holds (λ c. omega arith) (λ c. omega arith) (λ c. omega arith) (λ c. omega arith) (λ c. omega arith)
+    with-cell-requires (λ c. omega arith) (λ c. omega arith) loop-again returns)

@@ -17,27 +17,6 @@ use Rattle.valuation.proofs.premium.premium.Tie as tie
 twice : (c : tie.Start) → 2 * c .args .deductible * c .args .truncation ≤ 2 * most-deductible * most-truncation
 twice c = let h : 2 * c .args .deductible ≤ 2 * most-deductible = omega (arith, c .pre .0 .few) in mul-le-mul h (c .pre .1 .1)
 
-below-requires : tie.Need-below-requires
-below-requires c κs = search needs
-
-add-difference : tie.Need-add-difference
-add-difference c = search needs
-
-mul-difference : tie.Need-mul-difference
-mul-difference c = search needs
-
-add-difference-2 : tie.Need-add-difference-2
-add-difference-2 c = search needs
-
-difference-requires : tie.Need-difference-requires
-difference-requires c κs = search needs
-
-as-i64-requires : tie.Need-as-i64-requires
-as-i64-requires c κs = search needs
-
-mul-t9 : tie.Need-mul-t9
-mul-t9 c = search needs
-
 mul-t11 : tie.Need-mul-t11
 mul-t11 c = let s = c .before .before .before .before .before .before in omega (arith, twice s)
 
@@ -63,14 +42,5 @@ returns c =
 pub premium-spec : {M : Type 1} → statement M
 premium-spec =
     tie.close
-    (tie.spec
-    below-requires
-    add-difference
-    mul-difference
-    add-difference-2
-    difference-requires
-    as-i64-requires
-    mul-t9
-    mul-t11
-    add-t10
-    returns)
+    (tie.spec (λ c κs. search needs) (λ c. search needs) (λ c. search needs) (λ c. search needs) (λ c κs. search needs) (λ c κs. search needs)
+    (λ c. search needs) mul-t11 add-t10 returns)

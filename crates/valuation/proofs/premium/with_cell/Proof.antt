@@ -30,17 +30,11 @@ part-within c = let p = c .before .pre .1 in rw (size-is c) (mul-le-mul (p .0) (
 bound-within : (c : tie.Start) → c .args .weight * c .args .r ≤ most-deductible * most-bound
 bound-within c = mul-le-mul (c .pre .1 .0) (c .pre .1 .2)
 
-magnitude-requires : tie.Need-magnitude-requires
-magnitude-requires c κs = search needs
-
 mul-with-part : tie.Need-mul-with-part
 mul-with-part c = omega (arith, part-within c)
 
 mul-with-part-2 : tie.Need-mul-with-part-2
 mul-with-part-2 c = omega (arith, bound-within (c .before))
-
-with-part-requires : tie.Need-with-part-requires
-with-part-requires c κs = search needs
 
 part-fits : (c : tie.After-magnitude) → PartFits (c .before .args .s) (c .before .args .weight * c .magnitude .result) (c .before .args .weight * c .before .args .r)
 part-fits c =
@@ -58,4 +52,5 @@ returns c =
     (rw (c .with-part .ensures, toZ-ofZ (s .fits .f)) (with-part-is (s .args .s) _ _ _ (part-fits (c .before))))
 
 pub with-cell-spec : {M : Type 1} → statement M
-with-cell-spec = tie.close (tie.spec magnitude-requires mul-with-part mul-with-part-2 with-part-requires returns)
+with-cell-spec =
+    tie.close (tie.spec (λ c κs. search needs) mul-with-part mul-with-part-2 (λ c κs. search needs) returns)

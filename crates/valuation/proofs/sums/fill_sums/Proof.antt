@@ -23,9 +23,6 @@ abbrev μ-loop : tie.MeasureT-loop
 loop-holds : tie.Need-loop-holds Inv-loop μ-loop
 loop-holds c = (omega arith, sum-none (c .args .f .now), sums-none (c .args .f .now) (c .args .sums .now))
 
-mul-plus : tie.Need-mul-plus Inv-loop μ-loop
-mul-plus c = search needs
-
 shared-slice-copy-out-plus : tie.Need-shared-slice-copy-out-plus Inv-loop μ-loop
 shared-slice-copy-out-plus c = let l = c .before .before .pre .f-long in omega arith
 
@@ -51,17 +48,11 @@ kept c = let s = c .before in ap length (c .loop .inv .2) ∙ length-summed (s .
 long : (c : tie.At-loop Inv-loop μ-loop) → c .before .args .horizon < length (c .loop .sums)
 long c = omega (arith, kept c, c .before .pre .sums-long)
 
-mul-sum : tie.Need-mul-sum Inv-loop μ-loop
-mul-sum c = search needs
-
 slice-set-from-sum : tie.Need-slice-set-from-sum Inv-loop μ-loop
 slice-set-from-sum c = let l = long (c .before .before .before) in omega arith
 
 add-x : tie.Need-add-x Inv-loop μ-loop
 add-x c = let l = c .before .before .before .before .pre .horizon in omega arith
-
-loop-less : tie.Need-loop-less Inv-loop μ-loop
-loop-less c = omega arith
 
 loop-again : tie.Need-loop-again Inv-loop μ-loop
 loop-again c =
@@ -85,17 +76,5 @@ returns c =
 pub fill-sums-spec : {M : Type 1} → statement M
 fill-sums-spec =
     tie.close
-    (tie.spec
-    Inv-loop
-    μ-loop
-    loop-holds
-    mul-plus
-    shared-slice-copy-out-plus
-    plus-requires
-    mul-sum
-    slice-set-from-sum
-    add-x
-    loop-less
-    loop-again
-    same-length
-    returns)
+    (tie.spec Inv-loop μ-loop loop-holds (λ c. search needs) shared-slice-copy-out-plus plus-requires (λ c. search needs) slice-set-from-sum add-x
+    (λ c. omega arith) loop-again same-length returns)

@@ -8,9 +8,6 @@ use Rattle.widths.specs.Placing.{left-out-d, left-out-h, placed-d, placed-h, te
 use Rattle.valuation.proofs.transform.add_at.Statement.{statement}
 use Rattle.valuation.proofs.transform.add_at.Tie as tie
 
-place-requires : tie.Need-place-requires
-place-requires c κs = search needs
-
 placed-requires : tie.Need-placed-requires
 placed-requires c κs = c .place .ensures
 
@@ -31,12 +28,6 @@ add-term-requires c κs =
     rw (y .before .before .place .ensures)
     (term-room (a .horizon) (a .p .life) (a .n) (a .l) (a .p .lives) (is-placed y) (s .pre .0) (s .pre .2) (s .pre .3))
 
-same-length : tie.Need-same-length
-same-length c = search needs
-
-same-length-2 : tie.Need-same-length-2
-same-length-2 c = search needs
-
 returns-2 : tie.Need-returns-2
 returns-2 c =
     let y = c .before .before .before .before .before .before in
@@ -50,12 +41,4 @@ returns-2 c =
 
 pub add-at-spec : {M : Type 1} → statement M
 add-at-spec =
-    tie.close
-    (tie.spec
-    place-requires
-    placed-requires
-    returns
-    add-term-requires
-    same-length
-    same-length-2
-    returns-2)
+    tie.close (tie.spec (λ c κs. search needs) placed-requires returns add-term-requires (λ c. search needs) (λ c. search needs) returns-2)

@@ -12,12 +12,6 @@ add-single-requires c κs =
     let e = eq-eqb _ _ (c .before .before .if1 .taken) in
     (s .pre .in-range, e, s .pre .order, rw (life-single (a .x .horizon) (a .x .order) (a .x .frequency) (a .p .life) e) at (s .pre .room))
 
-same-length : tie.Need-same-length
-same-length c = search needs
-
-same-length-2 : tie.Need-same-length-2
-same-length-2 c = search needs
-
 returns : tie.Need-returns
 returns c =
     let n = c .before .before .before .before .before .before in
@@ -33,9 +27,6 @@ add-replaced-requires c κs =
     let e = life-replaced (a .x .horizon) (a .x .order) (a .x .frequency) (a .p .life) (ne-eqb _ _ (c .before .if1 .left)) in
     (s .pre .in-range, s .pre .frequency, rw e at (s .pre .room .inD))
 
-same-length-3 : tie.Need-same-length-3
-same-length-3 c = search needs
-
 returns-2 : tie.Need-returns-2
 returns-2 c =
     let n = c .before .before .before in
@@ -45,12 +36,4 @@ returns-2 c =
 
 pub add-point-spec : {M : Type 1} → statement M
 add-point-spec =
-    tie.close
-    (tie.spec
-    add-single-requires
-    same-length
-    same-length-2
-    returns
-    add-replaced-requires
-    same-length-3
-    returns-2)
+    tie.close (tie.spec add-single-requires (λ c. search needs) (λ c. search needs) returns add-replaced-requires (λ c. search needs) returns-2)

@@ -50,9 +50,6 @@ add-replaced-term-requires-2 c κs =
     let s = c .before .before .before .before .before .before .before .before in
     (omega (arith, fits s), rw (c .before .before .before .before .add-replaced-term .ensures) (roomD-rest (death s) (disability s) (apart s)))
 
-same-length : tie.Need-same-length
-same-length c = search needs
-
 returns : tie.Need-returns
 unfolding deathWeight disabilityWeight
 returns c =
@@ -65,12 +62,5 @@ returns c =
 pub add-replaced-spec : {M : Type 1} → statement M
 add-replaced-spec =
     tie.close
-    (tie.spec
-    mul-add-replaced-term
-    mul-add-replaced-term-2
-    add-replaced-term-requires
-    mul-add-replaced-term-3
-    mul-add-replaced-term-4
-    add-replaced-term-requires-2
-    same-length
-    returns)
+    (tie.spec mul-add-replaced-term mul-add-replaced-term-2 add-replaced-term-requires mul-add-replaced-term-3 mul-add-replaced-term-4
+    add-replaced-term-requires-2 (λ c. search needs) returns)

@@ -51,9 +51,6 @@ shift-requires c κs =
     let s = c .before .before .before .before in
     (omega (arith, here (c .before) .1, s .pre .1 .long), room (c .before))
 
-same-length : tie.Need-same-length
-same-length c = search needs
-
 returns-4 : tie.Need-returns-4
 unfolding addD times
 returns-4 c =
@@ -63,4 +60,4 @@ returns-4 c =
 
 pub add-replaced-term-spec : {M : Type 1} → statement M
 add-replaced-term-spec =
-    tie.close (tie.spec returns returns-2 returns-3 mul-shift mul-shift-2 shift-requires same-length returns-4)
+    tie.close (tie.spec returns returns-2 returns-3 mul-shift mul-shift-2 shift-requires (λ c. search needs) returns-4)

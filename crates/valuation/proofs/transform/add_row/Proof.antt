@@ -51,9 +51,6 @@ add-at-requires c κs =
 add-l : tie.Need-add-l Inv-loop μ-loop
 add-l c = omega (arith, in-row (c .before .before .before .before .before .before))
 
-loop-less : tie.Need-loop-less Inv-loop μ-loop
-loop-less c = omega arith
-
 loop-again : tie.Need-loop-again Inv-loop μ-loop
 loop-again c =
     let v = c .before .before .before .before .before .before .before .loop .inv in
@@ -77,16 +74,5 @@ returns c = let f = c .before .loop .inv .0 in (end-d f (omega arith), end-h f (
 pub add-row-spec : {M : Type 1} → statement M
 add-row-spec =
     tie.close
-    (tie.spec
-    Inv-loop
-    μ-loop
-    loop-holds
-    mul-add-at
-    array-read-add-at
-    add-at-requires
-    add-l
-    loop-less
-    loop-again
-    same-length
-    same-length-2
+    (tie.spec Inv-loop μ-loop loop-holds mul-add-at array-read-add-at add-at-requires add-l (λ c. omega arith) loop-again same-length same-length-2
     returns)

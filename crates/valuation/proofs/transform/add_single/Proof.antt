@@ -55,9 +55,6 @@ add-row-requires c κs =
           (times-goes (a .p .lives) (singleTerms (a .horizon) (a .p .life)) (λ n. rowTerms (a .horizon) (a .p .life) (n + 1) (n + 1 + 1)) (single-goes (a .horizon) (a .p .life))) (v .0) (c .before .before .before .loop-test .taken),
     )
 
-loop-less : tie.Need-loop-less Inv-loop μ-loop
-loop-less c = omega arith
-
 loop-again : tie.Need-loop-again Inv-loop μ-loop
 loop-again c =
     let i = c .before .before .before .before .before .before in
@@ -84,15 +81,4 @@ returns c = let f = c .before .loop .inv .0 in (end-d f (c .loop-test .left), en
 pub add-single-spec : {M : Type 1} → statement M
 add-single-spec =
     tie.close
-    (tie.spec
-    Inv-loop
-    μ-loop
-    loop-holds
-    next-row-requires
-    add-n
-    add-row-requires
-    loop-less
-    loop-again
-    same-length
-    same-length-2
-    returns)
+    (tie.spec Inv-loop μ-loop loop-holds next-row-requires add-n add-row-requires (λ c. omega arith) loop-again same-length same-length-2 returns)

@@ -11,27 +11,6 @@ use Rattle.widths.specs.Times.{times-signed}
 use Rattle.valuation.proofs.transform.add_term.Statement.{statement}
 use Rattle.valuation.proofs.transform.add_term.Tie as tie
 
-mul-h : tie.Need-mul-h
-mul-h c = search needs
-
-slice-read-h : tie.Need-slice-read-h
-slice-read-h c = search needs
-
-mul-h-2 : tie.Need-mul-h-2
-mul-h-2 c = search needs
-
-add-h : tie.Need-add-h
-add-h c = search needs
-
-mul-h-3 : tie.Need-mul-h-3
-mul-h-3 c = search needs
-
-slice-write-h : tie.Need-slice-write-h
-slice-write-h c = search needs
-
-same-length : tie.Need-same-length
-same-length c = search needs
-
 returns : tie.Need-returns
 returns c =
     let a = c .before .before .before .args in
@@ -43,9 +22,6 @@ product c = mul-le-mul (c .pre .place-most) (c .pre .number-most)
 
 mul-nearest : tie.Need-mul-nearest
 mul-nearest c = omega (arith, product (c .before .before .before .before))
-
-nearest-requires : tie.Need-nearest-requires
-nearest-requires c κs = search needs
 
 -- what D gains, by the number that is found
 gain : (c : tie.After-nearest) → let a = c .before .before .before .before .before .args in a .lives * c .nearest .result ≡ a .lives * near (a .x * a .v) (a .n)
@@ -59,12 +35,6 @@ shift-requires c κs =
     let p = c .before .before .before .before .before .pre in
     (p .d-long, omega (arith, gain c, p .d-room))
 
-same-length-2 : tie.Need-same-length-2
-same-length-2 c = search needs
-
-same-length-3 : tie.Need-same-length-3
-same-length-3 c = search needs
-
 returns-2 : tie.Need-returns-2
 returns-2 c =
     let a = c .before .before .before .before .before .before .before .args in
@@ -73,19 +43,5 @@ returns-2 c =
 pub add-term-spec : {M : Type 1} → statement M
 add-term-spec =
     tie.close
-    (tie.spec
-    mul-h
-    slice-read-h
-    mul-h-2
-    add-h
-    mul-h-3
-    slice-write-h
-    same-length
-    returns
-    mul-nearest
-    nearest-requires
-    mul-shift
-    shift-requires
-    same-length-2
-    same-length-3
-    returns-2)
+    (tie.spec (λ c. search needs) (λ c. search needs) (λ c. search needs) (λ c. search needs) (λ c. search needs) (λ c. search needs)
+    (λ c. search needs) returns mul-nearest (λ c κs. search needs) mul-shift shift-requires (λ c. search needs) (λ c. search needs) returns-2)

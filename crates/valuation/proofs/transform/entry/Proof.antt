@@ -23,19 +23,6 @@ returns c =
     let m = c .before .before .before .args .m in
     sym (ap (λ (k : ℕ). near k (stay m)) (c .if1 .taken) ∙ near-zero (stay m) (omega (arith, c .before .before .before .pre .0)))
 
-add-nearest : tie.Need-add-nearest
-add-nearest c = search needs
-
-sub-nearest : tie.Need-sub-nearest
-sub-nearest c = search needs
-
-nearest-requires : tie.Need-nearest-requires
-nearest-requires c κs = search needs
-
-returns-2 : tie.Need-returns-2
-returns-2 c = search needs
-
 pub entry-spec : {M : Type 1} → statement M
 entry-spec =
-    tie.close
-    (tie.spec mul-sum mul-sum-2 add-sum returns add-nearest sub-nearest nearest-requires returns-2)
+    tie.close (tie.spec mul-sum mul-sum-2 add-sum returns (λ c. search needs) (λ c. search needs) (λ c κs. search needs) (λ c. search needs))

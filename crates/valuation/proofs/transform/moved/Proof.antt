@@ -4,9 +4,6 @@ use Rattle.widths.specs.Signed.{shifted-up, shifted-down}
 use Rattle.valuation.proofs.transform.moved.Statement.{statement}
 use Rattle.valuation.proofs.transform.moved.Tie as tie
 
-cast-z : tie.Need-cast-z
-cast-z c = search needs
-
 sub-result : tie.Need-sub-result
 sub-result c = let s = c .before in shifted-down (s .args .cell) (s .args .amount) (s .pre) .fits
 
@@ -24,4 +21,5 @@ returns-2 c =
     rw (c .if1 .left, shifted-up (s .args .cell) (s .args .amount) (s .pre) .is)
 
 pub moved-spec : {M : Type 1} → statement M
-moved-spec = tie.close (tie.spec cast-z sub-result returns add-result returns-2)
+moved-spec =
+    tie.close (tie.spec (λ c. search needs) sub-result returns add-result returns-2)

@@ -44,18 +44,6 @@ entry-requires c κs =
     let v = l .inv in
     (v .0, rw (v .6, v .3) (sum-below (c .before .before .args .m) (v .0) (c .before .before .args .n) (l .l)))
 
-mul-out : tie.Need-mul-out Inv-loop μ-loop
-mul-out c = omega arith
-
-array-write-out : tie.Need-array-write-out Inv-loop μ-loop
-array-write-out c = omega arith
-
-add-l : tie.Need-add-l Inv-loop μ-loop
-add-l c = omega arith
-
-loop-less : tie.Need-loop-less Inv-loop μ-loop
-loop-less c = omega arith
-
 loop-again : tie.Need-loop-again Inv-loop μ-loop
 loop-again c =
     let l = c .before .before .loop in
@@ -82,17 +70,5 @@ returns c =
 pub next-row-spec : {M : Type 1} → statement M
 next-row-spec =
     tie.close
-    (tie.spec
-    Inv-loop
-    μ-loop
-    add-last
-    loop-holds
-    mul-v
-    array-read-v
-    entry-requires
-    mul-out
-    array-write-out
-    add-l
-    loop-less
-    loop-again
-    returns)
+    (tie.spec Inv-loop μ-loop add-last loop-holds mul-v array-read-v entry-requires (λ c. omega arith) (λ c. omega arith) (λ c. omega arith)
+    (λ c. omega arith) loop-again returns)

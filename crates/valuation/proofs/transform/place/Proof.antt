@@ -15,17 +15,12 @@ disabilities c = let h : c .args .n - c .args .l ≤ 12 = omega arith in mul-le-
 mul-result : tie.Need-mul-result
 mul-result c = omega (arith, deaths (c .before))
 
-sub-result : tie.Need-sub-result
-sub-result c = search needs
-
 mul-result-2 : tie.Need-mul-result-2
 mul-result-2 c = omega (arith, disabilities (c .before .before))
 
 add-result : tie.Need-add-result
 add-result c = omega (arith, deaths (c .before .before), disabilities (c .before .before))
 
-returns : tie.Need-returns
-returns c = search needs
-
 pub place-spec : {M : Type 1} → statement M
-place-spec = tie.close (tie.spec mul-result sub-result mul-result-2 add-result returns)
+place-spec =
+    tie.close (tie.spec mul-result (λ c. search needs) mul-result-2 add-result (λ c. search needs))

@@ -14,17 +14,11 @@ returns c = rw (lt-leb _ _ (rw (c .before .pre) at (c .if1 .taken)))
 within : (c : tie.Else1) → let a = c .before .args in placeOf (a .m) (a .n) (a .l) ≤ a .horizon
 within c = rw (c .before .pre) at (c .if1 .left)
 
-reached-requires : tie.Need-reached-requires
-reached-requires c κs = search needs
-
 returns-2 : tie.Need-returns-2
 unfolding placed
 returns-2 c =
     let r = c .before .reached in
     rw (le-leb _ _ (within (c .before .before)), sym (r .ensures), not-true (r .result) (c .if2 .taken))
-
-reached-requires-2 : tie.Need-reached-requires-2
-reached-requires-2 c κs = search needs
 
 returns-3 : tie.Need-returns-3
 unfolding placed
@@ -34,5 +28,4 @@ returns-3 c =
 
 pub placed-spec : {M : Type 1} → statement M
 placed-spec =
-    tie.close
-    (tie.spec returns reached-requires returns-2 reached-requires-2 returns-3)
+    tie.close (tie.spec returns (λ c κs. search needs) returns-2 (λ c κs. search needs) returns-3)

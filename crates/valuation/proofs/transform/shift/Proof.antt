@@ -9,24 +9,6 @@ use Rattle.whole.specs.Sign.{signed}
 use Rattle.valuation.proofs.transform.shift.Statement.{statement}
 use Rattle.valuation.proofs.transform.shift.Tie as tie
 
-mul-moved : tie.Need-mul-moved
-mul-moved c = search needs
-
-slice-copy-out-moved : tie.Need-slice-copy-out-moved
-slice-copy-out-moved c = search needs
-
-moved-requires : tie.Need-moved-requires
-moved-requires c κs = search needs
-
-mul-t9 : tie.Need-mul-t9
-mul-t9 c = search needs
-
-slice-set-from-d : tie.Need-slice-set-from-d
-slice-set-from-d c = search needs
-
-same-length : tie.Need-same-length
-same-length c = search needs
-
 returns : tie.Need-returns
 returns c =
     let a = c .before .before .args in
@@ -37,11 +19,4 @@ returns c =
 pub shift-spec : {M : Type 1} → statement M
 shift-spec =
     tie.close
-    (tie.spec
-    mul-moved
-    slice-copy-out-moved
-    moved-requires
-    mul-t9
-    slice-set-from-d
-    same-length
-    returns)
+    (tie.spec (λ c. search needs) (λ c. search needs) (λ c κs. search needs) (λ c. search needs) (λ c. search needs) (λ c. search needs) returns)
