@@ -20,7 +20,10 @@
  *   - each pointer is aligned for its type;
  *   - nothing that is written (the result slices and the structs) overlaps with
  *     anything else that is passed, and nothing else writes to what is passed
- *     while the call runs.
+ *     while the call runs;
+ *   - the call with sheets, which alone computes with floats, is made where rounding
+ *     is to nearest and no floating-point exception is unmasked, as every program
+ *     starts. miguepo_price_sheets_default sees to it, wherever it is called.
  */
 #ifndef MIGUEPO_H
 #define MIGUEPO_H
@@ -135,6 +138,14 @@ void miguepo_price(const uint8_t *file, size_t file_length,
  * counted from 1 through the rates and on through the members. Refusals in the
  * header text come before any row, and bytes behind its last line are MIGUEPO_FORM
  * at their line.
+ *
+ * The rates' quotients are formed by the processor's division, in the rounding
+ * direction of the thread that calls. In another direction than to nearest about
+ * half of the rates are refused, and a number beside a rate may be taken for it. Where
+ * an exception is unmasked, a division that is inexact traps; where none is, the call
+ * may raise the flag of inexact, and no other. Subnormals are refused by their bits:
+ * it does not matter whether the processor takes them as 0 or flushes results to 0,
+ * as it does in a program built with -ffast-math.
  */
 void miguepo_price_sheets(const uint8_t *header, size_t header_length,
                           const uint8_t *rates, size_t rates_length,
@@ -146,6 +157,32 @@ void miguepo_price_sheets(const uint8_t *header, size_t header_length,
                           uint64_t *r, size_t r_length,
                           int64_t *sums, size_t sums_length,
                           struct miguepo_result *result);
+
+#if defined(__x86_64__) && defined(__GNUC__)
+/* The same call in the default floating-point environment: rounding to nearest,
+ * exceptions masked, subnormals as they are. The caller's environment is put back,
+ * with its flags. The library computes in SSE registers alone, whose environment is
+ * MXCSR: <fenv.h> and libm are not needed. It is not inlined, so that no operation of
+ * the caller moves in between. */
+__attribute__((noinline, unused))
+static void miguepo_price_sheets_default(const uint8_t *header, size_t header_length,
+                                         const uint8_t *rates, size_t rates_length,
+                                         const uint8_t *members, size_t members_length,
+                                         uint64_t level,
+                                         int64_t *d, size_t d_length,
+                                         uint64_t *h, size_t h_length,
+                                         int64_t *f, size_t f_length,
+                                         uint64_t *r, size_t r_length,
+                                         int64_t *sums, size_t sums_length,
+                                         struct miguepo_result *result)
+{
+    unsigned int environment = __builtin_ia32_stmxcsr();
+    __builtin_ia32_ldmxcsr(0x1f80);
+    miguepo_price_sheets(header, header_length, rates, rates_length, members, members_length, level,
+                         d, d_length, h, h_length, f, f_length, r, r_length, sums, sums_length, result);
+    __builtin_ia32_ldmxcsr(environment);
+}
+#endif
 
 /* How the premium moved from an old fund to a new one, and what differs between
  * their files beside the editions and the rate lines. Each field has eight bytes. */
