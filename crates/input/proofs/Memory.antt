@@ -10,8 +10,16 @@ use lib.Seq.{take-take, take-suc, take-suc-set, drop-cons}
 use lib.Signed.{ltZ}
 use borrow.Author.Tests.{ltb-true}
 use Rattle.io.specs.Counts.{clamped}
+use Rattle.input.specs.declared.source.Source.{Source}
+use Rattle.input.specs.declared.FileBytes.{FileBytes}
 use Rattle.input.specs.Reads.{Reads, fails, ends, more}
-use Rattle.input.specs.Input.{Extends, Stands, Given, Gives, counted, none, ReadMemory}
+use Rattle.input.specs.Input.{descriptor, Closed, Extends, Stands, Given, Gives, counted, none, ReadMemory, ReadDescriptor}
+
+pub closed-below : {s : Source} {z fd : ℤ} → s ≡ descriptor z → z ≡ fd → ltZ fd (pos 0) ≡ true → Closed s
+closed-below e same t = (ap (λ (x : Source). x .memory) e, ap (λ (x : Source). ltZ (x .fd) (pos 0)) e ∙ ap (λ (y : ℤ). ltZ y (pos 0)) same ∙ t)
+
+pub of-descriptor : {z fd : ℤ} {before after : List ℕ} {r : FileBytes} → z ≡ fd → ReadDescriptor z before after r → ReadDescriptor fd before after r
+of-descriptor same d = record { read = d .read; closed = λ t. d .closed (ap (λ (y : ℤ). ltZ y (pos 0)) same ∙ t) }
 
 -- ---- one read
 pub any-default : (l : List ℕ) (i d e : ℕ) → i < length l → getD l i d ≡ getD l i e

@@ -1,7 +1,7 @@
--- What a file in memory is read as: where no read has failed, its first bytes, as many as the buffer has room for (first-bytes); which read fails (fails-at), and that
--- a read that fails is not the end (ends-at).
+-- What a file in memory is read as: where no read has failed, its first bytes, as many as the buffer has room for (first-bytes); which read fails (fails-at), that
+-- a read that fails is not the end (ends-at), and that what is read is determined (one-answer).
 use mathlib.Core.Path.{_≡_, refl, sym, _∙_, ap}
-use mathlib.Core.Bool.{true, false}
+use mathlib.Core.Bool.{Bool, true, false}
 use mathlib.Core.List.{List, [], _∷_}
 use Prim.Native.Nat.{ℕ, zero, suc, _≤_, _<_, min}
 use native.Mathlib.Numerals.{unary-clauses}
@@ -23,6 +23,25 @@ module _ {file pieces : List ℕ} {room : ℕ} where
   ends-at (full h) k = absurd (omega arith)
   ends-at (ends h p l) k = p
   ends-at (more h p l r) k = ends-at r k
+
+  -- how a file is read is determined
+  pub one-answer : {size a b : ℕ} {f g : Bool} → Reads file pieces room size a f → Reads file pieces room size b g → (a ≡ b) × (f ≡ g)
+  one-answer (full h) (full k) = (refl, refl)
+  one-answer (full h) (fails k z) = absurd (omega arith)
+  one-answer (full h) (ends k q m) = absurd (omega arith)
+  one-answer (full h) (more k q m t) = absurd (omega arith)
+  one-answer (fails h y) (full k) = absurd (omega arith)
+  one-answer (fails h y) (fails k z) = (refl, refl)
+  one-answer (fails h y) (ends k q m) = absurd (omega arith)
+  one-answer (fails h y) (more k q m t) = absurd (omega arith)
+  one-answer (ends h p l) (full k) = absurd (omega arith)
+  one-answer (ends h p l) (fails k z) = absurd (omega arith)
+  one-answer (ends h p l) (ends k q m) = (refl, refl)
+  one-answer (ends h p l) (more k q m t) = absurd (omega arith)
+  one-answer (more h p l r) (full k) = absurd (omega arith)
+  one-answer (more h p l r) (fails k z) = absurd (omega arith)
+  one-answer (more h p l r) (ends k q m) = absurd (omega arith)
+  one-answer (more h p l r) (more k q m t) = one-answer r t
 
 take-within : (n : ℕ) (l : List ℕ) → take (min n (length l)) l ≡ take n l
 take-within zero [] = refl

@@ -39,9 +39,9 @@ read-of c = c .before .before .before .before .before .before
 room-left : (c : tie.After-read-more Inv-loop μ-loop) → turn c .loop .size < length (turn c .loop .buffer)
 room-left c = c .before .before .before .loop-test .taken
 
-has-read : (c : tie.After-read-more Inv-loop μ-loop) (failed : Bool) →
+has-read : (c : tie.After-read-more Inv-loop μ-loop) {failed : Bool} →
     ReadBytes (turn c .before .before .before .before .args .buffer .now) (c .read-more .last .1 .1 .1 .1 .0) (record { size = turn c .loop .size; failed = failed })
-has-read c failed =
+has-read c =
     let e = c .read-more .ensures .extends .long in
     record { long = e ∙ turn c .loop .inv .1; inside = omega (arith, e, turn c .loop .inv .0) }
 
@@ -66,7 +66,7 @@ returns c =
     let r = m .read-more in
     let same : toZ w64 (ofZ w64 (r .result)) ≡ r .result = search needs in
     record {
-      read = has-read m true;
+      read = has-read m;
       memory = λ e. stops (i .2 e) (r .ensures .extends) (stops-failed (r .ensures .gives e) (rw same at (c .if1 .taken)) (room-left m));
       closed = λ e _. record { nothing = i .3 e; failed = refl };
     }
@@ -77,7 +77,7 @@ returns-2 c =
     let i = turn m .loop .inv in
     let r = m .read-more .ensures in
     record {
-      read = has-read m false;
+      read = has-read m;
       memory = λ e. stops (i .2 e) (r .extends) (stops-ended (r .gives e) (not-failed (c .before)) (sym (c .if2 .taken) ∙ count-is (c .before)) (room-left m));
       closed = λ e _. absurd (true≢false (sym (r .closed e) ∙ not-failed (c .before)));
     }
