@@ -8,7 +8,7 @@ use reader::FileRead;
 use reader::Header;
 ghost use mathlib.Core.Path.{_≡_};
 ghost use Rattle.fund.specs.Reading.{stopped};
-ghost use Rattle.fund.specs.Cells.{rateRowOf, memberRowOf};
+ghost use Rattle.fund.specs.SheetCells.{rateRowOf, memberRowOf};
 ghost use Rattle.fund.specs.Sheets.{sheetReading};
 ghost use Rattle.valuation.specs.Valued.{lengths};
 ghost use Rattle.reader.specs.Header.{HeaderRead};
@@ -139,12 +139,12 @@ pub fn claimed_member_in_range(enrolled: usize, lives: u64, m: Member) -> bool
 pub fn claimed_rate_row(row: &[u8]) -> SheetRow
     ensures { λ r. ⌜ r ≡ rateRowOf (now (row .entry)) ⌝ }
 {
-    cells::rate_row(row)
+    sheet_cells::rate_row(row)
 }
 
 // A row of the members' sheet.
 pub fn claimed_member_row(row: &[u8]) -> SheetRow
     ensures { λ r. ⌜ r ≡ memberRowOf (now (row .entry)) ⌝ }
 {
-    cells::member_row(row)
+    sheet_cells::member_row(row)
 }

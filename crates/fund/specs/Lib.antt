@@ -13,7 +13,7 @@ pub mod Quantile
 pub mod Distribution
 pub mod Answer
 pub mod Listing
-pub mod Cells
+pub mod SheetCells
 pub mod Sheets
 pub mod Exact
 pub mod Distance

@@ -15,7 +15,7 @@ use Rattle.fund.specs.Reading.{Reading, read, stopped, headerLines, rate
 use Rattle.fund.specs.Refusals.{Lengths}
 use Rattle.fund.specs.Answer.{Answer, answerTo}
 use Rattle.fund.specs.Listing.{decimal, joined, listingTo}
-use Rattle.fund.specs.Cells.{rate-width, member-width, rateRowOf, memberRowOf}
+use Rattle.fund.specs.SheetCells.{rate-width, member-width, rateRowOf, memberRowOf}
 
 -- The rows of a sheet: so many bytes each, and what is left over is a last row, cut short.
 unfoldable pub rowCount : ℕ → List ℕ → ℕ

@@ -16,7 +16,7 @@ use Rattle.fund.specs.declared.Taken.{Taken}
 use Rattle.fund.specs.declared.Taken.the-variants.{As, Not}
 use Rattle.fund.specs.Limits.{most-age, most-rate, least-group, most-group, most-amount, least-lives, most-lives}
 use Rattle.fund.specs.Base.{if_then_else_}
-use Rattle.fund.specs.Cells.{orElse, seek, wholeOf, rateOf, atLeast, numberOf, amountOf, rateIn, rateJoined, memberJoined, rateTaken, memberTaken, rateFloats, memberFloats, rate-width, member-width, rateRowOf, memberRowOf}
+use Rattle.fund.specs.SheetCells.{orElse, seek, wholeOf, rateOf, atLeast, wholeIn, amountOf, rateIn, rateJoined, memberJoined, rateTaken, memberTaken, rateFloats, memberFloats, rate-width, member-width, rateRowOf, memberRowOf}
 use Rattle.fund.specs.Sheets.{rowsOf, sheetRows}
 use Rattle.laws.specs.Accepted.{All, all-append, all-of}
 use Rattle.laws.specs.Decimals.{seven-digits}
@@ -53,8 +53,8 @@ at-least-below least n (As k) h = go (ltb k least)
 abbrev ShortCell : Taken → Type 0
 ShortCell t = Below seven-digits t
 
-number-short : (least most : ℕ) (c : SheetCell) → suc most ≤ seven-digits → ShortCell (numberOf least most c)
-unfolding numberOf wholeOf
+number-short : (least most : ℕ) (c : SheetCell) → suc most ≤ seven-digits → ShortCell (wholeIn least most c)
+unfolding wholeIn wholeOf
 number-short least most Blank h = tt
 number-short least most (Number x) h = at-least-below least seven-digits (wholeOf x most) (below-more (suc most) seven-digits (wholeOf x most) h (seek-below _ (suc most)))
 

@@ -13,7 +13,7 @@ use Rattle.fund.specs.declared.SheetRow.the-variants.{Rate as RateRow, Member a
 use Rattle.fund.specs.Limits.{most-rates, most-members}
 use Rattle.fund.specs.Lines.{Line, lines}
 use Rattle.fund.specs.Reading.{stopped, headerLines, rateInRange, memberInRange, readHeader}
-use Rattle.fund.specs.Cells.{rate-width, member-width, rateRowOf, memberRowOf}
+use Rattle.fund.specs.SheetCells.{rate-width, member-width, rateRowOf, memberRowOf}
 use Rattle.fund.specs.Sheets.{rowsOf, sheetRows, readSheetRows, readSheets, sheetReading}
 use Rattle.laws.specs.Accepted.{All, all-front, all-of}
 use Rattle.laws.specs.Passing.{on-pass}

@@ -16,7 +16,7 @@ use Rattle.fund.specs.declared.SheetRow.{SheetRow}
 use Rattle.fund.specs.declared.SheetRow.the-variants.{Rate as RateRow, Member as MemberRow, NotTaken}
 use Rattle.fund.specs.Base.{table}
 use Rattle.fund.specs.Reading.{stopped, headerLines, rateInRange, livesInAll, memberInRange}
-use Rattle.fund.specs.Cells.{rate-width, member-width, rateRowOf, memberRowOf}
+use Rattle.fund.specs.SheetCells.{rate-width, member-width, rateRowOf, memberRowOf}
 use Rattle.fund.specs.Sheets.{rowCount, rowAt, rowsOf, readSheetRows}
 use Rattle.laws.specs.Tables.{length-table, getD-table}
 use Rattle.laws.specs.TakenRows.{NoMember, NoRate, rate-row, member-row}

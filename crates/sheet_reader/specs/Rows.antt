@@ -12,7 +12,7 @@ use Rattle.fund.specs.declared.SheetRow.{SheetRow}
 use Rattle.fund.specs.declared.SheetRow.the-variants.{Rate as RateRow, Member as MemberRow, NotTaken}
 use Rattle.fund.specs.Limits.{most-rates, most-age, most-members, most-lives}
 use Rattle.fund.specs.Reading.{Reading, read, stopped, headerLines, livesInAll}
-use Rattle.fund.specs.Cells.{rate-width, member-width, rateRowOf, memberRowOf}
+use Rattle.fund.specs.SheetCells.{rate-width, member-width, rateRowOf, memberRowOf}
 use Rattle.fund.specs.Sheets.{rowsOf, readSheetRows}
 use Rattle.reader.specs.Rows.{linePlace, leastAge, rateFits, memberFits}
 use Rattle.sheet_reader.specs.declared.rows.NextRow.{NextRow}

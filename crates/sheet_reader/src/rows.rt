@@ -46,12 +46,12 @@ fn next_row(rates: &[u8], members: &[u8], rated: usize, enrolled: usize) -> Next
     let at = Fund::RATE_WIDTH * rated;
     if at < rates.len() {
         let end = row_end(at, Fund::RATE_WIDTH, rates.len());
-        return NextRow::Row(cells::rate_row(&rates[at..end]));
+        return NextRow::Row(sheet_cells::rate_row(&rates[at..end]));
     }
     let from = Fund::MEMBER_WIDTH * enrolled;
     if from < members.len() {
         let end = row_end(from, Fund::MEMBER_WIDTH, members.len());
-        return NextRow::Row(cells::member_row(&members[from..end]));
+        return NextRow::Row(sheet_cells::member_row(&members[from..end]));
     }
     NextRow::End
 }

@@ -24,14 +24,14 @@ use Rattle.fund.specs.Distribution.{distributionBound}
 use Rattle.fund.specs.Answer.{empty, fundTerms, fundStart, fundCells, fundTruncation, fundMean, fundPremium, fundWithin, fundFigures, lineAt, part, refused, lent, accepted, answerOf, answerTo}
 use Rattle.fund.specs.Listing.{digitsWithin, decimal, signedDecimal, joined, cellLine, cellLines, listed, refusedLine, printed, horizonIn, listingTo, listing}
 use Rattle.fund.specs.Limits.{most-rate}
-use Rattle.fund.specs.Cells.{leastFirst, cellOf, quotient, orElse, seek, wholeOf, rateOf, atLeast, numberOf, amountOf, memberJoined, rateRowOf, memberRowOf}
+use Rattle.fund.specs.SheetCells.{leastFirst, cellOf, quotient, orElse, seek, wholeOf, rateOf, atLeast, wholeIn, amountOf, memberJoined, rateRowOf, memberRowOf}
 use Rattle.fund.specs.Sheets.{rowCount, rowAt, rowsOf, sheetRows, readSheetRows, readSheets, sheetReading, sheetListing}
 use Rattle.fund.specs.Starred.{text, file}
 use Rattle.tables.specs.SheetFunds.{headerText, firstHeader, one}
 use Rattle.tables.specs.CutSheets.{SheetBytes, cutSheets}
 
 pub every-cut : map (λ (r : SheetBytes). record { rates = r .rates; members = r .members; listing = sheetListing firstHeader (r .rates) (r .members) }) cutSheets ≡ cutSheets
-unfolding near nearest up bytes total sum sumℤ table alternate begun linesFrom lines digits isNumber valueFrom value inFirst fields allNumbers numbers behind spelled between inRanges headerLines headerOf rowOf rising rateInRange livesInAll memberInRange noMember atEnd readRows readHeader reading heldUntil rateInForce folded life point points copies lives unit nextRow row placed termOf rowTerms singleTerms deathWeight disabilityWeight replacedTerm replacedTerms terms sumD sumH D H lambda load w truncation mean t alternating multiplied start c startBound entries sumR sumF nextCell cells sumBelow boundBelow premium within loading withBound gross first unmatched half halfLine wide anyShort short refuse at0 firstMember valued matched verdict runningSum distributionBound fundTerms fundStart fundCells fundTruncation fundMean fundPremium fundWithin fundFigures lineAt part refused lent accepted answerOf answerTo digitsWithin decimal signedDecimal joined cellLine cellLines listed refusedLine printed horizonIn listingTo text file leastFirst ofBits eq ofInt cellOf orElse seek wholeOf atLeast numberOf amountOf memberJoined rateRowOf memberRowOf rowCount rowAt rowsOf sheetRows readSheetRows readSheets sheetReading headerText cutSheets
+unfolding near nearest up bytes total sum sumℤ table alternate begun linesFrom lines digits isNumber valueFrom value inFirst fields allNumbers numbers behind spelled between inRanges headerLines headerOf rowOf rising rateInRange livesInAll memberInRange noMember atEnd readRows readHeader reading heldUntil rateInForce folded life point points copies lives unit nextRow row placed termOf rowTerms singleTerms deathWeight disabilityWeight replacedTerm replacedTerms terms sumD sumH D H lambda load w truncation mean t alternating multiplied start c startBound entries sumR sumF nextCell cells sumBelow boundBelow premium within loading withBound gross first unmatched half halfLine wide anyShort short refuse at0 firstMember valued matched verdict runningSum distributionBound fundTerms fundStart fundCells fundTruncation fundMean fundPremium fundWithin fundFigures lineAt part refused lent accepted answerOf answerTo digitsWithin decimal signedDecimal joined cellLine cellLines listed refusedLine printed horizonIn listingTo text file leastFirst ofBits eq ofInt cellOf orElse seek wholeOf atLeast wholeIn amountOf memberJoined rateRowOf memberRowOf rowCount rowAt rowsOf sheetRows readSheetRows readSheets sheetReading headerText cutSheets
 every-cut = refl
 
 -- the largest number that is asked comes first

@@ -18,7 +18,7 @@ use Rattle.fund.specs.Quantile.{runningSum}
 use Rattle.fund.specs.Distribution.{distributionBound}
 use Rattle.fund.specs.Answer.{fundTerms, fundStart, fundCells, fundTruncation, fundMean, fundPremium, fundWithin, fundFigures, lineAt, part, refused, lent, accepted, answerOf, answerTo}
 use Rattle.fund.specs.Listing.{digitsWithin, decimal, signedDecimal, joined, cellLine, cellLines, listed, refusedLine, printed, horizonIn, enough, listingTo}
-use Rattle.fund.specs.Cells.{leastFirst, cellOf, orElse, seek, wholeOf, atLeast, numberOf, amountOf, memberJoined, memberRowOf}
+use Rattle.fund.specs.SheetCells.{leastFirst, cellOf, orElse, seek, wholeOf, atLeast, wholeIn, amountOf, memberJoined, memberRowOf}
 use Rattle.fund.specs.Sheets.{readSheetRows, readSheets, rowsReading}
 use Rattle.fund.specs.Starred.{text}
 use Rattle.tables.specs.SheetFunds.{SheetFund, RowBytes, headerText, sheetFunds, memberBytes}
@@ -38,5 +38,5 @@ unfolding near nearest up bytes total sum sumℤ table alternate begun linesFrom
 every-sheet = refl
 
 pub every-row-of-bytes : map (λ (r : RowBytes). record { bytes = r .bytes; row = memberRowOf (r .bytes) }) memberBytes ≡ memberBytes
-unfolding leastFirst ofBits eq ofInt cellOf orElse seek wholeOf atLeast numberOf amountOf memberJoined memberRowOf memberBytes
+unfolding leastFirst ofBits eq ofInt cellOf orElse seek wholeOf atLeast wholeIn amountOf memberJoined memberRowOf memberBytes
 every-row-of-bytes = refl
