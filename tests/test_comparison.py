@@ -183,12 +183,14 @@ def program_checks():
 
 
 def stream_checks():
-    pairs = cases.comparison_stream_pairs(40, 3)
-    given, wanted = cases.comparison_stream_of(pairs)
+    made = cases.pair_cases(40, 3)
+    given, wanted = cases.stream_of(made)
+    pairs = [pair for pair, _ in cases.of_kind(cases.A_PAIR, made)]
     old, new = pairs[0]
-    return [("stream of comparisons: the files are read back", cases.comparison_pairs_of(given) == pairs),
-            ("stream of comparisons: the same seed gives the same", cases.comparison_stream_pairs(40, 3) == pairs),
-            ("stream of comparisons: its first bytes", given.startswith(b"%06d %06d\n" % (len(old), len(new)) + old + new)),
+    return [("stream of comparisons: the files are read back", cases.cases_of(given) == made),
+            ("stream of comparisons: the same seed gives the same", cases.pair_cases(40, 3) == made),
+            ("stream of comparisons: its first bytes",
+             given.startswith(b"p %06d %06d 000000 0000000000000\n" % (len(old), len(new)) + old + new)),
             ("stream of comparisons: its first answer", wanted.startswith(comparison_funds.PAIRS[0][3] + b"\n")),
             ("stream of comparisons: an empty line behind each", wanted.endswith(b"\n\n") and wanted.count(b"\n\n") == len(pairs)),
             ("stream of comparisons: none too long", max(len(data) for pair in pairs for data in pair) <= cases.LONGEST),
