@@ -29,11 +29,11 @@ sheet_funds.py that are short.  Of a pair (p), whose level is 0, it has the list
 the comparison and an empty line.  The first pairs are those of comparison_funds.py; then
 come generated ones, and the full fund under other rates with its last member changed.
 
-The programs `listing` and `overlong` of CRATES are one program, run on a full fund
-and on a file that is longer than what is read; `level` is asked at the level in its
-file args; `sheets` and `sheets_level` are run on the three files that their args name, in
-their folder data, the second at the level behind them; `compare` is run on several pairs,
-among them files that are not there and a folder.
+The programs of CRATES: `listing` is run on a full fund; `level` is asked at the level in
+its file args; `sheets` and `sheets_level` are run on the three files that their args name,
+in their folder data, the second at the level behind them; `compare` is run on several
+pairs, among them a file that is longer than what is read, files that are not there and a
+folder.
 """
 
 import random
@@ -246,13 +246,13 @@ EXAMPLES = Path(__file__).resolve().parent.parent / "examples"
 def programs():
     """The programs of one file with their input and, for one that is asked at a level, the level."""
     return {"listing": (generate.full_fund().data(), None),
-            "overlong": (generate.overlong_file().data(), None),
             "level": ((EXAMPLES / "sixty-members.fund").read_bytes(), 990000000000)}
 
 
 SHEET_FILES = ("header", "rates", "members")
 FULL_PAIR = ("old", "new")
 SMALL_PAIR = ("first", "second")
+LONG = "long"            # longer than what is read
 MISSING = "missing"      # no file of this name is stored
 FOLDER = "."             # it can be opened, and no read of it succeeds
 
@@ -273,15 +273,16 @@ def sheet_programs():
 
 
 def compared_files():
-    """The fund of sixty members, and it under a new edition; and a small pair."""
+    """The fund of sixty members, and it under a new edition; a small pair; and a file that is longer than what is read."""
     full = [(EXAMPLES / name).read_bytes() for name in ("sixty-members.fund", "sixty-members-2031.fund")]
     small = next((old, new) for name, old, new, _ in comparison_funds.PAIRS if name == "a unit lost")
-    return dict(zip(FULL_PAIR + SMALL_PAIR, [*full, *small]))
+    return dict(zip((*FULL_PAIR, *SMALL_PAIR, LONG), [*full, *small, generate.overlong_file().data()], strict=True))
 
 
 def compared_names():
-    """The names of the pairs that are compared: each kind of file that cannot be read, old and new, and a pair the other way round."""
-    return [FULL_PAIR, (MISSING, "new"), ("old", FOLDER), (FOLDER, MISSING), SMALL_PAIR[::-1]]
+    """The names of the pairs that are compared: each kind of file that cannot be read, old and new, a pair the other way round, and a file
+    that is too long beside one that is not."""
+    return [FULL_PAIR, (MISSING, "new"), ("old", FOLDER), (FOLDER, MISSING), SMALL_PAIR[::-1], (LONG, "new")]
 
 
 def line_of_sheets(three, level):

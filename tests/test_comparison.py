@@ -203,13 +203,15 @@ def stored_program_checks():
         cases.write_compared_program(folder)
         printed = (folder / "stdout").read_bytes()
         words = (folder / "args").read_text().splitlines()
-        checks = [("program compare: its arguments", words == ["old", "new", "missing", "new", "old", ".", ".", "missing", "second", "first"]),
+        checks = [("program compare: its arguments", words == ["old", "new", "missing", "new", "old", ".", ".", "missing", "second", "first", "long", "new"]),
                   ("program compare: a listing or what cannot be read for each pair, with empty lines between",
-                   [part.split(b"=")[0] for part in printed.split(b"\n\n")] == [b"old-premium", *[b"unreadable"] * 3, b"old-premium"]),
+                   [part.split(b"=")[0] for part in printed.split(b"\n\n")] == [b"old-premium", *[b"unreadable"] * 3, b"old-premium", b"old-refused"]),
                   ("program compare: which file cannot be read",
                    printed.split(b"\n\n")[1:4] == [b"unreadable=old", b"unreadable=new", b"unreadable=old\nunreadable=new"]),
                   ("program compare: its files", [(folder / "data" / name).read_bytes() for name in ("old", "new")]
                    == [OLD.read_bytes(), NEW.read_bytes()]),
+                  ("program compare: a file that is longer than what is read", (folder / "data" / "long").stat().st_size > cases.LONGEST
+                   and printed.split(b"\n\n")[-1].startswith(b"old-refused=2,1129\nnew-premium=")),
                   ("program compare: does not differ", cases.wanted_of(folder) == printed)]
         (folder / "data" / "new").write_bytes(OLD.read_bytes())
         return checks + [("program compare: another file differs", cases.wanted_of(folder) != printed)]
