@@ -24,21 +24,22 @@ def head(kind, horizon, level):
     return bytes([kind] + [FEW if horizon < FEW else ALL] * 5) + level.to_bytes(8, "little")
 
 
-def stored(name):
-    return (ROOT / "crates" / name / "stdin").read_bytes()
+def stored(kind):
+    """The short ones of the stored cases of a kind."""
+    found = cases.cases_of((ROOT / "crates" / "cases" / "stdin").read_bytes())
+    return [(texts, level) for texts, level in cases.of_kind(kind, found) if sum(map(len, texts)) <= LONGEST]
 
 
 def file_inputs():
     pairs = [(path.read_bytes(), generate.USUAL_LEVEL) for path in sorted((ROOT / "examples").glob("*.fund"))]
-    pairs += [pair for pair in cases.pairs_of(stored("cases")) if len(pair[0]) <= LONGEST]
+    pairs += [(data, level) for (data,), level in stored(cases.A_FILE)]
     return [head(A_FILE, pricing.price(data).horizon, level) + data for data, level in pairs]
 
 
 def sheet_inputs():
     folder = ROOT / "examples" / "sheets"
     worked = tuple((folder / name).read_bytes() for name in ("header.txt", "rates.sheet", "members.sheet"))
-    pairs = [(worked, generate.USUAL_LEVEL)]
-    pairs += [pair for pair in cases.sheet_pairs_of(stored("sheet_cases")) if sum(map(len, pair[0])) <= LONGEST]
+    pairs = [(worked, generate.USUAL_LEVEL), *stored(cases.SHEETS)]
     return [head(SHEETS, sheets.price_sheets(*three).horizon, level)
             + b"".join(len(text).to_bytes(2, "little") for text in three[:2]) + b"".join(three) for three, level in pairs]
 

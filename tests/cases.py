@@ -2,12 +2,8 @@
 
     python3 tests/cases.py write DIR N SEED
     python3 tests/cases.py check DIR
-    python3 tests/cases.py stream DIR N SEED
+    python3 tests/cases.py stream DIR FILES SHEETS PAIRS SEED
     python3 tests/cases.py check-stream DIR
-    python3 tests/cases.py sheet-stream DIR N SEED
-    python3 tests/cases.py check-sheet-stream DIR
-    python3 tests/cases.py comparison-stream DIR N SEED
-    python3 tests/cases.py check-comparison-stream DIR
     python3 tests/cases.py programs CRATES
     python3 tests/cases.py check-programs CRATES
 
@@ -17,30 +13,27 @@ standard output, every line with its line feed.  Nothing else is stored.
 The names begin with a running number and say how the file was made.
 
 A stream is all cases in two files of one folder, for a program that reads them
-one after the other.  stdin has for each case its length as six decimal digits,
-a space, its level as thirteen decimal digits and a line feed, then its bytes.
-stdout has each listing, then `line=` and the part of the file that is handed
-back, then the line that the program `level` prints, and an empty line.  The last cases
-of a stream are those of quantile_funds.py and rate_funds.py, funds with rates for
-some ages only, and those of tariff_funds.py, triangle_funds.py, frequency_funds.py,
-distribution_funds.py and lives_funds.py.
+one after the other: files, then header texts with two sheets, then pairs of files.
+stdin has for each case a head, and then its texts one after the other.  The head is a
+letter for the kind, the lengths of three texts as six decimal digits each (000000 for
+those that the kind does not have), the level as thirteen decimal digits, a space before
+each number, and a line feed.
 
-In a stream of sheets each case has the lengths of its header text, its rate sheet and
-its member sheet, six decimal digits and a space each, and its level as above, then the
-three one after the other; the part that is handed back is one of the header text.  The
-first cases are those of sheet_funds.py that are short.
+Of a file (f) stdout has its listing, then `line=` and the part of the file that is
+handed back, then the line that the program `level` prints, and an empty line.  The last
+files are those of quantile_funds.py and rate_funds.py, funds with rates for some ages
+only, and those of tariff_funds.py, triangle_funds.py, frequency_funds.py,
+distribution_funds.py and lives_funds.py.  Of a header text with two sheets (s) it has
+the same; the part is one of the header text.  The first ones are those of
+sheet_funds.py that are short.  Of a pair (p), whose level is 0, it has the listing of
+the comparison and an empty line.  The first pairs are those of comparison_funds.py; then
+come generated ones, and the full fund under other rates with its last member changed.
 
-In a stream of comparisons each case has the lengths of the old and of the new file, six
-decimal digits each with a space between and a line feed behind, then the two files one
-after the other.  stdout has each listing of a comparison and an empty line.  The first
-cases are those of comparison_funds.py; then come generated ones, and the full fund under
-other rates with its last member changed.
-
-The programs `listing` and `overlong` of CRATES are one program, run on a full fund
-and on a file that is longer than what is read; `level` is asked at the level in its
-file args; `sheets` and `sheets_level` are run on the three files that their args name, in
-their folder data, the second at the level behind them; `compare` is run on several pairs,
-among them files that are not there and a folder.
+The programs of CRATES: `listing` is run on a full fund; `level` is asked at the level in
+its file args; `sheets` and `sheets_level` are run on the three files that their args name,
+in their folder data, the second at the level behind them; `compare` is run on several
+pairs, among them a file that is longer than what is read, files that are not there and a
+folder.
 """
 
 import random
@@ -68,9 +61,9 @@ import triangle_funds
 
 LONGEST = 65536      # what the program that reads a stream has room for
 MOST_LEVEL = 9999999999999      # thirteen digits
-HEAD = 21            # bytes before each file of a stream
-SHEET_HEAD = 35      # bytes before each header text of a stream of sheets
-COMPARISON_HEAD = 14     # bytes before each old file of a stream of comparisons
+A_FILE, SHEETS, A_PAIR = b"f", b"s", b"p"
+TEXTS = {A_FILE: 1, SHEETS: 3, A_PAIR: 2}      # how many a case of each kind has
+HEAD = 37            # bytes before the texts of a case
 GAPS = 40            # funds with rates for some ages only
 
 
@@ -156,143 +149,93 @@ def told(answer, text):
     return printed(answer) + b"line=" + part + b"\n" + quantile_line(answer) + b"\n"
 
 
-def answer_of(data, level):
-    return told(pricing.price(data, level=level), data)
-
-
-def stream_of(pairs):
-    """stdin and stdout for files with their levels."""
-    return (b"".join(b"%06d %013d\n" % (len(data), level) + data for data, level in pairs),
-            b"".join(answer_of(data, level) for data, level in pairs))
-
-
-def pairs_of(stream):
-    """The files of a stream with their levels."""
-    pairs = []
-    while stream:
-        size, level = int(stream[:6]), int(stream[7:HEAD - 1])
-        pairs.append((stream[HEAD:HEAD + size], level))
-        stream = stream[HEAD + size:]
-    return pairs
-
-
-def stream_pairs(count, seed):
-    rng = random.Random(seed)
-    made = chosen(count, seed) + quantile_funds.cases() + rate_funds.cases() + generate.gap_funds(seed, GAPS)
-    made += tariff_funds.cases() + triangle_funds.cases() + frequency_funds.cases() + distribution_funds.cases()
-    made += lives_funds.cases()
-    return [(case.data, generate.level_of(case, rng, pricing.price(case.data), MOST_LEVEL))
-            for case in made if len(case.data) <= LONGEST]
-
-
-def store(directory, given, wanted):
-    directory.mkdir(parents=True, exist_ok=True)
-    (directory / "stdin").write_bytes(given)
-    (directory / "stdout").write_bytes(wanted)
-
-
-def write_stream(directory, count, seed):
-    pairs = stream_pairs(count, seed)
-    store(directory, *stream_of(pairs))
-    return len(pairs)
-
-
-def check_stored(directory, read, made):
-    """Whether the stored stdin, read and made again, gives the stored stdout."""
-    stored = tuple((directory / name).read_bytes() for name in ("stdin", "stdout"))
-    found = read(stored[0])
-    same = made(found) == stored
-    print(f"{len(found)} cases, " + ("none differs" if same else "some differ"))
-    return 0 if found and same else 1
-
-
-def check_stream(directory):
-    return check_stored(directory, pairs_of, stream_of)
-
-
-# Streams of sheets
-
-def sheet_answer_of(three, level):
-    return told(sheets.price_sheets(*three, level=level), three[0])
-
-
-def sheet_stream_of(pairs):
-    """stdin and stdout for (header, rates, members) with their levels."""
-    return (b"".join(b"%06d %06d %06d " % tuple(map(len, three)) + b"%013d\n" % level + b"".join(three)
-                     for three, level in pairs),
-            b"".join(sheet_answer_of(three, level) for three, level in pairs))
-
-
-def sheet_pairs_of(stream):
-    """The header texts and sheets of a stream with their levels."""
-    pairs, at = [], 0
-    while at < len(stream):
-        *sizes, level = (int(word) for word in stream[at:at + SHEET_HEAD].split())
-        at += SHEET_HEAD
-        three = []
-        for size in sizes:
-            three.append(stream[at:at + size])
-            at += size
-        pairs.append((tuple(three), level))
-    return pairs
-
-
-def sheet_stream_pairs(count, seed):
-    rng = random.Random(seed)
-    made = sheet_funds.stored() + generate_sheets.random_sheets(seed, count)
-    return [(case.sheets(), generate.level_of(case, rng, sheets.price_sheets(*case.sheets()), MOST_LEVEL))
-            for case in made if sum(map(len, case.sheets())) <= LONGEST]
-
-
-def write_sheet_stream(directory, count, seed):
-    pairs = sheet_stream_pairs(count, seed)
-    store(directory, *sheet_stream_of(pairs))
-    return len(pairs)
-
-
-def check_sheet_stream(directory):
-    return check_stored(directory, sheet_pairs_of, sheet_stream_of)
-
-
-# Streams of comparisons
-
 def comparison_of(old, new):
     return comparison.listing(comparison.compare(old, new))
 
 
-def comparison_stream_of(pairs):
-    """stdin and stdout for pairs of files."""
-    return (b"".join(b"%06d %06d\n" % (len(old), len(new)) + old + new for old, new in pairs),
-            b"".join(comparison_of(old, new) + b"\n" for old, new in pairs))
+def answer_of(kind, texts, level):
+    """What a stream's program writes of a case."""
+    if kind == A_PAIR:
+        return comparison_of(*texts) + b"\n"
+    price = sheets.price_sheets if kind == SHEETS else pricing.price
+    return told(price(*texts, level=level), texts[0])
 
 
-def comparison_pairs_of(stream):
-    """The pairs of files of a stream."""
-    pairs, at = [], 0
+def head_of(kind, texts, level):
+    lengths = [len(text) for text in texts] + [0] * (max(TEXTS.values()) - len(texts))
+    return b"%s %06d %06d %06d %013d\n" % (kind, *lengths, level)
+
+
+def stream_of(made):
+    """stdin and stdout for cases: kind, texts and level."""
+    return (b"".join(head_of(*case) + b"".join(case[1]) for case in made),
+            b"".join(answer_of(*case) for case in made))
+
+
+def cases_of(stream):
+    """The cases of a stream, each its kind, its texts and its level."""
+    found, at = [], 0
     while at < len(stream):
-        old_size, new_size = (int(word) for word in stream[at:at + COMPARISON_HEAD].split())
-        start = at + COMPARISON_HEAD
-        at = start + old_size + new_size
-        pairs.append((stream[start:start + old_size], stream[start + old_size:at]))
-    return pairs
+        kind, *numbers = stream[at:at + HEAD].split()
+        *sizes, level = map(int, numbers)
+        at += HEAD
+        texts = []
+        for size in sizes[:TEXTS[kind]]:
+            texts.append(stream[at:at + size])
+            at += size
+        found.append((kind, tuple(texts), level))
+    return found
 
 
-def comparison_stream_pairs(count, seed):
+def of_kind(kind, found):
+    """The texts and levels of the cases of a kind."""
+    return [(texts, level) for its_kind, texts, level in found if its_kind == kind]
+
+
+def file_cases(count, seed):
+    rng = random.Random(seed)
+    made = chosen(count, seed) + quantile_funds.cases() + rate_funds.cases() + generate.gap_funds(seed, GAPS)
+    made += tariff_funds.cases() + triangle_funds.cases() + frequency_funds.cases() + distribution_funds.cases()
+    made += lives_funds.cases()
+    return [(A_FILE, (case.data,), generate.level_of(case, rng, pricing.price(case.data), MOST_LEVEL))
+            for case in made if len(case.data) <= LONGEST]
+
+
+def sheet_cases(count, seed):
+    rng = random.Random(seed)
+    made = sheet_funds.stored() + generate_sheets.random_sheets(seed, count)
+    return [(SHEETS, case.sheets(), generate.level_of(case, rng, sheets.price_sheets(*case.sheets()), MOST_LEVEL))
+            for case in made if sum(map(len, case.sheets())) <= LONGEST]
+
+
+def pair_cases(count, seed):
     """The pairs worked by hand, so many generated ones, one in ten of them long, and the full pair."""
     made = generate_pairs.random_pairs(seed, count - count // 10) + generate_pairs.long_pairs(seed, count // 10)
     pairs = [(old, new) for _, old, new, _ in comparison_funds.PAIRS]
     pairs += [(pair.old, pair.new) for pair in [*made, generate_pairs.full_pair()]]
-    return [pair for pair in pairs if max(map(len, pair)) <= LONGEST]
+    return [(A_PAIR, pair, 0) for pair in pairs if max(map(len, pair)) <= LONGEST]
 
 
-def write_comparison_stream(directory, count, seed):
-    pairs = comparison_stream_pairs(count, seed)
-    store(directory, *comparison_stream_of(pairs))
-    return len(pairs)
+def write_stream(directory, files, sheet_texts, pairs, seed):
+    made = file_cases(files, seed) + sheet_cases(sheet_texts, seed) + pair_cases(pairs, seed)
+    given, wanted = stream_of(made)
+    directory.mkdir(parents=True, exist_ok=True)
+    (directory / "stdin").write_bytes(given)
+    (directory / "stdout").write_bytes(wanted)
+    return len(made)
 
 
-def check_comparison_stream(directory):
-    return check_stored(directory, comparison_pairs_of, comparison_stream_of)
+def stream_holds(directory):
+    """Whether the cases of the stored stdin give it and the stored stdout, and their number."""
+    stored = tuple((directory / name).read_bytes() for name in ("stdin", "stdout"))
+    found = cases_of(stored[0])
+    return stream_of(found) == stored, len(found)
+
+
+def check_stream(directory):
+    same, count = stream_holds(directory)
+    print(f"{count} cases, " + ("none differs" if same else "some differ"))
+    return 0 if count and same else 1
 
 
 # Programs
@@ -303,13 +246,13 @@ EXAMPLES = Path(__file__).resolve().parent.parent / "examples"
 def programs():
     """The programs of one file with their input and, for one that is asked at a level, the level."""
     return {"listing": (generate.full_fund().data(), None),
-            "overlong": (generate.overlong_file().data(), None),
             "level": ((EXAMPLES / "sixty-members.fund").read_bytes(), 990000000000)}
 
 
 SHEET_FILES = ("header", "rates", "members")
 FULL_PAIR = ("old", "new")
 SMALL_PAIR = ("first", "second")
+LONG = "long"            # longer than what is read
 MISSING = "missing"      # no file of this name is stored
 FOLDER = "."             # it can be opened, and no read of it succeeds
 
@@ -330,15 +273,16 @@ def sheet_programs():
 
 
 def compared_files():
-    """The fund of sixty members, and it under a new edition; and a small pair."""
+    """The fund of sixty members, and it under a new edition; a small pair; and a file that is longer than what is read."""
     full = [(EXAMPLES / name).read_bytes() for name in ("sixty-members.fund", "sixty-members-2031.fund")]
     small = next((old, new) for name, old, new, _ in comparison_funds.PAIRS if name == "a unit lost")
-    return dict(zip(FULL_PAIR + SMALL_PAIR, [*full, *small]))
+    return dict(zip((*FULL_PAIR, *SMALL_PAIR, LONG), [*full, *small, generate.overlong_file().data()], strict=True))
 
 
 def compared_names():
-    """The names of the pairs that are compared: each kind of file that cannot be read, old and new, and a pair the other way round."""
-    return [FULL_PAIR, (MISSING, "new"), ("old", FOLDER), (FOLDER, MISSING), SMALL_PAIR[::-1]]
+    """The names of the pairs that are compared: each kind of file that cannot be read, old and new, a pair the other way round, and a file
+    that is too long beside one that is not."""
+    return [FULL_PAIR, (MISSING, "new"), ("old", FOLDER), (FOLDER, MISSING), SMALL_PAIR[::-1], (LONG, "new")]
 
 
 def line_of_sheets(three, level):
@@ -428,24 +372,11 @@ def main(arguments):
         return 0
     if len(arguments) == 2 and arguments[0] == "check":
         return check(Path(arguments[1]))
-    if len(arguments) == 4 and arguments[0] == "stream":
-        count = write_stream(Path(arguments[1]), int(arguments[2]), int(arguments[3]))
-        print(f"{count} cases written")
+    if len(arguments) == 6 and arguments[0] == "stream":
+        print(f"{write_stream(Path(arguments[1]), *map(int, arguments[2:]))} cases written")
         return 0
     if len(arguments) == 2 and arguments[0] == "check-stream":
         return check_stream(Path(arguments[1]))
-    if len(arguments) == 4 and arguments[0] == "sheet-stream":
-        count = write_sheet_stream(Path(arguments[1]), int(arguments[2]), int(arguments[3]))
-        print(f"{count} cases written")
-        return 0
-    if len(arguments) == 2 and arguments[0] == "check-sheet-stream":
-        return check_sheet_stream(Path(arguments[1]))
-    if len(arguments) == 4 and arguments[0] == "comparison-stream":
-        count = write_comparison_stream(Path(arguments[1]), int(arguments[2]), int(arguments[3]))
-        print(f"{count} cases written")
-        return 0
-    if len(arguments) == 2 and arguments[0] == "check-comparison-stream":
-        return check_comparison_stream(Path(arguments[1]))
     if len(arguments) == 2 and arguments[0] == "programs":
         print(f"{write_programs(Path(arguments[1]))} programs written")
         return 0

@@ -183,12 +183,14 @@ def program_checks():
 
 
 def stream_checks():
-    pairs = cases.comparison_stream_pairs(40, 3)
-    given, wanted = cases.comparison_stream_of(pairs)
+    made = cases.pair_cases(40, 3)
+    given, wanted = cases.stream_of(made)
+    pairs = [pair for pair, _ in cases.of_kind(cases.A_PAIR, made)]
     old, new = pairs[0]
-    return [("stream of comparisons: the files are read back", cases.comparison_pairs_of(given) == pairs),
-            ("stream of comparisons: the same seed gives the same", cases.comparison_stream_pairs(40, 3) == pairs),
-            ("stream of comparisons: its first bytes", given.startswith(b"%06d %06d\n" % (len(old), len(new)) + old + new)),
+    return [("stream of comparisons: the files are read back", cases.cases_of(given) == made),
+            ("stream of comparisons: the same seed gives the same", cases.pair_cases(40, 3) == made),
+            ("stream of comparisons: its first bytes",
+             given.startswith(b"p %06d %06d 000000 0000000000000\n" % (len(old), len(new)) + old + new)),
             ("stream of comparisons: its first answer", wanted.startswith(comparison_funds.PAIRS[0][3] + b"\n")),
             ("stream of comparisons: an empty line behind each", wanted.endswith(b"\n\n") and wanted.count(b"\n\n") == len(pairs)),
             ("stream of comparisons: none too long", max(len(data) for pair in pairs for data in pair) <= cases.LONGEST),
@@ -201,13 +203,15 @@ def stored_program_checks():
         cases.write_compared_program(folder)
         printed = (folder / "stdout").read_bytes()
         words = (folder / "args").read_text().splitlines()
-        checks = [("program compare: its arguments", words == ["old", "new", "missing", "new", "old", ".", ".", "missing", "second", "first"]),
+        checks = [("program compare: its arguments", words == ["old", "new", "missing", "new", "old", ".", ".", "missing", "second", "first", "long", "new"]),
                   ("program compare: a listing or what cannot be read for each pair, with empty lines between",
-                   [part.split(b"=")[0] for part in printed.split(b"\n\n")] == [b"old-premium", *[b"unreadable"] * 3, b"old-premium"]),
+                   [part.split(b"=")[0] for part in printed.split(b"\n\n")] == [b"old-premium", *[b"unreadable"] * 3, b"old-premium", b"old-refused"]),
                   ("program compare: which file cannot be read",
                    printed.split(b"\n\n")[1:4] == [b"unreadable=old", b"unreadable=new", b"unreadable=old\nunreadable=new"]),
                   ("program compare: its files", [(folder / "data" / name).read_bytes() for name in ("old", "new")]
                    == [OLD.read_bytes(), NEW.read_bytes()]),
+                  ("program compare: a file that is longer than what is read", (folder / "data" / "long").stat().st_size > cases.LONGEST
+                   and printed.split(b"\n\n")[-1].startswith(b"old-refused=2,1129\nnew-premium=")),
                   ("program compare: does not differ", cases.wanted_of(folder) == printed)]
         (folder / "data" / "new").write_bytes(OLD.read_bytes())
         return checks + [("program compare: another file differs", cases.wanted_of(folder) != printed)]

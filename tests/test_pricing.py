@@ -778,37 +778,55 @@ def case_tool_checks():
 
 
 def stream_checks():
-    pairs = cases.stream_pairs(60, 3)
-    given, wanted = cases.stream_of(pairs)
-    return [("stream: the files and levels are read back", cases.pairs_of(given) == pairs),
-            ("stream: the same seed gives the same", cases.stream_pairs(60, 3) == pairs),
-            ("stream: levels of up to thirteen digits", max(level for _, level in pairs) < 10 ** 13),
+    made = cases.file_cases(60, 3)
+    given, wanted = cases.stream_of(made)
+    return [("stream: the files and levels are read back", cases.cases_of(given) == made),
+            ("stream: the same seed gives the same", cases.file_cases(60, 3) == made),
+            ("stream: levels of up to thirteen digits", max(level for _, _, level in made) < 10 ** 13),
+            ("stream: its first bytes", given.startswith(b"f %06d 000000 000000 %013d\n" % (len(made[0][1][0]), made[0][2]) + made[0][1][0])),
             ("stream: a quantile for each that is accepted",
-             wanted.count(b"\nquantile=") == sum(pricing.price(data).number == 0 for data, _ in pairs)),
+             wanted.count(b"\nquantile=") == sum(pricing.price(*file).number == 0 for _, file, _ in made)),
             ("stream: the first answer",
-             cases.answer_of(document_funds.FIRST_FILE, 900000000001)
+             cases.answer_of(cases.A_FILE, (document_funds.FIRST_FILE,), 900000000001)
              == document_funds.FIRST_LISTING.encode("ascii") + b"line=\nquantile=1\n\n"),
-            ("stream: a refusal", cases.answer_of(document_funds.HALF.data(), 0)
+            ("stream: a refusal", cases.answer_of(cases.A_FILE, (document_funds.HALF.data(),), 0)
              == b"refused=6,9\nline=member=40,1,1,0,1\nrefused=6,9\n\n")]
 
 
 def sheet_stream_checks():
-    pairs = cases.sheet_stream_pairs(60, 3)
-    given, wanted = cases.sheet_stream_of(pairs)
+    made = cases.sheet_cases(60, 3)
+    given, wanted = cases.stream_of(made)
     first = sheets.sheets_of(document_funds.FIRST)
     header, rates, members = sheet_funds.HEADER, sheet_funds.RATES, sheet_funds.MEMBERS
-    heads = [len(b"%06d %06d %06d %013d\n" % (*map(len, three), level)) for three, level in pairs]
-    return [("stream of sheets: the texts and levels are read back", cases.sheet_pairs_of(given) == pairs),
-            ("stream of sheets: the same seed gives the same", cases.sheet_stream_pairs(60, 3) == pairs),
-            ("stream of sheets: heads of 35 bytes", set(heads) == {35}),
-            ("stream of sheets: the first answer", cases.sheet_answer_of(first, 900000000001)
+
+    def answer_of(three, level):
+        return cases.answer_of(cases.SHEETS, three, level)
+
+    return [("stream of sheets: the texts and levels are read back", cases.cases_of(given) == made),
+            ("stream of sheets: the same seed gives the same", cases.sheet_cases(60, 3) == made),
+            ("stream of sheets: heads of 37 bytes", {len(cases.head_of(*case)) for case in made} == {37}),
+            ("stream of sheets: the first answer", answer_of(first, 900000000001)
              == document_funds.FIRST_LISTING.encode("ascii") + b"line=\nquantile=1\n\n"),
-            ("stream of sheets: a cell", cases.sheet_answer_of((header, rates, members[:-1]), 0)
+            ("stream of sheets: a cell", answer_of((header, rates, members[:-1]), 0)
              == b"refused=11,6\nline=\nrefused=11,6\n\n"),
-            ("stream of sheets: bytes after the header", cases.sheet_answer_of((header + b"end=0\n", rates, members), 0)
+            ("stream of sheets: bytes after the header", answer_of((header + b"end=0\n", rates, members), 0)
              == b"refused=1,8\nline=end=0\nrefused=1,8\n\n"),
             ("stream of sheets: a quantile for each that is accepted",
-             wanted.count(b"\nquantile=") == sum(sheets.price_sheets(*three).number == 0 for three, _ in pairs))]
+             wanted.count(b"\nquantile=") == sum(sheets.price_sheets(*three).number == 0 for _, three, _ in made))]
+
+
+def stored_stream_checks():
+    with tempfile.TemporaryDirectory() as directory:
+        folder = Path(directory)
+        count = cases.write_stream(folder, 10, 5, 10, 3)
+        stored = (folder / "stdin").read_bytes()
+        same = cases.file_cases(10, 3) + cases.sheet_cases(5, 3) + cases.pair_cases(10, 3)
+        checks = [("stored stream: files, sheets, then pairs", cases.cases_of(stored) == same),
+                  ("stored stream: none differs", cases.stream_holds(folder) == (True, count) and count == len(same))]
+        (folder / "stdin").write_bytes(stored.replace(b"f ", b"p ", 1))
+        checks.append(("stored stream: another kind differs", cases.stream_holds(folder) == (False, count)))
+        (folder / "stdin").write_bytes(stored[:-1])
+        return checks + [("stored stream: a text cut short differs", cases.stream_holds(folder) == (False, count))]
 
 
 def sheet_program_checks():
@@ -917,7 +935,8 @@ def sections():
     yield "sheet_bytes", test_sheet_bytes.checks()
     priced = [case for case in steps if pricing.price(case.data).number == 0]
     yield "larger funds", large_checks(generate.large_funds(9, 6) + priced[::5] + example_cases())
-    yield "stored cases", case_tool_checks() + stream_checks() + sheet_stream_checks() + sheet_program_checks()
+    yield "stored cases", (case_tool_checks() + stream_checks() + sheet_stream_checks() + stored_stream_checks()
+                            + sheet_program_checks())
     yield "exact rows", row_checks()
     yield "program", program_checks()
     yield "mutations", mutation_checks()

@@ -1,12 +1,37 @@
-// Prices the files on standard input, one after the other: for each its length as six digits, a space, a level as thirteen digits and a
-// line feed, then its bytes. Writes each listing, the line that the host is handed, the line of the answer at the level, and an empty
-// line.
+// Runs the stored cases on standard input, one after the other. Each has a head: a letter, f for a file, s for a header text with two sheets or p for
+// a pair of files; the lengths of three texts as six digits each, 000000 for those that it does not have; a level as thirteen digits; a space before
+// each number, and a line feed. Its texts follow.
+mod files;
+mod pairs;
+mod sheets;
+
 use libc::STDIN_FILENO;
 use libc::STDOUT_FILENO;
 use printing::MOST_BYTES;
 use spelling::Argument;
+ghost use Rattle.io.specs.Counts.{Counts};
 
-const HEAD: usize = 21;
+const HEAD: usize = 37;
+
+fn write(text: &[u8]) -> bool {
+    io::write_all(STDOUT_FILENO, text)
+}
+
+// Writes a text with a line feed behind it.
+fn write_ended(text: &[u8]) -> bool {
+    if !write(text) {
+        return false;
+    }
+    write(b"\n")
+}
+
+// Writes the line that the host is handed.
+fn write_handed(line: &[u8]) -> bool {
+    if !write(b"line=") {
+        return false;
+    }
+    write_ended(line)
+}
 
 // The number that some digits spell.
 fn number_of(digits: &[u8]) -> u64 {
@@ -16,67 +41,52 @@ fn number_of(digits: &[u8]) -> u64 {
     }
 }
 
-// Writes the listing of a file.
-fn write_listing(file: &[u8]) -> bool {
-    let mut text = [0u8; text::ROOM];
-    let size = printing::print(file, &mut text);
-    io::write_all(STDOUT_FILENO, &text[..size])
+// Reads the text whose length the digits spell to the start of the buffer; how many of its bytes were there.
+fn read_part(buffer: &mut [u8], digits: &[u8]) -> usize
+    ensures { λ r. ⌜ Counts r (now (buffer .exit)) ⌝ }
+{
+    let size = number_of(digits) as usize;
+    if buffer.len() < size {
+        return 0;
+    }
+    io::read_full(STDIN_FILENO, &mut buffer[..size])
 }
 
-// Slices of one cell do for the line: the refusals that have one come before short.
-fn write_line(file: &[u8]) -> bool {
-    let mut transform = [0i64; 1];
-    let mut h = [0u64; 1];
-    let mut f = [0i64; 1];
-    let mut r = [0u64; 1];
-    let mut sums = [0i64; 1];
-    let priced = pricing::price(file, 0, &mut transform, &mut h, &mut f, &mut r, &mut sums);
-    if !io::write_all(STDOUT_FILENO, b"line=") {
-        return false;
+// Writes the answer of a case; whether its kind is known and all was written.
+fn write_case(kind: u8, first: &[u8], second: &[u8], third: &[u8], level: u64) -> bool {
+    match kind {
+        b'f' => files::write_answer(first, level),
+        b's' => sheets::write_answer(first, second, third, level),
+        b'p' => pairs::write_comparison(first, second),
+        _ => false,
     }
-    if !io::write_all(STDOUT_FILENO, pricing::line(file, priced)) {
-        return false;
-    }
-    io::write_all(STDOUT_FILENO, b"\n")
 }
 
-// Writes the line of the answer at a level, and an empty line.
-fn write_level(file: &[u8], level: u64) -> bool {
-    let mut text = [0u8; text::LEVEL_ROOM];
-    let size = printing::print_level(file, level, &mut text);
-    if !io::write_all(STDOUT_FILENO, &text[..size]) {
-        return false;
-    }
-    io::write_all(STDOUT_FILENO, b"\n")
-}
-
-// The next file; whether there was one.
-fn next_file(file: &mut [u8]) -> bool {
+// The next case; whether there was one.
+fn next_case(first: &mut [u8], second: &mut [u8], third: &mut [u8]) -> bool {
     let mut head = [0u8; HEAD];
     if io::read_full(STDIN_FILENO, &mut head) < HEAD {
         return false;
     }
-    let size = number_of(&head[0..6]) as usize;
-    let level = number_of(&head[7..20]);
-    if file.len() < size {
-        return false;
-    }
-    if io::read_full(STDIN_FILENO, &mut file[..size]) < size {
-        return false;
-    }
-    if !write_listing(&file[..size]) {
-        return false;
-    }
-    if !write_line(&file[..size]) {
-        return false;
-    }
-    write_level(&file[..size], level)
+    let first_size = read_part(first, &head[2..8]);
+    let second_size = read_part(second, &head[9..15]);
+    let third_size = read_part(third, &head[16..22]);
+    let level = number_of(&head[23..36]);
+    write_case(
+        head[0],
+        &first[..first_size],
+        &second[..second_size],
+        &third[..third_size],
+        level,
+    )
 }
 
 fn main() {
-    let mut file = [0u8; MOST_BYTES];
+    let mut first = [0u8; MOST_BYTES];
+    let mut second = [0u8; MOST_BYTES];
+    let mut third = [0u8; MOST_BYTES];
     let mut turns = u64::MAX;
-    while turns > 0 && next_file(&mut file) {
+    while turns > 0 && next_case(&mut first, &mut second, &mut third) {
         turns -= 1;
     }
 }

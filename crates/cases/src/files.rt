@@ -1,0 +1,37 @@
+// A file is answered by its listing, the line that the host is handed, the line of the answer at the level, and an empty line.
+use crate::write;
+use crate::write_ended;
+use crate::write_handed;
+
+fn write_listing(file: &[u8]) -> bool {
+    let mut text = [0u8; text::ROOM];
+    let size = printing::print(file, &mut text);
+    write(&text[..size])
+}
+
+// Slices of one cell do for the line: the refusals that have one come before short.
+fn write_line(file: &[u8]) -> bool {
+    let mut transform = [0i64; 1];
+    let mut h = [0u64; 1];
+    let mut f = [0i64; 1];
+    let mut r = [0u64; 1];
+    let mut sums = [0i64; 1];
+    let priced = pricing::price(file, 0, &mut transform, &mut h, &mut f, &mut r, &mut sums);
+    write_handed(pricing::line(file, priced))
+}
+
+fn write_level(file: &[u8], level: u64) -> bool {
+    let mut text = [0u8; text::LEVEL_ROOM];
+    let size = printing::print_level(file, level, &mut text);
+    write_ended(&text[..size])
+}
+
+pub(crate) fn write_answer(file: &[u8], level: u64) -> bool {
+    if !write_listing(file) {
+        return false;
+    }
+    if !write_line(file) {
+        return false;
+    }
+    write_level(file, level)
+}

@@ -1,0 +1,47 @@
+// A header text with two sheets is answered as a file is; the line that the host is handed is one of the header text.
+use crate::write;
+use crate::write_ended;
+use crate::write_handed;
+
+fn write_listing(header: &[u8], rates: &[u8], members: &[u8]) -> bool {
+    let mut text = [0u8; text::ROOM];
+    let size = printing::print_sheets(header, rates, members, &mut text);
+    write(&text[..size])
+}
+
+// Slices of one cell do for the line: the refusals that have one come before short.
+fn write_line(header: &[u8], rates: &[u8], members: &[u8]) -> bool {
+    let mut transform = [0i64; 1];
+    let mut h = [0u64; 1];
+    let mut f = [0i64; 1];
+    let mut r = [0u64; 1];
+    let mut sums = [0i64; 1];
+    let priced = pricing::price_sheets(
+        header,
+        rates,
+        members,
+        0,
+        &mut transform,
+        &mut h,
+        &mut f,
+        &mut r,
+        &mut sums,
+    );
+    write_handed(pricing::line(header, priced))
+}
+
+fn write_level(header: &[u8], rates: &[u8], members: &[u8], level: u64) -> bool {
+    let mut text = [0u8; text::LEVEL_ROOM];
+    let size = printing::print_sheets_level(header, rates, members, level, &mut text);
+    write_ended(&text[..size])
+}
+
+pub(crate) fn write_answer(header: &[u8], rates: &[u8], members: &[u8], level: u64) -> bool {
+    if !write_listing(header, rates, members) {
+        return false;
+    }
+    if !write_line(header, rates, members) {
+        return false;
+    }
+    write_level(header, rates, members, level)
+}
