@@ -9,8 +9,11 @@ mod steps;
 use input::Source;
 use pricing::Priced;
 use printing::PrintedInput;
+use reader::FileRead;
 ghost use mathlib.Core.Path.{_≡_};
-ghost use Rattle.fund.specs.Reading.{reading};
+ghost use Rattle.fund.specs.Reading.{FundFile, Reading, read, reading};
+ghost use Rattle.laws.specs.Ranges.{FundOk};
+ghost use Rattle.reader.specs.Read.{fileRead};
 ghost use Rattle.valuation.specs.Valued.{lengths};
 ghost use Rattle.claims.specs.Demands.{Demands};
 ghost use Rattle.claims.specs.Listing.{Prints, PrintsLevel, PrintsRead, PrintsFile};
@@ -35,6 +38,24 @@ pub fn claimed_price(
         (priced (now (file .entry)) p (now (transform .exit)) (now (h .exit)) (now (f .exit)) (now (r .exit)) (now (sums .exit))) ⌝ }
 {
     pricing::price(file, level, transform, h, f, r, sums)
+}
+
+// The same of what was read of a text, where a reading of it, whose funds are in their ranges, gives it.
+pub fn claimed_price_read(
+    text: &[u8],
+    found: FileRead,
+    level: u64,
+    transform: &mut [i64],
+    h: &mut [u64],
+    f: &mut [i64],
+    r: &mut [u64],
+    sums: &mut [i64],
+) -> Priced
+    ensures { λ p. ⌜ ((x : Reading) → found ≡ fileRead x → ((fund : FundFile) → x ≡ read fund → FundOk fund) → Demands (now (text .entry)) x level
+        (lengths (now (transform .entry)) (now (h .entry)) (now (f .entry)) (now (r .entry)) (now (sums .entry)))
+        (priced (now (text .entry)) p (now (transform .exit)) (now (h .exit)) (now (f .exit)) (now (r .exit)) (now (sums .exit)))) ⌝ }
+{
+    pricing::price_read(text, found, level, transform, h, f, r, sums)
 }
 
 // The line that the host is handed is that of the outcome.

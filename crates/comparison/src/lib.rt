@@ -8,10 +8,8 @@ use moves::Moved;
 use pricing::Priced;
 use reader::FileRead;
 ghost use mathlib.Core.Path.{_≡_};
-ghost use Rattle.fund.specs.Reading.{reading};
 ghost use Rattle.valuation.specs.Valued.{lengths};
 ghost use Rattle.pricing.specs.Priced.{left};
-ghost use Rattle.reader.specs.Read.{fileRead};
 ghost use Rattle.comparison.specs.Comparison.{ifAccepted, Compares};
 ghost use Rattle.comparison.specs.Steps.{toldOf};
 
@@ -50,19 +48,13 @@ fn if_accepted(verdict: Verdict, comparison: Comparison) -> Comparison
     }
 }
 
-// What is told of two files that are priced. Both are read again, since a pricing answers no rows.
-fn told_priced(old: &[u8], before: Priced, new: &[u8], after: Priced) -> Comparison
-    ensures { λ r. ⌜ r ≡ ifAccepted (before .verdict) (ifAccepted (after .verdict)
-        (toldOf (fileRead (reading (now (old .entry)))) (before .figures) (fileRead (reading (now (new .entry)))) (after .figures))) ⌝ }
+// What is told of two files that are read and priced.
+fn told_priced(old: FileRead, before: Priced, new: FileRead, after: Priced) -> Comparison
+    ensures { λ r. ⌜ r ≡ ifAccepted (before .verdict) (ifAccepted (after .verdict) (toldOf old (before .figures) new (after .figures))) ⌝ }
 {
     let old_figures = before.figures;
     let new_figures = after.figures;
-    let comparison = told_read(
-        reader::read(old),
-        old_figures,
-        reader::read(new),
-        new_figures,
-    );
+    let comparison = told_read(old, old_figures, new, new_figures);
     let old_verdict = before.verdict;
     let new_verdict = after.verdict;
     if_accepted(old_verdict, if_accepted(new_verdict, comparison))
@@ -90,9 +82,29 @@ pub fn compare(
         (left (c .old) (now («old_transform» .exit)) (now («old_h» .exit)) (now («old_f» .exit)) (now («old_r» .exit)) (now («old_sums» .exit)))
         (left (c .new) (now («new_transform» .exit)) (now («new_h» .exit)) (now («new_f» .exit)) (now («new_r» .exit)) (now («new_sums» .exit))) ⌝ }
 {
-    let before = pricing::price(old, level, old_transform, old_h, old_f, old_r, old_sums);
-    let after = pricing::price(new, level, new_transform, new_h, new_f, new_r, new_sums);
-    let comparison = told_priced(old, before, new, after);
+    let first = reader::read(old);
+    let before = pricing::price_read(
+        old,
+        first,
+        level,
+        old_transform,
+        old_h,
+        old_f,
+        old_r,
+        old_sums,
+    );
+    let second = reader::read(new);
+    let after = pricing::price_read(
+        new,
+        second,
+        level,
+        new_transform,
+        new_h,
+        new_f,
+        new_r,
+        new_sums,
+    );
+    let comparison = told_priced(first, before, second, after);
     Compared {
         old: before,
         new: after,

@@ -19,7 +19,8 @@ use Rattle.fund.specs.Quantile.{runningSum}
 use Rattle.fund.specs.Distribution.{distributionBound}
 use Rattle.fund.specs.Answer.{fundTerms, fundStart, fundCells, fundTruncation, fundMean, fundPremium, fundWithin, fundFigures, lineAt, part, refused, lent, accepted, answerOf, answerTo}
 use Rattle.fund.specs.Listing.{digitsWithin, decimal, signedDecimal, joined, cellLine, cellLines, listed, refusedLine, printed, horizonIn, listingTo, listing}
-use Rattle.fund.specs.Starred.{StarredRow, text, file, eight, eightListed, eightWide, eightAndOne, atOrder, starred, wrongTurns, nearlyWide, wideLimit, inForce, someAges, withLines, worths, replacedAt, refusedAt, frequencies}
+use Rattle.fund.specs.Starred.{StarredRow, text, file, eight, eightListed, eightWide, eightAndOne, atOrder, starred, wrongTurns, inForce, someAges, withLines, worths, replacedAt, refusedAt, frequencies}
+use Rattle.fund.specs.WideLimit.{nearlyWide, wideLimit}
 use Rattle.fund.specs.Distributions.{listedAt, distributions}
 use Rattle.fund.specs.SeveralLives.{livesListed, threeListed, inOrder, behindRate, severalLives}
 

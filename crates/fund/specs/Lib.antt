@@ -18,6 +18,7 @@ pub mod Sheets
 pub mod Exact
 pub mod Distance
 pub mod Starred
+pub mod WideLimit
 pub mod Distributions
 pub mod SeveralLives
 pub mod Answers

@@ -1,3 +1,4 @@
 pub mod Valuing
 pub mod Reading
 pub mod Telling
+pub mod PricedRead

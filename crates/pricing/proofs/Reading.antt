@@ -1,4 +1,4 @@
--- The fund that is read and matched, from either source (from-ranges): where reading stops, so does the call (stop-answers); the horizon (horizon-read); the tables are matched as the file that
+-- The fund that is read and matched: where reading stops, so does the call (stops); the horizon (horizon-read); the tables are matched as the file that
 -- was read (read-matched); and what 3 to 6 answer of it, with its model points (matched-verdict, matched-points).
 use mathlib.Core.Path.{_≡_, refl, sym, _∙_, ap, ap₂}
 use mathlib.Core.List.{List, []}
@@ -17,27 +17,17 @@ use Rattle.fund.specs.Folding.{point, points}
 use Rattle.fund.specs.Refusals.{Lengths, matched}
 use Rattle.fund.specs.Answer.{Answer, refused, answerTo}
 use Rattle.fund.specs.Listing.{horizonIn}
-use Rattle.laws.specs.Ranges.{FundOk, read-ranges}
-use Rattle.laws.specs.SheetRanges.{sheet-ranges}
+use Rattle.laws.specs.Ranges.{FundOk}
 use Rattle.laws.specs.Rows.{blankRate, blankMember, blankPoint, rows-back}
 use Rattle.reader.specs.declared.FileRead.{FileRead}
 use Rattle.reader.specs.Read.{rateTable, memberTable, fileRead}
 use Rattle.matching.specs.declared.table.Matched.{Matched}
 use Rattle.matching.specs.Matching.{pointTable, withPoints, matching, matchedTables}
-use Rattle.pricing.specs.Joining.{answer-stopped}
-use Rattle.pricing.specs.declared.Source.{Source}
-use Rattle.pricing.specs.declared.Source.the-variants.{File, Sheets}
-use Rattle.pricing.specs.Priced.{readingFrom, lined, MatchedFund}
-use Rattle.pricing.proofs.Valuing.{lined-refused}
+use Rattle.pricing.specs.Priced.{MatchedFund}
 
 -- ---- what was read
--- A fund that is read, from either source, is in its ranges.
-pub from-ranges : (source : Source) (text rates members : List ℕ) (fund : FundFile) → readingFrom source text rates members ≡ read fund → FundOk fund
-from-ranges File text rates members fund e = read-ranges text fund e
-from-ranges Sheets text rates members fund e = sheet-ranges text rates members fund e
-
 module _ (r : Reading) (found : FileRead) (e : found ≡ fileRead r) where
-  stops : (why : Refusal) (place : ℕ) → found .verdict ≡ Refused why place → (x : Reading) → r ≡ x → r ≡ stopped why place
+  pub stops : (why : Refusal) (place : ℕ) → found .verdict ≡ Refused why place → (x : Reading) → r ≡ x → r ≡ stopped why place
   unfolding fileRead
   stops why place v (read fund) z =
       let w : found ≡ fileRead (read fund) = e ∙ ap fileRead z in
@@ -49,21 +39,14 @@ module _ (r : Reading) (found : FileRead) (e : found ≡ fileRead r) where
       let u : Refused why′ place′ ≡ Refused why place = sym (ap (λ (x : FileRead). x .verdict) w) ∙ v in
       z ∙ cc
 
-  pub stop-answers : (text : List ℕ) (why : Refusal) (place : ℕ) → found .verdict ≡ Refused why place → (n : Lengths) (a : Answer) → a ≡ refused [] n (Refused why place) → lined text a ≡ answerTo text n r
-  stop-answers text why place v n a k =
-      ap (lined text) k ∙ lined-refused text n why place ∙ sym (answer-stopped text n r why place (stops why place v r refl))
-
-  -- what reading accepts was read
-  pub horizon-read : found .verdict ≡ Accepted → found .fund .horizon ≡ horizonIn r
+  -- the horizon of what was read, 0 where reading stopped
+  pub horizon-read : found .fund .horizon ≡ horizonIn r
   unfolding fileRead horizonIn
-  horizon-read u = go r refl
+  horizon-read = go r refl
     where
       go : (x : Reading) → r ≡ x → found .fund .horizon ≡ horizonIn r
       go (read fund) z = ap (λ (x : FileRead). x .fund .horizon) (e ∙ ap fileRead z) ∙ ap horizonIn (sym z)
-      go (stopped why place) z =
-          let w : Refused why place ≡ Accepted = sym (ap (λ (x : FileRead). x .verdict) (e ∙ ap fileRead z)) ∙ u in
-          let n : _≡_ {A = ℕ} 0 1 = cc in
-          absurd (omega arith)
+      go (stopped why place) z = ap (λ (x : FileRead). x .fund .horizon) (e ∙ ap fileRead z) ∙ ap horizonIn (sym z)
 
   tables-back : (fund : FundFile) → FundOk fund → matchedTables (fund .header) (rateTable (fund .rates)) (length (fund .rates)) (memberTable (fund .members)) (length (fund .members)) ≡ matching fund
   unfolding matchedTables rateTable memberTable

@@ -8,24 +8,24 @@ use lib.Dec.{leb}
 use lib.IntN.{ℤ}
 use lib.ListN.{length, take, drop}
 use Rattle.fund.specs.declared.Fund.{Fund}
+use Rattle.fund.specs.declared.ModelPoint.{ModelPoint}
 use Rattle.fund.specs.declared.Verdict.{Verdict}
 use Rattle.fund.specs.declared.Verdict.the-variants.{Accepted, Refused}
 use Rattle.fund.specs.Base.{if_then_else_}
 use Rattle.fund.specs.Limits.{most-level}
-use Rattle.fund.specs.Reading.{FundFile, Reading, read, reading}
+use Rattle.fund.specs.Reading.{FundFile, Reading, read}
 use Rattle.fund.specs.Refusals.{Lengths}
 use Rattle.fund.specs.Quantile.{quantileOf}
-use Rattle.fund.specs.Answer.{part, Answer, answerTo}
+use Rattle.fund.specs.Answer.{part, Answer, refused, answerTo}
 use Rattle.fund.specs.Listing.{horizonIn}
-use Rattle.fund.specs.Sheets.{sheetReading}
 use Rattle.fund.specs.Distance.{WithinBounds, AverageExcess, NeverBelow, QuantileWithin}
 use Rattle.laws.specs.Ranges.{FundOk}
 use Rattle.matching.specs.declared.table.Matched.{Matched}
-use Rattle.matching.specs.Matching.{matching}
+use Rattle.matching.specs.Matching.{matching, matchedTables}
+use Rattle.reader.specs.declared.FileRead.{FileRead}
 use Rattle.valuation.specs.declared.Valued.{Valued}
+use Rattle.valuation.specs.Valued.{valuation}
 use Rattle.pricing.specs.declared.Priced.{Priced}
-use Rattle.pricing.specs.declared.Source.{Source}
-use Rattle.pricing.specs.declared.Source.the-variants.{File, Sheets}
 
 -- The answer that a call leaves: what it returns, and the slices.
 abbrev pub left : Priced → List ℤ → List ℕ → List ℤ → List ℕ → List ℤ → Answer
@@ -66,11 +66,6 @@ pub record Prices (text : List ℕ) (r : Reading) (level : ℕ) (n : Lengths) (p
   pub never-below : (fund : FundFile) → r ≡ read fund → a .verdict ≡ Accepted → NeverBelow fund a
   pub average : (fund : FundFile) → r ≡ read fund → a .verdict ≡ Accepted → AverageExcess fund
 
--- What is read from a source.
-abbrev pub readingFrom : Source → List ℕ → List ℕ → List ℕ → Reading
-readingFrom File text rates members = reading text
-readingFrom Sheets text rates members = sheetReading text rates members
-
 -- Reading gave a fund, in its ranges, whose header and members these are, and whose refusals 3 to 6 and model points were found.
 pub record MatchedFund (r : Reading) (fund : Fund) (m : Matched) (enrolled : ℕ) : Type 0 where
   pub of : FundFile
@@ -84,9 +79,33 @@ pub record MatchedFund (r : Reading) (fund : Fund) (m : Matched) (enrolled : ℕ
 abbrev pub lined : List ℕ → Answer → Answer
 lined text a = record { verdict = a .verdict; part = part text (a .verdict); figures = a .figures; D = a .D; H = a .H; f = a .f; R = a .R; F = a .F }
 
--- With its line, the answer is that of every reading of which this is known.
-abbrev pub ValuedFor : Fund → Matched → ℕ → Lengths → Answer → Type 0
-ValuedFor fund m enrolled n a = (text : List ℕ) (r : Reading) → MatchedFund r fund m enrolled → lined text a ≡ answerTo text n r
+-- Where 3 to 6 stopped, their refusal; else what the valuation of the first model points leaves.
+abbrev pub valuedBy : Fund → List ModelPoint → ℕ → Lengths → Verdict → Answer
+valuedBy fund points enrolled n Accepted = valuation fund enrolled (take enrolled points) n
+valuedBy fund points enrolled n (Refused why place) = refused [] n (Refused why place)
+
+abbrev pub valuedOf : Fund → Matched → ℕ → Lengths → Answer
+valuedOf fund m enrolled n = valuedBy fund (m .points) enrolled n (m .verdict)
+
+-- Where reading stopped, its refusal; else what 3 to 6 and the valuation answer of the tables, with the line of the verdict.
+abbrev pub matchedOf : FileRead → Matched
+matchedOf found = matchedTables (found .fund) (found .rates) (found .rated) (found .members) (found .enrolled)
+
+abbrev pub readBy : List ℕ → FileRead → Lengths → Verdict → Answer
+readBy text found n Accepted = lined text (valuedOf (found .fund) (matchedOf found) (found .enrolled) n)
+readBy text found n (Refused why place) = refused text n (Refused why place)
+
+abbrev pub readAnswer : List ℕ → FileRead → Lengths → Answer
+readAnswer text found n = readBy text found n (found .verdict)
+
+-- The contract of the call on what was read, whatever it is: each step's definition, one after the other. Of what a reading of a fund in its ranges gives it is that of the call on the
+-- text (proofs/PricedRead.prices-read).
+pub record PricesRead (text : List ℕ) (found : FileRead) (level : ℕ) (n : Lengths) (p : Priced) (a : Answer) : Type 0 where
+  pub answer : a ≡ readAnswer text found n
+  pub horizon : p .horizon ≡ horizonWith (p .verdict) (found .fund .horizon)
+  pub quantile : p .quantile ≡ quantileOf level (p .horizon) (a .F) (p .verdict)
+  pub ordered : p .start ≤ p .end
+  pub inside : p .end ≤ length text
 
 -- What is told of a valuation and of the sums that it left.
 pub record Tells (text : List ℕ) (level X : ℕ) (v : Valued) (sums : List ℤ) (p : Priced) : Type 0 where

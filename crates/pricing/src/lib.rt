@@ -11,9 +11,8 @@ ghost use mathlib.Core.Path.{_≡_};
 ghost use Rattle.fund.specs.Reading.{reading};
 ghost use Rattle.fund.specs.Quantile.{quantileOf};
 ghost use Rattle.fund.specs.Sheets.{sheetReading};
-ghost use Rattle.reader.specs.Read.{fileRead};
 ghost use Rattle.valuation.specs.Valued.{left as leftOf, lengths};
-ghost use Rattle.pricing.specs.Priced.{left, horizonWith, Tells, ValuedFor, Prices, readingFrom, lineOf};
+ghost use Rattle.pricing.specs.Priced.{left, horizonWith, Tells, valuedOf, Prices, PricesRead, lineOf};
 
 // What a call answers beside the result slices: the verdict, where the part of the host's bytes that goes with it starts and
 // ends, the horizon of a fund that is accepted, the figures, and the answer at the level.
@@ -24,12 +23,6 @@ pub struct Priced {
     pub horizon: u64,
     pub figures: Figures,
     pub quantile: Quantile,
-}
-
-// Where a fund is read from: a file, or a header text and two sheets.
-enum Source {
-    File,
-    Sheets,
 }
 
 // The horizon is told of a fund that is accepted.
@@ -82,9 +75,8 @@ fn valued(
     r: &mut [u64],
     sums: &mut [i64],
 ) -> Valued
-    ensures { λ v. ⌜ ValuedFor fund matched enrolled
-        (lengths (now (transform .entry)) (now (h .entry)) (now (f .entry)) (now (r .entry)) (now (sums .entry)))
-        (leftOf v (now (transform .exit)) (now (h .exit)) (now (f .exit)) (now (r .exit)) (now (sums .exit))) ⌝ }
+    ensures { λ v. ⌜ leftOf v (now (transform .exit)) (now (h .exit)) (now (f .exit)) (now (r .exit)) (now (sums .exit)) ≡
+        valuedOf fund matched enrolled (lengths (now (transform .entry)) (now (h .entry)) (now (f .entry)) (now (r .entry)) (now (sums .entry))) ⌝ }
 {
     let verdict = matched.verdict;
     match verdict {
@@ -99,23 +91,10 @@ fn valued(
     }
 }
 
-// What is read from a source.
-fn read_from(source: Source, text: &[u8], rates: &[u8], members: &[u8]) -> FileRead
-    ensures { λ r. ⌜ r ≡ fileRead (readingFrom source (now (text .entry)) (now (rates .entry)) (now (members .entry))) ⌝ }
-{
-    match source {
-        Source::File => reader::read(text),
-        Source::Sheets => sheet_reader::read(text, rates, members),
-    }
-}
-
-// Prices the fund of a source: where reading stops, its refusal; else the fund is matched and valued. One function for both sources, so that
-// what it calls has one caller.
-fn price_from(
-    source: Source,
+// Prices what was read of a text: where reading stopped, its refusal; else the fund is matched and valued. The part that goes with a verdict is one of the text.
+pub fn price_read(
     text: &[u8],
-    rates: &[u8],
-    members: &[u8],
+    found: FileRead,
     level: u64,
     transform: &mut [i64],
     h: &mut [u64],
@@ -123,11 +102,10 @@ fn price_from(
     r: &mut [u64],
     sums: &mut [i64],
 ) -> Priced
-    ensures { λ p. ⌜ Prices (now (text .entry)) (readingFrom source (now (text .entry)) (now (rates .entry)) (now (members .entry))) level
+    ensures { λ p. ⌜ PricesRead (now (text .entry)) found level
         (lengths (now (transform .entry)) (now (h .entry)) (now (f .entry)) (now (r .entry)) (now (sums .entry))) p
         (left p (now (transform .exit)) (now (h .exit)) (now (f .exit)) (now (r .exit)) (now (sums .exit))) ⌝ }
 {
-    let found = read_from(source, text, rates, members);
     let verdict = found.verdict;
     match verdict {
         Verdict::Refused(why, place) => {
@@ -161,21 +139,11 @@ pub fn price(
         (lengths (now (transform .entry)) (now (h .entry)) (now (f .entry)) (now (r .entry)) (now (sums .entry))) p
         (left p (now (transform .exit)) (now (h .exit)) (now (f .exit)) (now (r .exit)) (now (sums .exit))) ⌝ }
 {
-    price_from(
-        Source::File,
-        file,
-        file,
-        file,
-        level,
-        transform,
-        h,
-        f,
-        r,
-        sums,
-    )
+    let found = reader::read(file);
+    price_read(file, found, level, transform, h, f, r, sums)
 }
 
-// The same of a header text and two sheets of binary64 cells, of rates and of members. The part that goes with a verdict is one of the header text.
+// The same of a header text and two sheets of binary64 cells, of rates and of members.
 pub fn price_sheets(
     header: &[u8],
     rates: &[u8],
@@ -191,18 +159,8 @@ pub fn price_sheets(
         (lengths (now (transform .entry)) (now (h .entry)) (now (f .entry)) (now (r .entry)) (now (sums .entry))) p
         (left p (now (transform .exit)) (now (h .exit)) (now (f .exit)) (now (r .exit)) (now (sums .exit))) ⌝ }
 {
-    price_from(
-        Source::Sheets,
-        header,
-        rates,
-        members,
-        level,
-        transform,
-        h,
-        f,
-        r,
-        sums,
-    )
+    let found = sheet_reader::read(header, rates, members);
+    price_read(header, found, level, transform, h, f, r, sums)
 }
 
 // The line that the host is handed, a part of its own bytes.

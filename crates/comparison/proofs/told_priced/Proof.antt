@@ -6,12 +6,9 @@ use Rattle.comparison.proofs.told_priced.Tie as tie
 returns : tie.Need-returns
 returns c =
     let inner = c .before in
-    let told = inner .before in
-    let new = told .before in
-    let old = new .before in
-    rw (c .if-accepted2 .ensures, inner .if-accepted .ensures, told .told-read .ensures, old .read .ensures, new .read2 .ensures)
+    rw (c .if-accepted2 .ensures, inner .if-accepted .ensures, inner .before .told-read .ensures)
 
 pub told-priced-spec : {M : Type 1} → statement M
 told-priced-spec =
     tie.close
-    (tie.spec (λ c κs. search needs) (λ c κs. search needs) (λ c κs. search needs) (λ c κs. search needs) (λ c κs. search needs) returns)
+    (tie.spec (λ c κs. search needs) (λ c κs. search needs) (λ c κs. search needs) returns)
