@@ -774,7 +774,7 @@ def whole_checks(room, folder):
             ("listing", ("price",), {"given": GOOD}, (listing, refused), (level,)),
             ("level", ("price", "--level", "0.9", good), {}, (level, b"quantile=none\n", refused), (listing, level * 2)),
             ("sheets", ("price", "--sheets", *sheet_files), {}, (listing, refused), (level,)),
-            ("sheets", ("price", "--level", "0.9", "--sheets", *sheet_files), {}, (level, refused), (listing,)),
+            ("sheets_level", ("price", "--level", "0.9", "--sheets", *sheet_files), {}, (level, refused), (listing,)),
             ("compare", pair, {}, (compared(OLD, NEW), compared(REFUSED_OLD, NEW), compared(OLD, REFUSED_NEW), compared(REFUSED_OLD, REFUSED_NEW)),
              (b"unreadable=old\n", b"unreadable=old\nunreadable=new\n", compared(OLD, NEW) * 2, b"other=none\n"))]
     for program, words, options, whole, wrong in ways:
@@ -971,9 +971,24 @@ done
 """
 
 
+def crates_of(name):
+    """The crates that a program is made of, each behind those that it names, and the program last."""
+    lines = (line.split("#")[0].split(":") for line in (ROOT / "crates.txt").read_text().splitlines())
+    named = {line[0].strip(): line[1].split() for line in lines if len(line) == 2}
+    found = []
+
+    def visit(crate):
+        for other in named[crate]:
+            if other in named and other not in found:
+                visit(other)
+        found.append(crate)
+
+    visit(name)
+    return found
+
+
 def build_checks(room, folder):
-    needed = next(line.split(":")[1].split() for line in (ROOT / "crates.txt").read_text().splitlines() if line.startswith("listing:"))
-    crates = [name for name in needed if name not in ("io", "libc", "os")] + ["listing"]
+    crates = crates_of("listing")
     program = room.root / "target" / "bin" / "listing"
     kept = program.rename(folder / "listing program")
     tools = folder / "tools"
@@ -987,7 +1002,7 @@ def build_checks(room, folder):
     prover("exit 1")
     answer = room.run("price", good, path=tools)
     yield "build: failed: status, no listing", answer[:2] == (2, b"")
-    yield "build: failed: what the prover said", "fn whole::least: proved\nrt: algebra proved (3 s)\n" in answer[2]
+    yield "build: failed: what the prover said", f"fn whole::least: proved\nrt: {crates[0]} proved (3 s)\n" in answer[2]
     prover("exit 0")
     yield "build: no program: status", room.run("price", good, path=tools)[:2] == (2, b"")
     prover(f'cp "{kept}" "{program}"')
@@ -1057,7 +1072,7 @@ def checks():
 def main():
     missing = [program.name for program in PROGRAMS if not program.exists()]
     if missing:
-        print(f"not built: {' '.join(missing)}; rt check listing level sheets compare builds them", file=sys.stderr)
+        print(f"not built: {' '.join(missing)}; rt check listing level sheets sheets_level compare builds them", file=sys.stderr)
         return 2
     found = checks()
     skipped = [name for name, holds in found if holds is None]
