@@ -4,8 +4,8 @@ use crate::write_ended;
 use crate::write_handed;
 
 fn write_listing(file: &[u8]) -> bool {
-    let mut text = [0u8; text::ROOM];
-    let size = printing::print(file, &mut text);
+    let mut text = [0u8; answer_text::ROOM];
+    let size = fund_printing::print(file, &mut text);
     write(&text[..size])
 }
 
@@ -21,8 +21,8 @@ fn write_line(file: &[u8]) -> bool {
 }
 
 fn write_level(file: &[u8], level: u64) -> bool {
-    let mut text = [0u8; text::LEVEL_ROOM];
-    let size = printing::print_level(file, level, &mut text);
+    let mut text = [0u8; answer_text::LEVEL_ROOM];
+    let size = fund_printing::print_level(file, level, &mut text);
     write_ended(&text[..size])
 }
 

@@ -5,9 +5,9 @@ mod files;
 mod pairs;
 mod sheets;
 
+use fund_printing::MOST_BYTES;
 use libc::STDIN_FILENO;
 use libc::STDOUT_FILENO;
-use printing::MOST_BYTES;
 use spelling::Argument;
 ghost use Rattle.io.specs.Counts.{Counts};
 

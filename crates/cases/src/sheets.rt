@@ -4,8 +4,8 @@ use crate::write_ended;
 use crate::write_handed;
 
 fn write_listing(header: &[u8], rates: &[u8], members: &[u8]) -> bool {
-    let mut text = [0u8; text::ROOM];
-    let size = printing::print_sheets(header, rates, members, &mut text);
+    let mut text = [0u8; answer_text::ROOM];
+    let size = fund_printing::print_sheets(header, rates, members, &mut text);
     write(&text[..size])
 }
 
@@ -31,8 +31,8 @@ fn write_line(header: &[u8], rates: &[u8], members: &[u8]) -> bool {
 }
 
 fn write_level(header: &[u8], rates: &[u8], members: &[u8], level: u64) -> bool {
-    let mut text = [0u8; text::LEVEL_ROOM];
-    let size = printing::print_sheets_level(header, rates, members, level, &mut text);
+    let mut text = [0u8; answer_text::LEVEL_ROOM];
+    let size = fund_printing::print_sheets_level(header, rates, members, level, &mut text);
     write_ended(&text[..size])
 }
 

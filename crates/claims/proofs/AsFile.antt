@@ -14,7 +14,7 @@ use Rattle.equivalence.specs.SheetAnswer.{no-part, same-answer}
 use Rattle.pricing.specs.Priced.{horizonWith}
 use Rattle.claims.specs.Demands.{Received, partBytes}
 use Rattle.claims.specs.Sheets.{PricedAsFile}
-use Rattle.claims.proofs.Deriving.{Answered}
+use Rattle.claims.proofs.DemandsHold.{Answered}
 
 module _ (header rates members : List ℕ) (level : ℕ) (n : Lengths) (o : Received) (k : Answered header (sheetReading header rates members) level n o) where
   pub as-file : PricedAsFile header rates members level n o

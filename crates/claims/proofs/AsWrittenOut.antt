@@ -19,7 +19,7 @@ use Rattle.equivalence.specs.WrittenFile.{outText, out-read, out-priced}
 use Rattle.pricing.specs.Priced.{horizonWith}
 use Rattle.claims.specs.Demands.{Received}
 use Rattle.claims.specs.WrittenOut.{PricedWrittenOut}
-use Rattle.claims.proofs.Deriving.{Answered}
+use Rattle.claims.proofs.DemandsHold.{Answered}
 
 -- a verdict with another place
 module _ (g : ℕ → ℕ) where

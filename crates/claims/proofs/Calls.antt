@@ -20,21 +20,21 @@ use Rattle.fund.specs.Listing.{horizonIn, enough, listingTo}
 use Rattle.fund.specs.Distance.{WithinBounds, NeverBelow, QuantileWithin}
 use Rattle.laws.specs.Ranges.{FundOk, read-ranges}
 use Rattle.distance.specs.Distance.{distance, level-within, never-below}
-use Rattle.text.specs.Shown.{room}
+use Rattle.answer_text.specs.Shown.{room}
 use Rattle.writing.specs.Writing.{Written}
-use Rattle.printing.specs.declared.PrintedInput.{PrintedInput}
+use Rattle.fund_printing.specs.declared.PrintedInput.{PrintedInput}
 use Rattle.input.specs.AllRead.{first-bytes, fails-at, ends-at}
 use Rattle.prefix.specs.Prefix.{most-bytes}
-use Rattle.printing.specs.Input.{PrintsInput, PrintsLevelInput, ReadsFirst}
-use Rattle.printing.specs.Printed.{shownTo, levelLineTo, shownLevelTo}
+use Rattle.fund_printing.specs.Input.{PrintsInput, PrintsLevelInput, ReadsFirst}
+use Rattle.fund_printing.specs.Printed.{shownTo, levelLineTo, shownLevelTo}
 use Rattle.pricing.specs.declared.Priced.{Priced}
 use Rattle.pricing.specs.Priced.{left, horizonWith, Prices}
-use Rattle.pricing.specs.Joining.{told-horizon}
+use Rattle.pricing.specs.JoinedSteps.{told-horizon}
 use Rattle.miguepo.specs.Host.{Hosts}
 use Rattle.claims.specs.Demands.{partBytes, Demands}
 use Rattle.claims.specs.Listing.{Shows, PrintsTo, Prints, PrintsLevelTo, PrintsLevel, PrintsRead, PrintsFile}
 use Rattle.claims.specs.Calls.{handed, priced, quantileRead, ResultStruct, hosted}
-use Rattle.claims.proofs.Deriving.{Answered, demands}
+use Rattle.claims.proofs.DemandsHold.{Answered, demands}
 
 module _ (text : List ℕ) (r : Reading) (level : ℕ) (n : Lengths) (p : Priced) (d : List ℤ) (h : List ℕ) (f : List ℤ) (b : List ℕ) (s : List ℤ) (k : Prices text r level n p (left p d h f b s)) where
   is : left p d h f b s ≡ answerTo text n r

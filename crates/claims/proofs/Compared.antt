@@ -24,7 +24,7 @@ use Rattle.comparison.specs.declared.Comparison.{Comparison}
 use Rattle.comparison.specs.declared.Comparison.the-variants.{Moved, Refused as Unpriced}
 use Rattle.comparison.specs.Comparison.{ifAccepted, compared, Compares}
 use Rattle.comparison.specs.Exact.{ExactMove, RatesAlone}
-use Rattle.comparison_listing.specs.Printed.{comparisonListing, shownComparison, PrintsComparison}
+use Rattle.comparison_printing.specs.Printed.{comparisonListing, shownComparison, PrintsComparison}
 use Rattle.miguepo_comparison.specs.HostComparison.{Handed, comparisonFields, ReadBack, HostsComparison}
 use Rattle.claims.specs.Demands.{Received, Demands}
 use Rattle.claims.specs.Calls.{priced, hosted}

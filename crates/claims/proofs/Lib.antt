@@ -1,4 +1,4 @@
-mod Deriving
+mod DemandsHold
 mod Calls
 mod Tested
 mod AsFile

@@ -9,10 +9,10 @@ use Rattle.fund.specs.declared.Verdict.{Verdict}
 use Rattle.fund.specs.declared.Verdict.the-variants.{Accepted, Refused}
 use Rattle.fund.specs.Recursion.{Cell}
 use Rattle.fund.specs.Refusals.{Lengths, refuse, at0}
-use Rattle.limits.specs.declared.Recursed.{Recursed}
-use Rattle.limits.specs.declared.Recursed.the-variants.{Done, Short, Outside, Wide, Large}
-use Rattle.limits.specs.Tests.{tested, Tests}
-use Rattle.limits.proofs.Testing.{tested-kept}
+use Rattle.recursion_limits.specs.declared.Recursed.{Recursed}
+use Rattle.recursion_limits.specs.declared.Recursed.the-variants.{Done, Short, Outside, Wide, Large}
+use Rattle.recursion_limits.specs.Tests.{tested, Tests}
+use Rattle.recursion_limits.proofs.TestedLimits.{tested-kept}
 use Rattle.totals.specs.declared.Totals.{Totals}
 use Rattle.totals.specs.Tests.{testedOf, Tested}
 

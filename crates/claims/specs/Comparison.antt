@@ -14,7 +14,7 @@ use Rattle.comparison.specs.declared.Comparison.{Comparison}
 use Rattle.comparison.specs.declared.Comparison.the-variants.{Moved, Refused as Unpriced}
 use Rattle.comparison.specs.Exact.{ExactMove, RatesAlone}
 use Rattle.miguepo.specs.Bits.{readSigned}
-use Rattle.comparison_listing.specs.Printed.{comparisonOf, comparisonListing}
+use Rattle.comparison_printing.specs.Printed.{comparisonOf, comparisonListing}
 use Rattle.claims.specs.Demands.{Received, Demands}
 use Rattle.claims.specs.Listing.{Shows}
 

@@ -10,8 +10,8 @@ use Rattle.fund.specs.Quantile.{quantileOf}
 use Rattle.fund.specs.Answer.{answerTo}
 use Rattle.fund.specs.Listing.{horizonIn, enough, listingTo}
 use Rattle.fund.specs.Distance.{WithinBounds, NeverBelow, QuantileWithin}
-use Rattle.text.specs.Shown.{room}
-use Rattle.printing.specs.Printed.{levelLineTo}
+use Rattle.answer_text.specs.Shown.{room}
+use Rattle.fund_printing.specs.Printed.{levelLineTo}
 
 -- The text begins with what is shown, and what stood behind stays.
 pub record Begins (shown before after : List ℕ) (size : ℕ) : Type 0 where

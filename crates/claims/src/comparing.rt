@@ -110,7 +110,7 @@ pub fn claimed_host_comparison(
 pub fn claimed_comparison_print(old: &[u8], new: &[u8], text: &mut [u8]) -> usize
     ensures { λ size. ⌜ PrintsMove (now (old .entry)) (now (new .entry)) (now (text .entry)) (now (text .exit)) size ⌝ }
 {
-    comparison_listing::print(old, new, text)
+    comparison_printing::print(old, new, text)
 }
 
 // The move of any figures, or that they are outside their ranges.

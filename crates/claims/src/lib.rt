@@ -6,9 +6,9 @@ mod reading;
 mod sheets;
 mod steps;
 
+use fund_printing::PrintedInput;
 use input::Source;
 use pricing::Priced;
-use printing::PrintedInput;
 use reader::FileRead;
 ghost use mathlib.Core.Path.{_≡_};
 ghost use Rattle.fund.specs.Reading.{FundFile, Reading, read, reading};
@@ -92,14 +92,14 @@ pub fn claimed_host(
 pub fn claimed_print(file: &[u8], text: &mut [u8]) -> usize
     ensures { λ size. ⌜ Prints (now (file .entry)) (now (text .entry)) (now (text .exit)) size ⌝ }
 {
-    printing::print(file, text)
+    fund_printing::print(file, text)
 }
 
 // The listing of standard input.
 pub fn claimed_input(buffer: &mut [u8], text: &mut [u8]) -> PrintedInput
     ensures { λ p. ⌜ PrintsRead Prints (now (buffer .exit)) (now (text .entry)) (now (text .exit)) (p .failed) (p .read) (p .size) ⌝ }
 {
-    printing::print_input(buffer, text)
+    fund_printing::print_input(buffer, text)
 }
 
 // The listing of a file in memory, which is read as standard input is.
@@ -111,21 +111,21 @@ pub fn claimed_memory(
 ) -> PrintedInput
     ensures { λ p. ⌜ PrintsFile Prints (now (file .entry)) (now (pieces .entry)) (now (buffer .exit)) (now (text .entry)) (now (text .exit)) (p .failed) (p .read) (p .size) ⌝ }
 {
-    printing::print_source(Source::memory(), file, pieces, buffer, text)
+    fund_printing::print_source(Source::memory(), file, pieces, buffer, text)
 }
 
 // The line of the answer at a level.
 pub fn claimed_level(file: &[u8], level: u64, text: &mut [u8]) -> usize
     ensures { λ size. ⌜ PrintsLevel level (now (file .entry)) (now (text .entry)) (now (text .exit)) size ⌝ }
 {
-    printing::print_level(file, level, text)
+    fund_printing::print_level(file, level, text)
 }
 
 // The same of standard input.
 pub fn claimed_level_input(buffer: &mut [u8], level: u64, text: &mut [u8]) -> PrintedInput
     ensures { λ p. ⌜ PrintsRead (PrintsLevel level) (now (buffer .exit)) (now (text .entry)) (now (text .exit)) (p .failed) (p .read) (p .size) ⌝ }
 {
-    printing::print_level_input(buffer, level, text)
+    fund_printing::print_level_input(buffer, level, text)
 }
 
 // The same of a file in memory.
@@ -138,5 +138,5 @@ pub fn claimed_level_memory(
 ) -> PrintedInput
     ensures { λ p. ⌜ PrintsFile (PrintsLevel level) (now (file .entry)) (now (pieces .entry)) (now (buffer .exit)) (now (text .entry)) (now (text .exit)) (p .failed) (p .read) (p .size) ⌝ }
 {
-    printing::print_level_source(Source::memory(), file, pieces, buffer, level, text)
+    fund_printing::print_level_source(Source::memory(), file, pieces, buffer, level, text)
 }

@@ -83,7 +83,7 @@ pub fn claimed_print_sheets(header: &[u8], rates: &[u8], members: &[u8], text: &
     ensures { λ size. ⌜ PrintsTo (now (header .entry)) (sheetReading (now (header .entry)) (now (rates .entry)) (now (members .entry)))
         (now (text .entry)) (now (text .exit)) size ⌝ }
 {
-    printing::print_sheets(header, rates, members, text)
+    fund_printing::print_sheets(header, rates, members, text)
 }
 
 // The line of their answer at a level.
@@ -97,7 +97,7 @@ pub fn claimed_sheets_level(
     ensures { λ size. ⌜ PrintsLevelTo level (now (header .entry)) (sheetReading (now (header .entry)) (now (rates .entry)) (now (members .entry)))
         (now (text .entry)) (now (text .exit)) size ⌝ }
 {
-    printing::print_sheets_level(header, rates, members, level, text)
+    fund_printing::print_sheets_level(header, rates, members, level, text)
 }
 
 // Refusals 1, 2 and 11, or the header and the rows.

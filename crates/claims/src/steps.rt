@@ -31,13 +31,13 @@ ghost use Rattle.reader.specs.Read.{fileRead};
 ghost use Rattle.reader.specs.Part.{Spans};
 ghost use Rattle.matching.specs.Matching.{matchedTables};
 ghost use Rattle.recursion.specs.Recursion.{left, recursion};
-ghost use Rattle.limits.specs.Tests.{tested};
+ghost use Rattle.recursion_limits.specs.Tests.{tested};
 ghost use Rattle.tariff.specs.Gross.{grossOf};
 ghost use Rattle.totals.specs.Totals.{TotalsFor};
 ghost use Rattle.totals.specs.Tests.{testedOf};
 ghost use Rattle.valuation.specs.Valued.{left as leftOf, lengths, valuation};
-ghost use Rattle.text.specs.Shown.{shownAnswer, listingOf};
-ghost use Rattle.text.specs.Level.{levelLineOf};
+ghost use Rattle.answer_text.specs.Shown.{shownAnswer, listingOf};
+ghost use Rattle.answer_text.specs.Level.{levelLineOf};
 ghost use Rattle.writing.specs.Writing.{Written};
 
 // The named constants are the definitions' limits.
@@ -113,15 +113,15 @@ pub fn claimed_totals(fund: Fund, points: [ModelPoint; Fund::MEMBER_ROWS], n: us
 pub fn claimed_tests(
     fund: Fund,
     t: Totals,
-    d: usize,
+    transform: usize,
     h: usize,
     f: usize,
     r: usize,
     sums: usize,
 ) -> Verdict
-    ensures { λ v. ⌜ v ≡ testedOf fund t (record { D = d; H = h; f = f; R = r; F = sums }) ⌝ }
+    ensures { λ v. ⌜ v ≡ testedOf fund t (record { D = transform; H = h; f = f; R = r; F = sums }) ⌝ }
 {
-    totals::tested_totals(fund, t, d, h, f, r, sums)
+    totals::tested_totals(fund, t, transform, h, f, r, sums)
 }
 
 // Refusals 7 to 10, or the figures and the cells.
@@ -173,22 +173,22 @@ pub fn claimed_gross(fund: Fund, premium: i64, within: u64) -> Gross
 // Whether a transform, a start and slices keep the limits of the recursion.
 pub fn claimed_kept(
     horizon: usize,
-    d: &[i64],
+    transform: &[i64],
     h: &[u64],
     first: i64,
     bound: u64,
     cells: usize,
     bounds: usize,
 ) -> Recursed
-    ensures { λ t. ⌜ t ≡ tested horizon (now (d .entry)) (now (h .entry)) (record { f = first; R = bound }) cells bounds ⌝ }
+    ensures { λ t. ⌜ t ≡ tested horizon (now (transform .entry)) (now (h .entry)) (record { f = first; R = bound }) cells bounds ⌝ }
 {
-    limits::tested(horizon, d, h, first, bound, cells, bounds)
+    recursion_limits::tested(horizon, transform, h, first, bound, cells, bounds)
 }
 
 // The recursion on any transform and start.
 pub fn claimed_recursion(
     horizon: usize,
-    d: &[i64],
+    transform: &[i64],
     h: &[u64],
     first: i64,
     bound: u64,
@@ -196,16 +196,16 @@ pub fn claimed_recursion(
     r: &mut [u64],
 ) -> Recursed
     ensures { λ a. ⌜ left a (now (f .exit)) (now (r .exit)) ≡
-        recursion horizon (now (d .entry)) (now (h .entry)) (record { f = first; R = bound }) (length (now (f .entry))) (length (now (r .entry))) ⌝ }
+        recursion horizon (now (transform .entry)) (now (h .entry)) (record { f = first; R = bound }) (length (now (f .entry))) (length (now (r .entry))) ⌝ }
 {
-    recursion::recursion(horizon, d, h, first, bound, f, r)
+    recursion::recursion(horizon, transform, h, first, bound, f, r)
 }
 
 // The line of an answer at a level.
 pub fn claimed_level_line(verdict: Verdict, quantile: Quantile, text: &mut [u8]) -> usize
     ensures { λ size. ⌜ Written (levelLineOf verdict quantile (length (now (text .entry)))) (now (text .entry)) (now (text .exit)) size ⌝ }
 {
-    text::level_line(verdict, quantile, text)
+    answer_text::level_line(verdict, quantile, text)
 }
 
 // The text of an answer.
@@ -221,5 +221,5 @@ pub fn claimed_listing(
     ensures { λ size. ⌜ Written (listingOf (shownAnswer verdict figures (now (f .entry)) (now (r .entry)) (now (sums .entry))) horizon (length (now (text .entry))))
         (now (text .entry)) (now (text .exit)) size ⌝ }
 {
-    text::listing(verdict, figures, horizon, f, r, sums, text)
+    answer_text::listing(verdict, figures, horizon, f, r, sums, text)
 }

@@ -1,8 +1,8 @@
 // Compares fund files in pairs, an old one and a new one, whose paths are the arguments, and prints the listing of each comparison, with an empty line between two. Of a pair
 // that cannot be read it says which file.
+use fund_printing::MOST_BYTES;
 use libc::STDERR_FILENO;
 use libc::STDOUT_FILENO;
-use printing::MOST_BYTES;
 ghost use Prim.Native.Nat.{_+_, _^_, _<_};
 
 fn print_usage() {
@@ -16,8 +16,8 @@ fn print_text(text: &[u8]) {
 }
 
 fn print_listing(old: &[u8], new: &[u8]) {
-    let mut text = [0u8; comparison_listing::ROOM];
-    let size = comparison_listing::print(old, new, &mut text);
+    let mut text = [0u8; comparison_printing::ROOM];
+    let size = comparison_printing::print(old, new, &mut text);
     print_text(&text[..size]);
 }
 

@@ -2,5 +2,5 @@ pub mod Near
 pub mod GrossNear
 pub mod ExactMoves
 pub mod RatesAlone
-pub mod Sizes
-pub mod Comparing
+pub mod FigureSizes
+pub mod ComparedFiles

@@ -18,7 +18,7 @@ use Rattle.fund.specs.Spelling.{spelled}
 use Rattle.fund.specs.Reading.{FundFile, read, inRanges, HeaderLine, headerLines, headerOf, rising, rateInRange, noMember, readRows, readHeader, reading, fileRows}
 use Rattle.laws.specs.Accepted.{All}
 use Rattle.laws.specs.InForce.{Rising}
-use Rattle.laws.specs.Passing.{never, pass, PassedLine, rateLine, memberLine, endLine, passed-line, on-rate, on-member, on-end}
+use Rattle.laws.specs.PassedLines.{never, pass, PassedLine, rateLine, memberLine, endLine, passed-line, on-rate, on-member, on-end}
 use Rattle.laws.specs.Ranges.{and-true, above-all, rise-more}
 use Rattle.equivalence.specs.Texts.{texts, reading-texts, withoutLine, dropAt, texts-without}
 

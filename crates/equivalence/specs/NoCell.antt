@@ -12,7 +12,7 @@ use Rattle.fund.specs.declared.Refusal.{Refusal}
 use Rattle.fund.specs.declared.Refusal.the-variants.{Form, Range, Cell as CellRefusal}
 use Rattle.fund.specs.Lines.{Line, lines}
 use Rattle.fund.specs.Reading.{FundFile, Reading, read, stopped, headerLines, Row, rateRow, memberRow, endRow, otherRow, rowOf, rateInRange, memberInRange, noMember, atEnd, readRows, readHeader, reading, fileRows}
-use Rattle.laws.specs.Passing.{on-either}
+use Rattle.laws.specs.PassedLines.{on-either}
 use Rattle.equivalence.specs.HeaderOutcome.{form-not-cell, range-not-cell, Stops, Passes, passed, header-outcome}
 
 abbrev NotCell : Reading → Type 0

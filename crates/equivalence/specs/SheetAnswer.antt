@@ -24,7 +24,7 @@ use Rattle.fund.specs.Recursion.{Cell}
 use Rattle.fund.specs.Refusals.{first, unmatched, halfLine, Lengths, refuse, firstMember, valued, matched, verdict}
 use Rattle.fund.specs.Answer.{fundCells, Part, empty, namesLine, lineAt, part, Answer, refused, accepted, answerOf, answerTo, answer}
 use Rattle.fund.specs.Sheets.{sheetRows, readSheetRows, sheetReading, fileWith, sheetAnswer}
-use Rattle.laws.specs.Passing.{on-either}
+use Rattle.laws.specs.PassedLines.{on-either}
 use Rattle.equivalence.specs.SheetFile.{header-alone, same-reading}
 
 -- ---- the place of a refusal

@@ -21,7 +21,7 @@ use Rattle.fund.specs.Lines.{Line, linesFrom, lines}
 use Rattle.fund.specs.Reading.{FundFile, read, stopped, headerLines, rateRow, memberRow, rowOf, rateInRange, memberInRange, noMember, readRows, readHeader, reading, fileRows}
 use Rattle.fund.specs.Sheets.{rowCount, rowsOf, sheetRows, readSheetRows, readSheets, sheetReading, rateText, memberText, texts, fileWith}
 use Rattle.laws.specs.Accepted.{All}
-use Rattle.laws.specs.Passing.{never, on-pass, fundSoFar, on-end}
+use Rattle.laws.specs.PassedLines.{never, on-pass, fundSoFar, on-end}
 use Rattle.laws.specs.Ranges.{member-ok}
 use Rattle.equivalence.specs.HeaderOutcome.{Ended, Stops, Passes, passed, header-outcome, lines-append}
 use Rattle.laws.specs.RowTexts.{ShortRate, ShortMember, rate-first, member-first, endText, end-first}

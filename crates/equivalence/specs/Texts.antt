@@ -16,7 +16,7 @@ use Rattle.fund.specs.Base.{if_then_else_}
 use Rattle.fund.specs.Lines.{Line, begun, linesFrom, lines}
 use Rattle.fund.specs.Spelling.{spelled}
 use Rattle.fund.specs.Reading.{FundFile, stopped, inRanges, HeaderLine, headerLines, headerOf, Row, rateRow, memberRow, endRow, otherRow, rowOf, rateInRange, memberInRange, noMember, atEnd, readRows, readHeader, reading, fileRows}
-use Rattle.laws.specs.Passing.{on-pass}
+use Rattle.laws.specs.PassedLines.{on-pass}
 
 -- a line that starts nowhere
 abbrev bare : Line → Line

@@ -24,7 +24,7 @@ use Rattle.fund.specs.Answer.{answer, answerTo}
 use Rattle.fund.specs.Sheets.{readSheetRows, readSheets, sheetRows, sheetReading, rateText, memberText, texts, fileWith}
 use Rattle.laws.specs.Accepted.{All, all-map, all-append, all-replicate}
 use Rattle.laws.specs.Tables.{total-append, total-replicate}
-use Rattle.laws.specs.Passing.{never, pass, PassedLine, rateLine, memberLine, endLine, passed-line}
+use Rattle.laws.specs.PassedLines.{never, pass, PassedLine, rateLine, memberLine, endLine, passed-line}
 use Rattle.laws.specs.Ranges.{RateOk, MemberOk, FundOk, lives-more, member-ok, no-rows, read-ranges}
 use Rattle.laws.specs.SheetRanges.{sheet-rows-ranges}
 use Rattle.laws.specs.RowTexts.{ShortRate, ShortMember, endText}

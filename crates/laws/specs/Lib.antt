@@ -18,7 +18,7 @@ pub mod Tells
 pub mod Numbers
 pub mod Rows
 pub mod InForce
-pub mod Passing
+pub mod PassedLines
 pub mod Decimals
 pub mod RowTexts
 pub mod TakenRows

@@ -21,7 +21,7 @@ use Rattle.fund.specs.Spelling.{value, fields, allNumbers, numbers, behind, spe
 use Rattle.fund.specs.Reading.{FundFile, Reading, read, between, NumberRange, inRanges, HeaderLine, headerLines, headerOf, rising, rateInRange, livesInAll, memberInRange, readRows, readHeader, reading, fileRows}
 use Rattle.laws.specs.Accepted.{All}
 use Rattle.laws.specs.InForce.{Rising}
-use Rattle.laws.specs.Passing.{never, pass, PassedLine, rateLine, memberLine, endLine, passed-line}
+use Rattle.laws.specs.PassedLines.{never, pass, PassedLine, rateLine, memberLine, endLine, passed-line}
 
 pub record RateOk (r : Rate) : Type 0 where
   pub age : r .age ≤ most-age

@@ -11,7 +11,7 @@ use Rattle.fund.specs.declared.SheetRow.the-variants.{Rate as RateRow, Member a
 use Rattle.fund.specs.Lines.{Line}
 use Rattle.fund.specs.Reading.{FundFile, read, rateInRange, memberInRange}
 use Rattle.fund.specs.Sheets.{sheetRows, readSheetRows, readSheets, sheetReading}
-use Rattle.laws.specs.Passing.{never, pass, fundSoFar}
+use Rattle.laws.specs.PassedLines.{never, pass, fundSoFar}
 use Rattle.laws.specs.Ranges.{RowsOk, Reads, FundOk, more-rates, more-members, no-rows, text-ranges}
 
 pub sheet-rows-ranges : (rows : List SheetRow) (n : ℕ) (header : Fund) (rates : List Rate) (members : List Member) (fund : FundFile) → RowsOk rates members →

@@ -12,9 +12,9 @@ fn print_usage() {
 }
 
 fn print_line(level: u64) {
-    let mut file = [0u8; printing::MOST_BYTES];
-    let mut text = [0u8; text::LEVEL_ROOM];
-    let printed = printing::print_level_input(&mut file, level, &mut text);
+    let mut file = [0u8; fund_printing::MOST_BYTES];
+    let mut text = [0u8; answer_text::LEVEL_ROOM];
+    let printed = fund_printing::print_level_input(&mut file, level, &mut text);
     if printed.failed {
         os::fail(b"standard input");
         return;

@@ -2,9 +2,9 @@
 use libc::STDOUT_FILENO;
 
 fn main() {
-    let mut file = [0u8; printing::MOST_BYTES];
-    let mut text = [0u8; text::ROOM];
-    let printed = printing::print_input(&mut file, &mut text);
+    let mut file = [0u8; fund_printing::MOST_BYTES];
+    let mut text = [0u8; answer_text::ROOM];
+    let printed = fund_printing::print_input(&mut file, &mut text);
     if printed.failed {
         os::fail(b"standard input");
         return;

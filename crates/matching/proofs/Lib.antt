@@ -1,3 +1,3 @@
-pub mod Searching
-pub mod SoFar
-pub mod Answering
+pub mod FirstRow
+pub mod PointsSoFar
+pub mod MatchedRefusals

@@ -13,7 +13,7 @@ use Rattle.laws.specs.Tariff.{loading-le, withBound-pos}
 use Rattle.tariff.specs.declared.Gross.{Gross}
 use Rattle.tariff.specs.declared.Gross.the-variants.{Centimes, Outside}
 use Rattle.tariff.specs.Gross.{grossOf}
-use Rattle.tariff.proofs.Answering.{gross-inside}
+use Rattle.tariff.proofs.GrossAnswers.{gross-inside}
 use Rattle.moves.specs.Move.{excess, most-within}
 
 module _ (fund : Fund) (within : ℕ) (low : least-worth ≤ fund .worth) (high : fund .worth ≤ most-worth) where

@@ -21,7 +21,7 @@ use Rattle.fund.specs.Spelling.{spelled}
 use Rattle.fund.specs.Reading.{FundFile, Reading, stopped, inRanges, HeaderLine, headerOf, Row, rateRow, memberRow, endRow, otherRow, rowOf, rateInRange, memberInRange, noMember, atEnd, readRows, readHeader, fileRows}
 use Rattle.fund.specs.Sheets.{readSheets}
 use Rattle.laws.specs.Accepted.{All}
-use Rattle.laws.specs.Passing.{on-pass}
+use Rattle.laws.specs.PassedLines.{on-pass}
 use Rattle.prefix.specs.Lines.{Cut, over, spent, same, inside}
 use Rattle.prefix.specs.Spelling.{most-line, Unspelled, open-line, long-line}
 

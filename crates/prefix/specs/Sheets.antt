@@ -16,7 +16,7 @@ use Rattle.fund.specs.Reading.{stopped, headerLines, rateInRange, memberInRange
 use Rattle.fund.specs.SheetCells.{rate-width, member-width, rateRowOf, memberRowOf}
 use Rattle.fund.specs.Sheets.{rowsOf, sheetRows, readSheetRows, readSheets, sheetReading}
 use Rattle.laws.specs.Accepted.{All, all-front, all-of}
-use Rattle.laws.specs.Passing.{on-pass}
+use Rattle.laws.specs.PassedLines.{on-pass}
 use Rattle.laws.specs.Ranges.{rate-ok, member-ok}
 use Rattle.laws.specs.SheetRows.{SameFirst, same, both, rows-first, map-first}
 use Rattle.laws.specs.TakenRows.{NoMember, NoRate, rate-row, member-row}

@@ -1,4 +1,4 @@
-pub mod Valuing
+pub mod ValuedAnswer
 pub mod Reading
-pub mod Telling
+pub mod ToldAnswer
 pub mod PricedRead

@@ -12,11 +12,11 @@ use Rattle.laws.specs.Ranges.{FundOk}
 use Rattle.reader.specs.declared.FileRead.{FileRead}
 use Rattle.reader.specs.Read.{fileRead}
 use Rattle.pricing.specs.declared.Priced.{Priced}
-use Rattle.pricing.specs.Joining.{answer-stopped}
+use Rattle.pricing.specs.JoinedSteps.{answer-stopped}
 use Rattle.pricing.specs.Priced.{left, lined, horizonWith, MatchedFund, valuedBy, matchedOf, readBy, readAnswer, PricesRead, Prices}
-use Rattle.pricing.proofs.Valuing.{matched-answers, valued-answers}
+use Rattle.pricing.proofs.ValuedAnswer.{matched-answers, valued-answers}
 use Rattle.pricing.proofs.Reading.{stops, horizon-read, read-matched, matched-verdict, matched-points, few-enrolled}
-use Rattle.pricing.proofs.Telling.{prices}
+use Rattle.pricing.proofs.ToldAnswer.{prices}
 
 module _ (text : List ℕ) (r : Reading) (found : FileRead) (e : found ≡ fileRead r) (ok : (fund : FundFile) → r ≡ read fund → FundOk fund) (n : Lengths) where
   -- the tables of a fund that was read

@@ -1,1 +1,1 @@
-mod Reaching
+mod ReachedLevel

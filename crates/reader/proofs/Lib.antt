@@ -2,5 +2,5 @@ pub mod Lines
 pub mod Headers
 pub mod Rows
 pub mod Steps
-pub mod SoFar
+pub mod RowsSoFar
 pub mod Parts

@@ -16,7 +16,7 @@ use Rattle.laws.specs.Cells.{addF}
 use Rattle.whole.specs.declared.Sums.{Sums}
 use Rattle.whole.specs.Sign.{signed}
 use Rattle.whole.specs.Sums.{sumOf, WithPart}
-use Rattle.limits.specs.Limits.{CellFits, most-error}
+use Rattle.recursion_limits.specs.Limits.{CellFits, most-error}
 use Rattle.recursion.specs.Steps.{opposite, Added}
 use Rattle.recursion.proofs.Opposite.{nearest-product}
 

@@ -19,7 +19,7 @@ use Rattle.laws.specs.Cells.{addF, addR, noEntry, cellAt-zero, cellAt-f, cellAt
 use Rattle.laws.specs.Tables.{length-table, getD-table}
 use Rattle.whole.specs.declared.Sums.{Sums}
 use Rattle.whole.specs.Sums.{sumOf}
-use Rattle.limits.specs.Limits.{CellFits}
+use Rattle.recursion_limits.specs.Limits.{CellFits}
 use Rattle.recursion.specs.Slices.{cellIn, entryIn, entriesIn, cellOf, CellsFit}
 use Rattle.recursion.specs.Steps.{SumsTo, CellsFilled}
 

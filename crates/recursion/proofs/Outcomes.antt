@@ -21,12 +21,12 @@ use Rattle.laws.specs.Tables.{table-first, map-table}
 use Rattle.laws.specs.Slices.{lent-is}
 use Rattle.laws.specs.Valued.{narrow-cell, wide-cell}
 use Rattle.laws.specs.Cells.{cellAt, cells-are}
-use Rattle.limits.specs.declared.Recursed.{Recursed}
-use Rattle.limits.specs.declared.Recursed.the-variants.{Done, Short, Outside, Wide, Large}
-use Rattle.limits.specs.Limits.{most-cell, CellFits}
-use Rattle.limits.specs.Tests.{large, Kept, Tests}
-use Rattle.limits.proofs.Recursed as R
-use Rattle.limits.proofs.Testing.{small-cell, tested-kept}
+use Rattle.recursion_limits.specs.declared.Recursed.{Recursed}
+use Rattle.recursion_limits.specs.declared.Recursed.the-variants.{Done, Short, Outside, Wide, Large}
+use Rattle.recursion_limits.specs.Limits.{most-cell, CellFits}
+use Rattle.recursion_limits.specs.Tests.{large, Kept, Tests}
+use Rattle.recursion_limits.proofs.Recursed as R
+use Rattle.recursion_limits.proofs.TestedLimits.{small-cell, tested-kept}
 use Rattle.recursion.specs.Slices.{cellIn, entriesIn}
 use Rattle.recursion.specs.Recursion.{stopped, cellsTo, after, recursed, left, leaves, recursion}
 use Rattle.recursion.specs.Steps.{CellsFilled, StepsTo, StepsFrom, CarriedOut, Settled}

@@ -5,7 +5,7 @@ use native.Mathlib.Nat as N
 use native.Mathlib.Omega.{arith}
 use Rattle.rounding.specs.Rounding.{near}
 use Rattle.rounding.proofs.Rest.{near-raised}
-use Rattle.limits.specs.Limits.{most-cell}
+use Rattle.recursion_limits.specs.Limits.{most-cell}
 use Rattle.recursion.specs.Places.{most-small-size}
 
 pub record Parts (a b : ℕ) : Type 0 where

@@ -8,8 +8,8 @@ use lib.IntN.{ℤ, pos, natAbs, _+ℤ_}
 use lib.ListN.{getD}
 use Rattle.laws.specs.Cells.{addF, addR}
 use Rattle.whole.specs.declared.Sums.{Sums}
-use Rattle.limits.specs.Limits.{TransformFits}
-use Rattle.limits.proofs.Growing.{sumN-grow}
+use Rattle.recursion_limits.specs.Limits.{TransformFits}
+use Rattle.recursion_limits.proofs.PartialSums.{sumN-grow}
 use Rattle.recursion.specs.Slices.{cellIn, entryIn, CellsFit}
 use Rattle.recursion.specs.Places.{Blank, from, Listed}
 use Rattle.recursion.specs.Steps.{most-part-sum, SumsFit, Added, SumsTo}

@@ -7,9 +7,9 @@ use Rattle.fund.specs.Base.{if_then_else_}
 use Rattle.fund.specs.Recursion.{Cell, cells}
 use Rattle.fund.specs.Refusals.{wide}
 use Rattle.fund.specs.Answer.{lent}
-use Rattle.limits.specs.declared.Recursed.{Recursed}
-use Rattle.limits.specs.declared.Recursed.the-variants.{Done, Short, Outside, Wide, Large}
-use Rattle.limits.specs.Tests.{large, tested}
+use Rattle.recursion_limits.specs.declared.Recursed.{Recursed}
+use Rattle.recursion_limits.specs.declared.Recursed.the-variants.{Done, Short, Outside, Wide, Large}
+use Rattle.recursion_limits.specs.Tests.{large, tested}
 use Rattle.recursion.specs.Slices.{entriesIn}
 
 -- The first of the cells, from place x on, that is too wide or, where it is not, too large.

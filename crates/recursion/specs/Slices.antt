@@ -6,7 +6,7 @@ use lib.ListN.{length, getD}
 use Rattle.fund.specs.Base.{table}
 use Rattle.fund.specs.Recursion.{Cell, Entry}
 use Rattle.laws.specs.Cells.{cellAt}
-use Rattle.limits.specs.Limits.{CellFits}
+use Rattle.recursion_limits.specs.Limits.{CellFits}
 
 -- f(x) and R(x), D(k+1) and H(k+1)
 abbrev pub cellIn : List ℤ → List ℕ → ℕ → Cell

@@ -12,9 +12,9 @@ use Rattle.fund.specs.Recursion.{Cell, Entry}
 use Rattle.laws.specs.Cells.{addF, addR, cellAt}
 use Rattle.whole.specs.declared.Sums.{Sums}
 use Rattle.whole.specs.Sums.{sumOf}
-use Rattle.limits.specs.declared.Recursed.{Recursed}
-use Rattle.limits.specs.declared.Recursed.the-variants.{Done, Short, Outside, Wide, Large}
-use Rattle.limits.specs.Limits.{most-transform, most-error, most-cell, sizes, CellFits}
+use Rattle.recursion_limits.specs.declared.Recursed.{Recursed}
+use Rattle.recursion_limits.specs.declared.Recursed.the-variants.{Done, Short, Outside, Wide, Large}
+use Rattle.recursion_limits.specs.Limits.{most-transform, most-error, most-cell, sizes, CellFits}
 use Rattle.recursion.specs.Slices.{cellIn, entryIn, entriesIn, cellOf}
 use Rattle.recursion.specs.Recursion.{left, recursed, recursion}
 

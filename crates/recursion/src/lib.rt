@@ -4,7 +4,7 @@ mod places;
 mod products;
 mod steps;
 
-pub use limits::Recursed;
+pub use recursion_limits::Recursed;
 ghost use mathlib.Core.Path.{_≡_};
 ghost use lib.ListN.{length};
 ghost use Rattle.recursion.specs.Recursion.{left, recursion};
@@ -13,21 +13,21 @@ ghost use Rattle.recursion.specs.Steps.{CarriedOut, Settled};
 // The limits, and where they are kept the steps.
 fn carried_out(
     horizon: usize,
-    d: &[i64],
+    transform: &[i64],
     h: &[u64],
     first: i64,
     bound: u64,
     f: &mut [i64],
     r: &mut [u64],
 ) -> Recursed
-    ensures { λ a. ⌜ CarriedOut horizon (now (d .entry)) (now (h .entry)) (record { f = first; R = bound })
+    ensures { λ a. ⌜ CarriedOut horizon (now (transform .entry)) (now (h .entry)) (record { f = first; R = bound })
         (length (now (f .entry))) (length (now (r .entry))) (now (f .exit)) (now (r .exit)) a ⌝ }
 {
-    let tested = limits::tested(horizon, d, h, first, bound, f.len(), r.len());
+    let tested = recursion_limits::tested(horizon, transform, h, first, bound, f.len(), r.len());
     let Recursed::Done = tested else {
         return tested;
     };
-    steps::all_steps(horizon, d, h, first, bound, f, r)
+    steps::all_steps(horizon, transform, h, first, bound, f, r)
 }
 
 // Cells that are not done are cleared.
@@ -44,7 +44,7 @@ fn cleared_unless_done(answer: Recursed, f: &mut [i64], r: &mut [u64]) -> Recurs
 // Leaves f and R from 0 to X and zeros beyond, or zeros. D(0), H(0) and what stands beyond X are not read.
 pub fn recursion(
     horizon: usize,
-    d: &[i64],
+    transform: &[i64],
     h: &[u64],
     first: i64,
     bound: u64,
@@ -52,8 +52,8 @@ pub fn recursion(
     r: &mut [u64],
 ) -> Recursed
     ensures { λ a. ⌜ left a (now (f .exit)) (now (r .exit)) ≡
-        recursion horizon (now (d .entry)) (now (h .entry)) (record { f = first; R = bound }) (length (now (f .entry))) (length (now (r .entry))) ⌝ }
+        recursion horizon (now (transform .entry)) (now (h .entry)) (record { f = first; R = bound }) (length (now (f .entry))) (length (now (r .entry))) ⌝ }
 {
-    let answer = carried_out(horizon, d, h, first, bound, f, r);
+    let answer = carried_out(horizon, transform, h, first, bound, f, r);
     cleared_unless_done(answer, f, r)
 }

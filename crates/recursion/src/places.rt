@@ -49,10 +49,15 @@ fn note(list: &mut [usize], p: Places, k: usize, d: i64, h: u64) -> Places
 }
 
 // The places below the horizon, in rising order: k stands for D(k+1) and H(k+1).
-pub(crate) fn list_places(horizon: usize, d: &[i64], h: &[u64], list: &mut [usize]) -> Places
-    requires { ⌜ (horizon < length (now d)) × (horizon < length (now h)) × (horizon ≤ length (now list)) ⌝ }
-    ensures { λ p. ⌜ Listed horizon (now (d .entry)) (now (h .entry)) (now (list .exit)) (p .count)
-        × (p .small ≡ true → AllSmall horizon (now (d .entry)) (now (h .entry))) ⌝ }
+pub(crate) fn list_places(
+    horizon: usize,
+    transform: &[i64],
+    h: &[u64],
+    list: &mut [usize],
+) -> Places
+    requires { ⌜ (horizon < length (now transform)) × (horizon < length (now h)) × (horizon ≤ length (now list)) ⌝ }
+    ensures { λ p. ⌜ Listed horizon (now (transform .entry)) (now (h .entry)) (now (list .exit)) (p .count)
+        × (p .small ≡ true → AllSmall horizon (now (transform .entry)) (now (h .entry))) ⌝ }
 {
     let mut p = Places {
         count: 0,
@@ -60,7 +65,7 @@ pub(crate) fn list_places(horizon: usize, d: &[i64], h: &[u64], list: &mut [usiz
     };
     let mut k: usize = 0;
     while k < horizon {
-        p = note(list, p, k, d[k + 1], h[k + 1]);
+        p = note(list, p, k, transform[k + 1], h[k + 1]);
         k += 1;
     }
     p

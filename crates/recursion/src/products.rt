@@ -5,7 +5,7 @@ ghost use mathlib.Core.Path.{_≡_};
 ghost use mathlib.Core.Bool.{true};
 ghost use Prim.Native.Nat.{_*_, _^_, _≤_};
 ghost use Rattle.rounding.specs.Rounding.{near, up};
-ghost use Rattle.limits.specs.Limits.{most-cell};
+ghost use Rattle.recursion_limits.specs.Limits.{most-cell};
 ghost use Rattle.recursion.specs.Places.{most-small-size, SmallEntry};
 ghost use Rattle.recursion.specs.Steps.{opposite, SumsFit, Added};
 

@@ -3,8 +3,8 @@ use super::places;
 use super::places::Places;
 use super::products;
 use fund::Fund;
-use limits::MOST_CELL;
-use limits::Recursed;
+use recursion_limits::MOST_CELL;
+use recursion_limits::Recursed;
 use whole::Signed;
 use whole::Sums;
 ghost use mathlib.Core.Path.{_≡_};
@@ -13,8 +13,8 @@ ghost use lib.IntN.{pos};
 ghost use lib.ListN.{length, replicate, set};
 ghost use Rattle.rounding.specs.Rounding.{near, nearest, up};
 ghost use Rattle.whole.specs.Sums.{sumOf};
-ghost use Rattle.limits.specs.Limits.{CellFits, TransformFits};
-ghost use Rattle.limits.specs.Tests.{Kept};
+ghost use Rattle.recursion_limits.specs.Limits.{CellFits, TransformFits};
+ghost use Rattle.recursion_limits.specs.Tests.{Kept};
 ghost use Rattle.recursion.specs.Slices.{cellIn, CellsFit};
 ghost use Rattle.recursion.specs.Places.{PlacesOf};
 ghost use Rattle.recursion.specs.Steps.{most-part-sum, SumsTo, StepsFor, StepsFrom};
@@ -42,50 +42,50 @@ fn start_cells(f: &mut [i64], r: &mut [u64], first: i64, bound: u64)
 // The start and all steps from it.
 pub(crate) fn all_steps(
     horizon: usize,
-    d: &[i64],
+    transform: &[i64],
     h: &[u64],
     first: i64,
     bound: u64,
     f: &mut [i64],
     r: &mut [u64],
 ) -> Recursed
-    requires { ⌜ Kept horizon (now d) (now h) (record { f = first; R = bound }) (length (now f)) (length (now r)) ⌝ }
-    ensures { λ a. ⌜ StepsFrom horizon (now (d .entry)) (now (h .entry)) (record { f = first; R = bound })
+    requires { ⌜ Kept horizon (now transform) (now h) (record { f = first; R = bound }) (length (now f)) (length (now r)) ⌝ }
+    ensures { λ a. ⌜ StepsFrom horizon (now (transform .entry)) (now (h .entry)) (record { f = first; R = bound })
         (length (now (f .entry))) (length (now (r .entry))) (now (f .exit)) (now (r .exit)) a ⌝ }
 {
     start_cells(f, r, first, bound);
-    steps(horizon, d, h, f, r)
+    steps(horizon, transform, h, f, r)
 }
 
 // Fills f and r from 1 to the horizon, or stops at the first cell that is too wide, or too large.
-fn steps(horizon: usize, d: &[i64], h: &[u64], f: &mut [i64], r: &mut [u64]) -> Recursed
-    requires { ⌜ TransformFits horizon (now d) (now h) ⌝ }
+fn steps(horizon: usize, transform: &[i64], h: &[u64], f: &mut [i64], r: &mut [u64]) -> Recursed
+    requires { ⌜ TransformFits horizon (now transform) (now h) ⌝ }
     requires { ⌜ (horizon < length (now f)) × (horizon < length (now r)) × CellFits (cellIn (now f) (now r) 0) ⌝ }
-    ensures { λ a. ⌜ StepsFor horizon (now (d .entry)) (now (h .entry)) (now (f .entry)) (now (r .entry)) (now (f .exit)) (now (r .exit)) a ⌝ }
+    ensures { λ a. ⌜ StepsFor horizon (now (transform .entry)) (now (h .entry)) (now (f .entry)) (now (r .entry)) (now (f .exit)) (now (r .exit)) a ⌝ }
 {
     let mut list = [0usize; MOST_PLACES];
-    let p = places::list_places(horizon, d, h, &mut list);
-    fill_cells(horizon, d, h, &list, p, f, r)
+    let p = places::list_places(horizon, transform, h, &mut list);
+    fill_cells(horizon, transform, h, &list, p, f, r)
 }
 
 // The same, where the places are listed.
 fn fill_cells(
     horizon: usize,
-    d: &[i64],
+    transform: &[i64],
     h: &[u64],
     list: &[usize],
     p: Places,
     f: &mut [i64],
     r: &mut [u64],
 ) -> Recursed
-    requires { ⌜ TransformFits horizon (now d) (now h) ⌝ }
+    requires { ⌜ TransformFits horizon (now transform) (now h) ⌝ }
     requires { ⌜ (horizon < length (now f)) × (horizon < length (now r)) × CellFits (cellIn (now f) (now r) 0) ⌝ }
-    requires { ⌜ PlacesOf horizon (now d) (now h) (now list) p ⌝ }
-    ensures { λ a. ⌜ StepsFor horizon (now (d .entry)) (now (h .entry)) (now (f .entry)) (now (r .entry)) (now (f .exit)) (now (r .exit)) a ⌝ }
+    requires { ⌜ PlacesOf horizon (now transform) (now h) (now list) p ⌝ }
+    ensures { λ a. ⌜ StepsFor horizon (now (transform .entry)) (now (h .entry)) (now (f .entry)) (now (r .entry)) (now (f .exit)) (now (r .exit)) a ⌝ }
 {
     let mut last: usize = 0;
     while last < horizon {
-        let s = sums(horizon, d, h, &f[..], &r[..], last, list, p);
+        let s = sums(horizon, transform, h, &f[..], &r[..], last, list, p);
         let x = (last + 1) as u64;
         let bound = bound_of(s, x);
         if Fund::MOST_BOUND < bound {
@@ -105,7 +105,7 @@ fn fill_cells(
 // The sums for the cell after `last`: D(1), D(2), .. meet f(last), f(last - 1), .. to f(0). Only places are visited.
 fn sums(
     horizon: usize,
-    d: &[i64],
+    transform: &[i64],
     h: &[u64],
     f: &[i64],
     r: &[u64],
@@ -113,10 +113,10 @@ fn sums(
     list: &[usize],
     p: Places,
 ) -> Sums
-    requires { ⌜ TransformFits horizon (now d) (now h) ⌝ }
+    requires { ⌜ TransformFits horizon (now transform) (now h) ⌝ }
     requires { ⌜ CellsFit (now f) (now r) last × (last < horizon) ⌝ }
-    requires { ⌜ PlacesOf horizon (now d) (now h) (now list) p ⌝ }
-    ensures { λ s. ⌜ SumsTo (now (d .entry)) (now (h .entry)) (now (f .entry)) (now (r .entry)) last (suc last) s ⌝ }
+    requires { ⌜ PlacesOf horizon (now transform) (now h) (now list) p ⌝ }
+    ensures { λ s. ⌜ SumsTo (now (transform .entry)) (now (h .entry)) (now (f .entry)) (now (r .entry)) last (suc last) s ⌝ }
 {
     let mut s = Sums {
         plus: 0,
@@ -129,7 +129,14 @@ fn sums(
         if last < k {
             return s;
         }
-        s = products::add(p.small, s, d[k + 1], h[k + 1], f[last - k], r[last - k]);
+        s = products::add(
+            p.small,
+            s,
+            transform[k + 1],
+            h[k + 1],
+            f[last - k],
+            r[last - k],
+        );
         j += 1;
     }
     s

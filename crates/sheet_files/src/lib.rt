@@ -1,7 +1,7 @@
 // The fund in three files that a program's arguments name: a header text and two sheets of binary64 cells, the rates and the members. What is
 // asked of it, or the refusal's line, goes to standard output.
+use fund_printing::MOST_BYTES;
 use libc::STDOUT_FILENO;
-use printing::MOST_BYTES;
 
 pub enum Asked {
     Listing,
@@ -15,14 +15,14 @@ fn print_text(text: &[u8]) {
 }
 
 fn print_listing(header: &[u8], rates: &[u8], members: &[u8]) {
-    let mut text = [0u8; text::ROOM];
-    let size = printing::print_sheets(header, rates, members, &mut text);
+    let mut text = [0u8; answer_text::ROOM];
+    let size = fund_printing::print_sheets(header, rates, members, &mut text);
     print_text(&text[..size]);
 }
 
 fn print_line(header: &[u8], rates: &[u8], members: &[u8], level: u64) {
-    let mut text = [0u8; text::LEVEL_ROOM];
-    let size = printing::print_sheets_level(header, rates, members, level, &mut text);
+    let mut text = [0u8; answer_text::LEVEL_ROOM];
+    let size = fund_printing::print_sheets_level(header, rates, members, level, &mut text);
     print_text(&text[..size]);
 }
 

@@ -11,7 +11,7 @@ use Rattle.fund.specs.declared.Verdict.the-variants.{Accepted}
 use Rattle.fund.specs.Reading.{stopped}
 use Rattle.reader.specs.declared.FileRead.{FileRead}
 use Rattle.reader.specs.Read.{rateTable, memberTable, fileRead}
-use Rattle.reader.proofs.SoFar.{Tables, blank, rate-put, member-put, all-read}
+use Rattle.reader.proofs.RowsSoFar.{Tables, blank, rate-put, member-put, all-read}
 use Rattle.sheet_reader.specs.declared.rows.RowStep.{RowStep}
 use Rattle.sheet_reader.specs.declared.rows.RowStep.the-variants.{Rate as RateNext, Member as MemberNext, End, Stopped}
 use Rattle.sheet_reader.specs.Rows.{rowsFrom, afterRow, RowStepped}

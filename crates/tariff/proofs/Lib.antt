@@ -1,3 +1,3 @@
-pub mod Answering
+pub mod GrossAnswers
 mod WithBound
 mod Parts

@@ -2,9 +2,9 @@ pub mod PointElement
 mod PointSums
 mod Caps
 mod Terms
-mod Multiplying
+mod StartProduct
 mod TableTotals
 mod TableCalls
 pub mod FirstPoints
 pub mod InsideTells
-pub mod Testing
+pub mod TestedTotals

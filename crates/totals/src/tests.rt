@@ -8,10 +8,10 @@ ghost use Rattle.fund.specs.Refusals.{short as shortOf};
 ghost use Rattle.totals.specs.Tests.{Tested};
 
 // Whether one of the five slices has fewer than X + 1 cells.
-fn slices_short(horizon: usize, d: usize, h: usize, f: usize, r: usize, sums: usize) -> bool
-    ensures { λ s. ⌜ s ≡ shortOf (record { D = d; H = h; f = f; R = r; F = sums }) horizon ⌝ }
+fn slices_short(horizon: usize, transform: usize, h: usize, f: usize, r: usize, sums: usize) -> bool
+    ensures { λ s. ⌜ s ≡ shortOf (record { D = transform; H = h; f = f; R = r; F = sums }) horizon ⌝ }
 {
-    if d <= horizon {
+    if transform <= horizon {
         return true;
     }
     if h <= horizon {
@@ -30,13 +30,13 @@ fn slices_short(horizon: usize, d: usize, h: usize, f: usize, r: usize, sums: us
 pub fn tested_totals(
     fund: Fund,
     t: Totals,
-    d: usize,
+    transform: usize,
     h: usize,
     f: usize,
     r: usize,
     sums: usize,
 ) -> Verdict
-    ensures { λ v. ⌜ Tested fund t (record { D = d; H = h; f = f; R = r; F = sums }) v ⌝ }
+    ensures { λ v. ⌜ Tested fund t (record { D = transform; H = h; f = f; R = r; F = sums }) v ⌝ }
 {
     if !t.inside {
         return Verdict::Refused(Refusal::Range, 0);
@@ -47,7 +47,7 @@ pub fn tested_totals(
     if Fund::MOST_TRUNCATION < t.truncation {
         return Verdict::Refused(Refusal::Order, 0);
     }
-    if slices_short(fund.horizon as usize, d, h, f, r, sums) {
+    if slices_short(fund.horizon as usize, transform, h, f, r, sums) {
         return Verdict::Refused(Refusal::Short, 0);
     }
     Verdict::Accepted

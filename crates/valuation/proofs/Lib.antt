@@ -1,7 +1,7 @@
 pub mod TableFilled
 mod WeighedCells
 pub mod ValuedInside
-mod Judging
-mod Recursing
-mod Settling
+mod RefusedTotals
+mod OwnLimits
+mod SettledCells
 mod RunningSums

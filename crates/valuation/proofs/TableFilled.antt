@@ -11,7 +11,7 @@ use Rattle.fund.specs.Base.{table}
 use Rattle.fund.specs.Folding.{copies}
 use Rattle.fund.specs.Transform.{Term}
 use Rattle.laws.specs.Accepted.{All}
-use Rattle.widths.specs.Adding.{addD, addH, Room, pointTerms, lineTerms}
+use Rattle.widths.specs.AddedTerms.{addD, addH, Room, pointTerms, lineTerms}
 use Rattle.widths.specs.AddingLaws.{addD-append, addH-append, roomD-first, roomD-rest, roomH-first, roomH-rest}
 use Rattle.widths.specs.TermLaws.{lines-sound, cleared-room, filled-d, filled-h}
 use Rattle.widths.specs.Times.{size-lines-D, size-lines-H, D-lines, H-lines}

@@ -11,7 +11,7 @@ use Rattle.fund.specs.Folding.{copies}
 use Rattle.fund.specs.Transform.{D, H, load, terms}
 use Rattle.laws.specs.Ranges.{FrequenciesOk}
 use Rattle.widths.specs.Lives.{InRange}
-use Rattle.widths.specs.Adding.{addD, addH, Room, pointTerms, Cleared}
+use Rattle.widths.specs.AddedTerms.{addD, addH, Room, pointTerms, Cleared}
 use Rattle.valuation.specs.declared.transform.Filling.{Filling}
 use Rattle.totals.specs.Table.{Points}
 

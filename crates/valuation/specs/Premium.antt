@@ -10,7 +10,7 @@ use Rattle.fund.specs.Limits.{most-deductible, most-bound}
 use Rattle.fund.specs.Premium.{premium, within}
 use Rattle.fund.specs.Recursion.{Cell}
 use Rattle.whole.specs.declared.Sums.{Sums}
-use Rattle.limits.specs.Limits.{most-cell}
+use Rattle.recursion_limits.specs.Limits.{most-cell}
 use Rattle.valuation.specs.declared.premium.StopLoss.{StopLoss}
 use Rattle.whole.specs.Sums.{sumOf}
 use Rattle.recursion.specs.Slices.{cellIn}

@@ -16,8 +16,8 @@ use Rattle.fund.specs.Folding.{copies}
 use Rattle.fund.specs.Transform.{D, H, load}
 use Rattle.fund.specs.Refusals.{Lengths, valued}
 use Rattle.fund.specs.Answer.{Answer, fundTerms, fundCells}
-use Rattle.limits.specs.declared.Recursed.{Recursed}
-use Rattle.limits.specs.declared.Recursed.the-variants as recursed
+use Rattle.recursion_limits.specs.declared.Recursed.{Recursed}
+use Rattle.recursion_limits.specs.declared.Recursed.the-variants as recursed
 use Rattle.recursion.specs.Recursion.{recursion}
 use Rattle.recursion.specs.Recursion as Rec
 use Rattle.tariff.specs.declared.Gross.{Gross}

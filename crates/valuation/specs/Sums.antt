@@ -4,7 +4,7 @@ use Prim.Native.Nat.{ℕ, suc, _<_, _≤_}
 use lib.IntN.{ℤ}
 use lib.ListN.{length}
 use Rattle.fund.specs.Limits.{most-horizon}
-use Rattle.limits.specs.Limits.{most-cell}
+use Rattle.recursion_limits.specs.Limits.{most-cell}
 use Rattle.valuation.specs.Premium.{levels}
 
 pub record SumsFit (X : ℕ) (f : List ℤ) (n : ℕ) : Type 0 where

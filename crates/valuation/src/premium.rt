@@ -5,7 +5,7 @@ ghost use Prim.Native.Nat.{_+_, _*_, _^_, _<_, _≤_};
 ghost use lib.IntN.{natAbs};
 ghost use Rattle.fund.specs.Limits.{most-deductible, most-bound, most-truncation};
 ghost use Rattle.totals.specs.Table.{most-mean};
-ghost use Rattle.limits.specs.Limits.{most-cell};
+ghost use Rattle.recursion_limits.specs.Limits.{most-cell};
 ghost use Rattle.valuation.specs.Premium.{Cells, CellWeighed, BelowTo, StopLossIs};
 
 pub(crate) struct StopLoss {

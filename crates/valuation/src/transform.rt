@@ -19,7 +19,7 @@ ghost use Rattle.fund.specs.Transform.{placeOf, placed as placedOf, replacedTer
 ghost use Rattle.laws.specs.Ranges.{FrequenciesOk};
 ghost use Rattle.laws.specs.Weights.{most-weight};
 ghost use Rattle.widths.specs.Lives.{InRange};
-ghost use Rattle.widths.specs.Adding.{addD, addH, Room, RoomD, SingleRow, TermRoom, termsAt, times};
+ghost use Rattle.widths.specs.AddedTerms.{addD, addH, Room, RoomD, SingleRow, TermRoom, termsAt, times};
 ghost use Rattle.whole.specs.Sign.{signed};
 ghost use Rattle.valuation.specs.Filling.{PointFits, PointAdded, TableFits, TableAdded};
 
@@ -105,19 +105,19 @@ fn moved(cell: i64, minus: bool, amount: u64) -> i64
 }
 
 // The cell at a place, moved by an amount.
-fn shift(d: &mut [i64], x: usize, minus: bool, amount: u64)
-    requires { ⌜ (x < length (now d)) × (natAbs (getD (now d) x (pos 0)) + amount ≤ 2 ^ 62) ⌝ }
-    ensures { λ r. ⌜ now (d .exit) ≡ set (now (d .entry)) x (getD (now (d .entry)) x (pos 0) +ℤ signed minus amount) ⌝ }
+fn shift(transform: &mut [i64], x: usize, minus: bool, amount: u64)
+    requires { ⌜ (x < length (now transform)) × (natAbs (getD (now transform) x (pos 0)) + amount ≤ 2 ^ 62) ⌝ }
+    ensures { λ r. ⌜ now (transform .exit) ≡ set (now (transform .entry)) x (getD (now (transform .entry)) x (pos 0) +ℤ signed minus amount) ⌝ }
 {
-    d[x] = moved(d[x], minus, amount);
+    transform[x] = moved(transform[x], minus, amount);
 }
 
 // A placed number v of row n, for each of so many lives: nearest(x×v/n) is added to D at x for odd n, subtracted for even n, and x is added to
 // H. Both products with the lives fit, as the terms of a fund that passes 7 add to at most 400,000×10^12 in D and 10^9 in H.
-fn add_term(d: &mut [i64], h: &mut [u64], x: u64, v: u64, n: u64, lives: u64)
-    requires { ⌜ TermRoom (now d) (now h) x v n lives ⌝ }
-    ensures { λ r. ⌜ now (d .exit) ≡
-        set (now (d .entry)) x (getD (now (d .entry)) x (pos 0) +ℤ pos lives *ℤ alternate (suc n) (pos (near (x * v) n))) ⌝ }
+fn add_term(transform: &mut [i64], h: &mut [u64], x: u64, v: u64, n: u64, lives: u64)
+    requires { ⌜ TermRoom (now transform) (now h) x v n lives ⌝ }
+    ensures { λ r. ⌜ now (transform .exit) ≡
+        set (now (transform .entry)) x (getD (now (transform .entry)) x (pos 0) +ℤ pos lives *ℤ alternate (suc n) (pos (near (x * v) n))) ⌝ }
     ensures { λ r. ⌜ now (h .exit) ≡ set (now (h .entry)) x (getD (now (h .entry)) x 0 + lives * x) ⌝ }
 {
     let k = x as usize;
@@ -125,43 +125,50 @@ fn add_term(d: &mut [i64], h: &mut [u64], x: u64, v: u64, n: u64, lives: u64)
     if v == 0 {
         return;
     }
-    shift(d, k, n % 2 == 0, lives * nearest(x * v, n));
+    shift(transform, k, n % 2 == 0, lives * nearest(x * v, n));
 }
 
 // The term of row n and column l, if it is placed.
-fn add_at(d: &mut [i64], h: &mut [u64], horizon: u64, p: ModelPoint, v: u64, n: u64, l: u64)
+fn add_at(transform: &mut [i64], h: &mut [u64], horizon: u64, p: ModelPoint, v: u64, n: u64, l: u64)
     requires { ⌜ SingleRow (p .life) n × (l ≤ n) × (v ≡ getD (rowOf (p .life) n) l 0)
-        × Room horizon (now d) (now h) (times (p .lives) (termsAt horizon (p .life) n l)) ⌝ }
-    ensures { λ r. ⌜ now (d .exit) ≡ addD (now (d .entry)) (times (p .lives) (termsAt horizon (p .life) n l)) ⌝ }
+        × Room horizon (now transform) (now h) (times (p .lives) (termsAt horizon (p .life) n l)) ⌝ }
+    ensures { λ r. ⌜ now (transform .exit) ≡ addD (now (transform .entry)) (times (p .lives) (termsAt horizon (p .life) n l)) ⌝ }
     ensures { λ r. ⌜ now (h .exit) ≡ addH (now (h .entry)) (times (p .lives) (termsAt horizon (p .life) n l)) ⌝ }
 {
     let x = place(p.life, n, l);
     if !placed(horizon, x, p.life, n, l) {
         return;
     }
-    add_term(d, h, x, v, n, p.lives);
+    add_term(transform, h, x, v, n, p.lives);
 }
 
 // The terms of row n.
-fn add_row(d: &mut [i64], h: &mut [u64], horizon: u64, p: ModelPoint, row: [u64; 13], n: u64)
+fn add_row(
+    transform: &mut [i64],
+    h: &mut [u64],
+    horizon: u64,
+    p: ModelPoint,
+    row: [u64; 13],
+    n: u64,
+)
     requires { ⌜ SingleRow (p .life) n × (row ≡ rowOf (p .life) n)
-        × Room horizon (now d) (now h) (times (p .lives) (rowTerms horizon (p .life) n (n + 1))) ⌝ }
-    ensures { λ r. ⌜ now (d .exit) ≡ addD (now (d .entry)) (times (p .lives) (rowTerms horizon (p .life) n (n + 1))) ⌝ }
+        × Room horizon (now transform) (now h) (times (p .lives) (rowTerms horizon (p .life) n (n + 1))) ⌝ }
+    ensures { λ r. ⌜ now (transform .exit) ≡ addD (now (transform .entry)) (times (p .lives) (rowTerms horizon (p .life) n (n + 1))) ⌝ }
     ensures { λ r. ⌜ now (h .exit) ≡ addH (now (h .entry)) (times (p .lives) (rowTerms horizon (p .life) n (n + 1))) ⌝ }
 {
     let mut l: u64 = 0;
     while l <= n {
         let k = l as usize;
-        add_at(d, h, horizon, p, row[k], n, l);
+        add_at(transform, h, horizon, p, row[k], n, l);
         l += 1;
     }
 }
 
 // The terms of the lives of a line of group 1, row by row: the triangle is worked once for all of them.
-fn add_single(d: &mut [i64], h: &mut [u64], horizon: u64, p: ModelPoint, order: u64)
+fn add_single(transform: &mut [i64], h: &mut [u64], horizon: u64, p: ModelPoint, order: u64)
     requires { ⌜ InRange (p .life) × (single (p .life) ≡ true) × (order ≤ most-order)
-        × Room horizon (now d) (now h) (times (p .lives) (singleTerms horizon (p .life) order)) ⌝ }
-    ensures { λ r. ⌜ now (d .exit) ≡ addD (now (d .entry)) (times (p .lives) (singleTerms horizon (p .life) order)) ⌝ }
+        × Room horizon (now transform) (now h) (times (p .lives) (singleTerms horizon (p .life) order)) ⌝ }
+    ensures { λ r. ⌜ now (transform .exit) ≡ addD (now (transform .entry)) (times (p .lives) (singleTerms horizon (p .life) order)) ⌝ }
     ensures { λ r. ⌜ now (h .exit) ≡ addH (now (h .entry)) (times (p .lives) (singleTerms horizon (p .life) order)) ⌝ }
 {
     let mut row = [UNIT, 0, 0, 0, 0, 0, 0, 0, 0, 0, 0, 0, 0];
@@ -169,15 +176,15 @@ fn add_single(d: &mut [i64], h: &mut [u64], horizon: u64, p: ModelPoint, order: 
     while n < order {
         let next = next_row(row, p.life, n);
         n += 1;
-        add_row(d, h, horizon, p, next, n);
+        add_row(transform, h, horizon, p, next, n);
         row = next;
     }
 }
 
 // One of the two terms of each of so many lives of group 2: the weight w times its place k.
-fn add_replaced_term(d: &mut [i64], horizon: u64, w: u64, k: u64, lives: u64)
-    requires { ⌜ (w ≤ most-weight) × RoomD horizon (now d) (times lives (replacedTerm horizon w k)) ⌝ }
-    ensures { λ r. ⌜ now (d .exit) ≡ addD (now (d .entry)) (times lives (replacedTerm horizon w k)) ⌝ }
+fn add_replaced_term(transform: &mut [i64], horizon: u64, w: u64, k: u64, lives: u64)
+    requires { ⌜ (w ≤ most-weight) × RoomD horizon (now transform) (times lives (replacedTerm horizon w k)) ⌝ }
+    ensures { λ r. ⌜ now (transform .exit) ≡ addD (now (transform .entry)) (times lives (replacedTerm horizon w k)) ⌝ }
 {
     if w == 0 {
         return;
@@ -188,17 +195,23 @@ fn add_replaced_term(d: &mut [i64], horizon: u64, w: u64, k: u64, lives: u64)
     if horizon < k {
         return;
     }
-    shift(d, k as usize, false, lives * (w * k));
+    shift(transform, k as usize, false, lives * (w * k));
 }
 
 // The terms of the lives of a line of group 2, by death and by disability.
-fn add_replaced(d: &mut [i64], horizon: u64, p: ModelPoint, ab: Frequencies)
-    requires { ⌜ InRange (p .life) × FrequenciesOk ab × RoomD horizon (now d) (times (p .lives) (replacedTerms horizon ab (p .life))) ⌝ }
-    ensures { λ r. ⌜ now (d .exit) ≡ addD (now (d .entry)) (times (p .lives) (replacedTerms horizon ab (p .life))) ⌝ }
+fn add_replaced(transform: &mut [i64], horizon: u64, p: ModelPoint, ab: Frequencies)
+    requires { ⌜ InRange (p .life) × FrequenciesOk ab × RoomD horizon (now transform) (times (p .lives) (replacedTerms horizon ab (p .life))) ⌝ }
+    ensures { λ r. ⌜ now (transform .exit) ≡ addD (now (transform .entry)) (times (p .lives) (replacedTerms horizon ab (p .life))) ⌝ }
 {
-    add_replaced_term(d, horizon, p.life.q * ab.death * 1000, p.life.d, p.lives);
     add_replaced_term(
-        d,
+        transform,
+        horizon,
+        p.life.q * ab.death * 1000,
+        p.life.d,
+        p.lives,
+    );
+    add_replaced_term(
+        transform,
         horizon,
         p.life.i * ab.disability * 1000,
         p.life.e,
@@ -207,15 +220,15 @@ fn add_replaced(d: &mut [i64], horizon: u64, p: ModelPoint, ab: Frequencies)
 }
 
 // The terms of the lives of a line.
-fn add_point(d: &mut [i64], h: &mut [u64], p: ModelPoint, x: Filling)
-    requires { ⌜ PointFits (now d) (now h) p x ⌝ }
-    ensures { λ _. ⌜ PointAdded (now (d .entry)) (now (h .entry)) p x (now (d .exit)) (now (h .exit)) ⌝ }
+fn add_point(transform: &mut [i64], h: &mut [u64], p: ModelPoint, x: Filling)
+    requires { ⌜ PointFits (now transform) (now h) p x ⌝ }
+    ensures { λ _. ⌜ PointAdded (now (transform .entry)) (now (h .entry)) p x (now (transform .exit)) (now (h .exit)) ⌝ }
 {
     if p.life.group == Fund::SINGLE {
-        add_single(d, h, x.horizon, p, x.order);
+        add_single(transform, h, x.horizon, p, x.order);
         return;
     }
-    add_replaced(d, x.horizon, p, x.frequency);
+    add_replaced(transform, x.horizon, p, x.frequency);
 }
 
 // D and H of the lives of all lines, into slices that are 0 up to the horizon. Cells beyond it stay as they are.

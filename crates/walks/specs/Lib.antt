@@ -1,5 +1,5 @@
 pub mod Walks
-pub mod Freeing
+pub mod FreedLocals
 pub mod Reborrow
 pub mod Element
 pub mod WalkForm

@@ -39,7 +39,7 @@ use denote.Triple.Statement.{Triple}
 use denote.Triple.Table.{entered, framed}
 use denote.Triple.Walked.{needs}
 use Rattle.walks.specs.Element.{Element, Of, elementRow, mirOf, elementBytes, valueOf, borrowed, copies-element}
-use Rattle.walks.specs.Freeing.{frees-cell, frees-room}
+use Rattle.walks.specs.FreedLocals.{frees-cell, frees-room}
 use Rattle.walks.specs.Walks.{Stated, tokens, passed, Walk, starts, calls-for, ends, cell}
 use Rattle.walks.specs.WalkForm.{wordTy, slice, operands, turn, rest, function, clause-in, clause-out, stepEnded, walkEnded, pass, Says, stepClauses, walkClauses, Facts, Extra, First}
 

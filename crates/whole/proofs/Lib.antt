@@ -1,3 +1,3 @@
-mod Clearing
+mod ClearedList
 mod Quotients
 pub mod Signs

@@ -15,7 +15,7 @@ use Rattle.fund.specs.Base.{if_then_else_, total}
 use Rattle.fund.specs.Transform.{Term, sumD, sumH}
 use Rattle.laws.specs.Accepted.{All}
 use Rattle.laws.specs.Tables.{total-append}
-use Rattle.widths.specs.Adding.{addD, addH, sizeD, sizeH, RoomD, RoomH}
+use Rattle.widths.specs.AddedTerms.{addD, addH, sizeD, sizeH, RoomD, RoomH}
 use Rattle.widths.specs.Signed.{natAbs-add}
 
 -- ---- one after the other

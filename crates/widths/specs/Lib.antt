@@ -1,13 +1,13 @@
 pub mod Lives
 pub mod Parts
-pub mod Adding
+pub mod AddedTerms
 pub mod Sums
 pub mod Signed
 pub mod PartBounds
 pub mod AddingLaws
 pub mod Times
 pub mod Triangle
-pub mod Placing
-pub mod Filling
+pub mod PlacedTerms
+pub mod FilledCells
 pub mod TermLaws
 pub mod Widths

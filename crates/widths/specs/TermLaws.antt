@@ -19,9 +19,9 @@ use Rattle.fund.specs.Folding.{single}
 use Rattle.fund.specs.Transform.{Term, row, placeOf, placed, termOf, rowTerms, singleTerms, replacedTerm, replacedTerms, deathWeight, disabilityWeight, sumD, sumH, D, H}
 use Rattle.laws.specs.Accepted.{All, all-map}
 use Rattle.laws.specs.Tables.{length-table, getD-table}
-use Rattle.widths.specs.Adding.{addD, addH, sizeD, sizeH, Room, termsAt, times, lifeTerms, pointTerms, lineTerms, Cleared}
+use Rattle.widths.specs.AddedTerms.{addD, addH, sizeD, sizeH, Room, termsAt, times, lifeTerms, pointTerms, lineTerms, Cleared}
 use Rattle.widths.specs.AddingLaws.{addD-at, addH-at, addD-beyond, addH-beyond, length-addD, length-addH}
-use Rattle.widths.specs.Placing.{placed-within, term-zero}
+use Rattle.widths.specs.PlacedTerms.{placed-within, term-zero}
 
 -- ---- places
 pub record Sound (X : ℕ) (t : Term) : Type 0 where

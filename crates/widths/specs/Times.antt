@@ -17,7 +17,7 @@ use Rattle.fund.specs.Base.{if_then_else_, total}
 use Rattle.fund.specs.Folding.{copies}
 use Rattle.fund.specs.Transform.{Term, terms, sumD, sumH, D, H}
 use Rattle.laws.specs.Terms.{sumD-append, sumH-append}
-use Rattle.widths.specs.Adding.{sizeD, sizeH, times, lifeTerms, pointTerms, lineTerms}
+use Rattle.widths.specs.AddedTerms.{sizeD, sizeH, times, lifeTerms, pointTerms, lineTerms}
 use Rattle.widths.specs.AddingLaws.{sizeD-append, sizeH-append}
 use Rattle.widths.specs.Signed.{natAbs-neg}
 use Rattle.whole.specs.Sign.{signed}

@@ -22,12 +22,12 @@ use Rattle.fund.specs.Transform.{unit, row, Term, placeOf, placed, rowTerms, si
 use Rattle.laws.specs.Accepted.{All}
 use Rattle.widths.specs.Lives.{InRange}
 use Rattle.widths.specs.Parts.{loadPart}
-use Rattle.widths.specs.Adding.{sizeD, sizeH, termsAt, lifeTerms}
+use Rattle.widths.specs.AddedTerms.{sizeD, sizeH, termsAt, lifeTerms}
 use Rattle.widths.specs.Sums.{total-le, total-bound}
 use Rattle.widths.specs.PartBounds.{load-is}
 use Rattle.widths.specs.AddingLaws.{sizeD-append, sizeH-append, sumD-le, sumH-le, place-cases}
 use Rattle.widths.specs.Signed.{natAbs-add}
-use Rattle.widths.specs.Placing.{left-out, placed-within, placed-sizeD, placed-sizeH, replaced-zero, replaced-beyond, replaced-size}
+use Rattle.widths.specs.PlacedTerms.{left-out, placed-within, placed-sizeD, placed-sizeH, replaced-zero, replaced-beyond, replaced-size}
 use Rattle.widths.specs.Triangle.{sumRow, take-sum, take-sum-le, row-sum}
 
 -- ---- the terms of a life, in D

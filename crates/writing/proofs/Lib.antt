@@ -1,5 +1,5 @@
-pub mod Putting
+pub mod PieceLaws
 pub mod Decimal
 pub mod Pointed
 pub mod Signed
-pub mod Sizes
+pub mod NumberSizes

@@ -5,7 +5,7 @@ use Rattle.laws.specs.Ranges.{read-ranges}
 use Rattle.pricing.proofs.PricedRead.{prices-read}
 use Rattle.comparison.specs.Comparison.{ifAccepted}
 use Rattle.comparison.specs.Steps.{toldOf}
-use Rattle.comparison.proofs.Comparing.{compares}
+use Rattle.comparison.proofs.ComparedFiles.{compares}
 use Rattle.comparison.proofs.compare.Statement.{statement}
 use Rattle.comparison.proofs.compare.Tie as tie
 

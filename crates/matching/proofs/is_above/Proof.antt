@@ -3,7 +3,7 @@ use Prim.Native.Nat.{suc}
 use native.Mathlib.Omega.{arith}
 use borrow.Author.Needs.{needs}
 use borrow.Author.Tests.{le-ltb}
-use Rattle.matching.proofs.Answering.{above-rest}
+use Rattle.matching.proofs.MatchedRefusals.{above-rest}
 use Rattle.matching.proofs.is_above.Statement.{statement}
 use Rattle.matching.proofs.is_above.Tie as tie
 

@@ -5,7 +5,7 @@ use borrow.Author.Needs.{needs}
 use Rattle.fund.specs.Reading.{headerLines}
 use lib.Seq.{length-take-le}
 use Rattle.fund.specs.Refusals.{firstMember}
-use Rattle.matching.proofs.Answering.{beyond-rates, beyond-members, three, four, then-members}
+use Rattle.matching.proofs.MatchedRefusals.{beyond-rates, beyond-members, three, four, then-members}
 use Rattle.matching.proofs.matched.Statement.{statement}
 use Rattle.matching.proofs.matched.Tie as tie
 

@@ -1,6 +1,6 @@
 -- What `pricing::price` answers is handed over.
 use borrow.Author.Needs.{needs}
-use Rattle.miguepo.proofs.Hosting.{hosts}
+use Rattle.miguepo.proofs.HostedFields.{hosts}
 use Rattle.miguepo.proofs.miguepo_price.Statement.{statement}
 use Rattle.miguepo.proofs.miguepo_price.Tie as tie
 

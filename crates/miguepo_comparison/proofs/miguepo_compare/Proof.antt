@@ -1,6 +1,6 @@
 -- What `comparison::compare` answers is handed over.
 use borrow.Author.Needs.{needs}
-use Rattle.miguepo.proofs.Hosting.{hosts}
+use Rattle.miguepo.proofs.HostedFields.{hosts}
 use Rattle.miguepo_comparison.proofs.HostingComparison.{hosts-comparison}
 use Rattle.miguepo_comparison.proofs.miguepo_compare.Statement.{statement}
 use Rattle.miguepo_comparison.proofs.miguepo_compare.Tie as tie

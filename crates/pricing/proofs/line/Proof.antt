@@ -1,6 +1,6 @@
 -- The bytes from start to end where they lie in the file, and none where they do not.
 use borrow.Author.Needs.{needs}
-use Rattle.pricing.proofs.Telling.{line-inside, line-outside, line-reversed}
+use Rattle.pricing.proofs.ToldAnswer.{line-inside, line-outside, line-reversed}
 use Rattle.pricing.proofs.line.Statement.{statement}
 use Rattle.pricing.proofs.line.Tie as tie
 

@@ -3,8 +3,8 @@ use mathlib.Core.Path.{refl, sym, _∙_, ap}
 use borrow.Author.Needs.{needs}
 use Rattle.valuation.specs.Valued.{lengths}
 use Rattle.pricing.specs.Priced.{lined, valuedOf, readBy}
-use Rattle.pricing.proofs.Valuing.{lined-refused}
-use Rattle.pricing.proofs.Telling.{refused-horizon, tells-read}
+use Rattle.pricing.proofs.ValuedAnswer.{lined-refused}
+use Rattle.pricing.proofs.ToldAnswer.{refused-horizon, tells-read}
 use Rattle.pricing.proofs.price_read.Statement.{statement}
 use Rattle.pricing.proofs.price_read.Tie as tie
 

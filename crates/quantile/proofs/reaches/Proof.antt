@@ -3,7 +3,7 @@ use mathlib.Core.Path.{_∙_, ap}
 use borrow.Author.Needs.{needs}
 use lib.Dec.{leb}
 use mir.Facts.{toZ-ofZ}
-use Rattle.quantile.proofs.Reaching.{below-zero, by-size}
+use Rattle.quantile.proofs.ReachedLevel.{below-zero, by-size}
 use Rattle.quantile.proofs.reaches.Statement.{statement}
 use Rattle.quantile.proofs.reaches.Tie as tie
 

@@ -13,7 +13,7 @@ returns c =
     let o = carried .carried-out in
     let t = c .before .before .before .cleared-unless-done in
     rw (t .ensures .0)
-    (outcome-left (a .horizon) (a .d .now) (a .h .now) (record { f = a .first; R = a .bound }) _ _ _ _ _ _ (o .result) (o .kept .1 .1 .1 .1 .1 .0) (o .kept .1 .1 .1 .1 .1 .1 .0)
+    (outcome-left (a .horizon) (a .transform .now) (a .h .now) (record { f = a .first; R = a .bound }) _ _ _ _ _ _ (o .result) (o .kept .1 .1 .1 .1 .1 .0) (o .kept .1 .1 .1 .1 .1 .1 .0)
     (rw (toZ-ofZ (s .fits .first)) at (o .ensures)) (t .ensures .1))
 
 pub recursion-spec : {M : Type 1} → statement M

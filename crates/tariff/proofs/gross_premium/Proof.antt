@@ -3,7 +3,7 @@ use Prim.Native.Nat.{_*_, _≤_}
 use native.Mathlib.Omega.{arith}
 use borrow.Author.Needs.{needs}
 use mir.Facts.{toZ-ofZ}
-use Rattle.tariff.proofs.Answering.{loaded-le, gross-low, gross-high, gross-from}
+use Rattle.tariff.proofs.GrossAnswers.{loaded-le, gross-low, gross-high, gross-from}
 use Rattle.tariff.proofs.gross_premium.Statement.{statement}
 use Rattle.tariff.proofs.gross_premium.Tie as tie
 

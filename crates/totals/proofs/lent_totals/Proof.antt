@@ -37,7 +37,7 @@ use Rattle.fund.proofs.ModelPoint as P
 use Rattle.fund.proofs.ModelPoint.Laws as P′
 use Rattle.fund.proofs.Fund as G
 use Rattle.fund.proofs.Fund.Laws as G′
-use Rattle.walks.specs.Freeing.{frees-cell, frees-room}
+use Rattle.walks.specs.FreedLocals.{frees-cell, frees-room}
 use Rattle.walks.specs.Walks.{Stated, tokens, passed, Walk, starts, calls-for, ends, cell}
 use Rattle.walks.specs.LentArray.{first, Kept, lends-first, first-back}
 use Rattle.totals.specs.Totals.{TableTotals}

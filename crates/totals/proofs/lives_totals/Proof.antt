@@ -43,7 +43,7 @@ use Rattle.fund.proofs.Frequencies.Laws as F′
 use Rattle.widths.specs.Parts.{singleLoad}
 use Rattle.totals.specs.Table.{Points, members-of, most-mean}
 use Rattle.totals.specs.Start.{Multiplied}
-use Rattle.walks.specs.Freeing.{frees-cell}
+use Rattle.walks.specs.FreedLocals.{frees-cell}
 use Rattle.walks.specs.Walks.{Stated, tokens, passed, Walk, starts, calls-for, ends, cell}
 use Rattle.totals.proofs.start.Product as P
 use Rattle.totals.proofs.start.Product.Laws as P′

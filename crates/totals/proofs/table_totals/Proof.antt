@@ -37,7 +37,7 @@ use Rattle.fund.proofs.Fund as G
 use Rattle.fund.proofs.Fund.Laws as G′
 use Rattle.laws.specs.Accepted.{All}
 use Rattle.laws.specs.Copies.{livesOf}
-use Rattle.walks.specs.Freeing.{frees-cell}
+use Rattle.walks.specs.FreedLocals.{frees-cell}
 use Rattle.walks.specs.Walks.{Stated, tokens, passed, Walk, starts, calls-for, ends, cell}
 use Rattle.walks.specs.WalkForm.{slice}
 use Rattle.totals.proofs.PointElement.{point}

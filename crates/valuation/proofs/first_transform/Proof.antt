@@ -1,6 +1,6 @@
 -- The slices are cleared, and the first lives are lent to fill them.
 use borrow.Author.Needs.{needs}
-use Rattle.valuation.proofs.Judging.{table-fits, transform-filled}
+use Rattle.valuation.proofs.RefusedTotals.{table-fits, transform-filled}
 use Rattle.valuation.proofs.first_transform.Statement.{statement}
 use Rattle.valuation.proofs.first_transform.Tie as tie
 

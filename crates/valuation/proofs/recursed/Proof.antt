@@ -3,7 +3,7 @@ use borrow.Author.Needs.{needs, sfits-of}
 use mir.Syntax.{w64}
 use mir.Val.{SFits}
 use mir.Facts.{toZ-ofZ}
-use Rattle.valuation.proofs.Settling.{recursed-for, answered-for}
+use Rattle.valuation.proofs.SettledCells.{recursed-for, answered-for}
 use Rattle.valuation.proofs.recursed.Statement.{statement}
 use Rattle.valuation.proofs.recursed.Tie as tie
 

@@ -1,6 +1,6 @@
 -- The slices are cleared, and the figures are zero.
 use borrow.Author.Needs.{needs}
-use Rattle.valuation.proofs.Judging.{left-zeros}
+use Rattle.valuation.proofs.RefusedTotals.{left-zeros}
 use Rattle.valuation.proofs.refuse.Statement.{statement}
 use Rattle.valuation.proofs.refuse.Tie as tie
 

@@ -7,7 +7,7 @@ use mir.Syntax.{w64}
 use mir.Facts.{toZ-ofZ}
 use Rattle.fund.specs.Answer.{noFigures}
 use Rattle.valuation.specs.Steps.{ReadyFor, centimesIn}
-use Rattle.valuation.proofs.Settling.{answers-wide, Stands, stands, below-deductible, sums-fit, answers-accepted}
+use Rattle.valuation.proofs.SettledCells.{answers-wide, Stands, stands, below-deductible, sums-fit, answers-accepted}
 use Rattle.valuation.proofs.settled.Statement.{statement}
 use Rattle.valuation.proofs.settled.Tie as tie
 

@@ -7,7 +7,7 @@ use Rattle.fund.specs.Refusals.{Lengths}
 use Rattle.totals.specs.Tests.{PassedTests, Tested}
 use Rattle.valuation.specs.Valued.{lengths}
 use Rattle.valuation.specs.Steps.{ReadyFor}
-use Rattle.valuation.proofs.Judging.{left-judged, fillable, ready, left-answered}
+use Rattle.valuation.proofs.RefusedTotals.{left-judged, fillable, ready, left-answered}
 use Rattle.valuation.proofs.value.Statement.{statement}
 use Rattle.valuation.proofs.value.Tie as tie
 

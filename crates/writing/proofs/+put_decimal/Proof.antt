@@ -3,7 +3,7 @@
 use mathlib.Core.Path.{_∙_}
 use Prim.Native.Nat.{ℕ, _<_}
 use native.Mathlib.Omega.{arith}
-use Rattle.writing.proofs.Putting.{puts-then}
+use Rattle.writing.proofs.PieceLaws.{puts-then}
 use Rattle.writing.proofs.Decimal.{decimal-digit, decimal-step}
 use borrow.Fn.Kinds.{In}
 use borrow.Fn.PlainCycle.{Measures, is, falls, and}

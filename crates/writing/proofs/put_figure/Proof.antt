@@ -1,6 +1,6 @@
 -- `writing::put_figure` meets its contract: the digits, and the byte behind them.
 use borrow.Author.Needs.{needs}
-use Rattle.writing.proofs.Putting.{puts-then}
+use Rattle.writing.proofs.PieceLaws.{puts-then}
 use Rattle.writing.proofs.put_figure.Statement.{statement}
 use Rattle.writing.proofs.put_figure.Tie as tie
 

@@ -7,7 +7,7 @@ use borrow.Author.Needs.{needs}
 use lib.ListN.{length, take}
 use lib.Seq.{take-suc, take-length}
 use Rattle.writing.specs.Writing.{Puts}
-use Rattle.writing.proofs.Putting.{puts-none, puts-length, puts-then}
+use Rattle.writing.proofs.PieceLaws.{puts-none, puts-length, puts-then}
 use Rattle.writing.proofs.put_key.Statement.{statement}
 use Rattle.writing.proofs.put_key.Tie as tie
 

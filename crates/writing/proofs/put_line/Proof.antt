@@ -1,7 +1,7 @@
 -- `writing::put_line` meets its contract: the key, and the figure with the line feed.
 use borrow.Author.Needs.{needs}
 use Rattle.fund.specs.Listing.{joined}
-use Rattle.writing.proofs.Putting.{puts-then}
+use Rattle.writing.proofs.PieceLaws.{puts-then}
 use Rattle.writing.proofs.put_line.Statement.{statement}
 use Rattle.writing.proofs.put_line.Tie as tie
 

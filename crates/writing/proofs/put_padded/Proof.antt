@@ -4,7 +4,7 @@ use native.Mathlib.Omega.{arith}
 use borrow.Author.Needs.{needs}
 use Rattle.writing.specs.Writing.{Puts}
 use Rattle.writing.specs.Pointed.{padded}
-use Rattle.writing.proofs.Putting.{puts-none, puts-as, puts-length, puts-then}
+use Rattle.writing.proofs.PieceLaws.{puts-none, puts-as, puts-length, puts-then}
 use Rattle.writing.proofs.Pointed.{padded-more, all-padded}
 use Rattle.writing.proofs.put_padded.Statement.{statement}
 use Rattle.writing.proofs.put_padded.Tie as tie

@@ -2,7 +2,7 @@
 use mathlib.Core.Path.{sym}
 use borrow.Author.Needs.{needs}
 use Rattle.writing.specs.Pointed.{pointed}
-use Rattle.writing.proofs.Putting.{puts-then}
+use Rattle.writing.proofs.PieceLaws.{puts-then}
 use Rattle.writing.proofs.put_pointed.Statement.{statement}
 use Rattle.writing.proofs.put_pointed.Tie as tie
 

@@ -2,7 +2,7 @@
 use mathlib.Core.Path.{refl}
 use borrow.Author.Needs.{needs}
 use Rattle.fund.specs.Listing.{decimal, signedDecimal}
-use Rattle.writing.proofs.Putting.{puts-as, puts-then}
+use Rattle.writing.proofs.PieceLaws.{puts-as, puts-then}
 use Rattle.writing.proofs.Signed.{WithSign, signed-below, signed-above}
 use Rattle.writing.proofs.put_signed.Statement.{statement}
 use Rattle.writing.proofs.put_signed.Tie as tie

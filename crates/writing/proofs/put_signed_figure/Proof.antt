@@ -1,7 +1,7 @@
 -- `writing::put_signed_figure` meets its contract: the number, and the byte behind it.
 use mir.Facts.{toZ-ofZ}
 use borrow.Author.Needs.{needs}
-use Rattle.writing.proofs.Putting.{puts-then}
+use Rattle.writing.proofs.PieceLaws.{puts-then}
 use Rattle.writing.proofs.put_signed_figure.Statement.{statement}
 use Rattle.writing.proofs.put_signed_figure.Tie as tie
 

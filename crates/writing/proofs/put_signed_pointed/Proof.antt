@@ -3,7 +3,7 @@ use mathlib.Core.Path.{refl}
 use Prim.Native.Nat.{ℕ}
 use borrow.Author.Needs.{needs}
 use Rattle.writing.specs.Pointed.{pointed, signedPointed}
-use Rattle.writing.proofs.Putting.{puts-as, puts-then}
+use Rattle.writing.proofs.PieceLaws.{puts-as, puts-then}
 use Rattle.writing.proofs.Signed.{WithSign, signed-below, signed-above}
 use Rattle.writing.proofs.put_signed_pointed.Statement.{statement}
 use Rattle.writing.proofs.put_signed_pointed.Tie as tie

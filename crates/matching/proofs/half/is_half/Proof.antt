@@ -5,7 +5,7 @@ use borrow.Author.Needs.{needs}
 use borrow.Author.Tests.{eq-eqb, ne-eqb, le-leb}
 use Rattle.fund.specs.Limits.{half-rate}
 use Rattle.fund.specs.Refusals.{half}
-use Rattle.matching.proofs.Answering.{half-rest}
+use Rattle.matching.proofs.MatchedRefusals.{half-rest}
 use Rattle.matching.proofs.half.is_half.Statement.{statement}
 use Rattle.matching.proofs.half.is_half.Tie as tie
 

@@ -6,7 +6,7 @@ use borrow.Author.Needs.{needs}
 use Rattle.fund.specs.Limits.{most-rates}
 use Rattle.fund.specs.Answer.{lent}
 use Rattle.matching.specs.Matching.{pointTable}
-use Rattle.matching.proofs.SoFar.{PointsSoFar, start, points-long, next-rate, no-rate, its-rate, half-found, all-points}
+use Rattle.matching.proofs.PointsSoFar.{PointsSoFar, start, points-long, next-rate, no-rate, its-rate, half-found, all-points}
 use Rattle.matching.proofs.points.by_member.Statement.{statement}
 use Rattle.matching.proofs.points.by_member.Tie as tie
 

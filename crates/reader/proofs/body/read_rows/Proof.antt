@@ -5,7 +5,7 @@ use borrow.Author.Needs.{needs}
 use lib.ListN.{length}
 use Rattle.fund.specs.Answer.{lent}
 use Rattle.reader.specs.Read.{rateTable, memberTable}
-use Rattle.reader.proofs.SoFar.{RowsSoFar, start, rates-long, members-long, rate-taken, member-taken, at-end, at-stop}
+use Rattle.reader.proofs.RowsSoFar.{RowsSoFar, start, rates-long, members-long, rate-taken, member-taken, at-end, at-stop}
 use Rattle.reader.proofs.body.read_rows.Statement.{statement}
 use Rattle.reader.proofs.body.read_rows.Tie as tie
 

@@ -26,7 +26,7 @@ use denote.Triple.Clauses.{Clauses}
 use denote.Triple.Statement.{Triple}
 use denote.Triple.Table.{entered}
 use Rattle.reader.specs.declared.line.LineReader.{LineReader}
-use Rattle.walks.specs.Freeing.{frees-cell}
+use Rattle.walks.specs.FreedLocals.{frees-cell}
 use Rattle.walks.specs.Walks.{Stated, tokens, passed, Walk, starts, ends, cell}
 use Rattle.reader.proofs.line.LineReader as T
 use Rattle.reader.proofs.line.LineReader.Laws as T′

@@ -30,7 +30,7 @@ use denote.Triple.Table.{entered, framed}
 use denote.Triple.Walked.{needs}
 use Rattle.reader.specs.Lines.{NextLine}
 use Rattle.reader.specs.declared.line.LineReader.{LineReader}
-use Rattle.walks.specs.Freeing.{frees-cell}
+use Rattle.walks.specs.FreedLocals.{frees-cell}
 use Rattle.walks.specs.Walks.{Stated, tokens, passed, Walk, starts, calls-for, ends, cell}
 use Rattle.reader.proofs.line.LineReader as T
 use Rattle.reader.proofs.line.LineReader.Laws as T′

@@ -38,8 +38,8 @@ loop-again c =
     let long : l .p .count < length (l .list) = omega (arith, l .inv .2 .few, l .inv .1, s .pre .2) in (
       omega arith,
       n .kept .0 ∙ l .inv .1,
-      rw add-one (listed-noted (a .d .now) (a .h .now) (l .k) (l .list) _ (l .p) _ (l .inv .2) long noted),
-      rw add-one (small-noted (a .d .now) (a .h .now) (l .k) (l .list) _ (l .p) _ (l .inv .2) long noted (l .inv .3)),
+      rw add-one (listed-noted (a .transform .now) (a .h .now) (l .k) (l .list) _ (l .p) _ (l .inv .2) long noted),
+      rw add-one (small-noted (a .transform .now) (a .h .now) (l .k) (l .list) _ (l .p) _ (l .inv .2) long noted (l .inv .3)),
     )
 
 same-length : tie.Need-same-length Inv-loop μ-loop
@@ -50,7 +50,7 @@ returns c =
     let a = c .before .before .before .before .args in
     let l = c .before .loop in
     let z : l .k ≡ a .horizon = omega arith in
-    subst (λ k. Listed k (a .d .now) (a .h .now) (l .list) (l .p .count) × (l .p .small ≡ true → AllSmall k (a .d .now) (a .h .now))) z (l .inv .2, l .inv .3)
+    subst (λ k. Listed k (a .transform .now) (a .h .now) (l .list) (l .p .count) × (l .p .small ≡ true → AllSmall k (a .transform .now) (a .h .now))) z (l .inv .2, l .inv .3)
 
 pub list-places-spec : {M : Type 1} → statement M
 list-places-spec =

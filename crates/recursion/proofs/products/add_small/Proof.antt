@@ -9,7 +9,7 @@ use mir.Facts.{toZ-ofZ}
 use Rattle.rounding.specs.Rounding.{near, up}
 use Rattle.fund.specs.Transform.{unit}
 use Rattle.fund.specs.Recursion.{Cell, Entry}
-use Rattle.limits.specs.Limits.{most-cell}
+use Rattle.recursion_limits.specs.Limits.{most-cell}
 use Rattle.recursion.specs.Places.{most-small-size}
 use Rattle.whole.specs.Sums.{PartFits}
 use Rattle.whole.proofs.Signs.{with-part-is}

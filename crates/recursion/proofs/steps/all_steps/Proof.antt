@@ -5,7 +5,7 @@ use borrow.Author.Needs.{needs}
 use lib.ListN.{length}
 use mir.Facts.{toZ-ofZ}
 use Rattle.laws.specs.Cells.{cellAt}
-use Rattle.limits.specs.Limits.{CellFits}
+use Rattle.recursion_limits.specs.Limits.{CellFits}
 use Rattle.recursion.specs.Slices.{cellIn, entriesIn}
 use Rattle.recursion.proofs.Outcomes.{start-cell, steps-from}
 use Rattle.recursion.proofs.steps.all_steps.Statement.{statement}
@@ -31,7 +31,7 @@ returns c =
     let started = c .before .before .before .before .before .before .before .before .before in
     let a = started .before .before .before .before .before .args in
     let e = started .start-cells .ensures in
-    steps-from (a .horizon) _ _ _ _ _ _ _ _ _ _ (c .before .before .before .steps .result) (ap (cellAt (entriesIn (a .horizon) (a .d .now) (a .h .now))) (first-is started)) (e .0) (e .1)
+    steps-from (a .horizon) _ _ _ _ _ _ _ _ _ _ (c .before .before .before .steps .result) (ap (cellAt (entriesIn (a .horizon) (a .transform .now) (a .h .now))) (first-is started)) (e .0) (e .1)
     (c .before .before .before .steps .ensures)
 
 pub all-steps-spec : {M : Type 1} → statement M

@@ -13,7 +13,7 @@ use mir.Facts.{toZ-ofZ}
 use Rattle.rounding.specs.Rounding.{nearest, up}
 use Rattle.fund.specs.Recursion.{Cell}
 use Rattle.whole.specs.Sums.{sumOf}
-use Rattle.limits.specs.Limits.{CellFits}
+use Rattle.recursion_limits.specs.Limits.{CellFits}
 use Rattle.recursion.specs.Slices.{cellOf}
 use Rattle.recursion.specs.Steps.{most-part-sum, CellsFilled}
 use Rattle.recursion.proofs.SumsTo.{sums-fit}
@@ -30,7 +30,7 @@ abbrev μ-loop : tie.MeasureT-loop
 
 -- the cells of the recursion, from what stands in the slices at entry
 abbrev cell : tie.Start Inv-loop μ-loop → ℕ → Cell
-cell c = cellOf (c .args .horizon) (c .args .d .now) (c .args .h .now) (c .args .f .now) (c .args .r .now)
+cell c = cellOf (c .args .horizon) (c .args .transform .now) (c .args .h .now) (c .args .f .now) (c .args .r .now)
 
 loop-holds : tie.Need-loop-holds Inv-loop μ-loop
 loop-holds c =
@@ -39,7 +39,7 @@ loop-holds c =
       omega arith,
       refl,
       refl,
-      filled-first (a .horizon) (a .d .now) (a .h .now) (a .f .now) (a .r .now) (omega arith) (omega arith) (s .pre .1 .0 .2),
+      filled-first (a .horizon) (a .transform .now) (a .h .now) (a .f .now) (a .r .now) (omega arith) (omega arith) (s .pre .1 .0 .2),
     )
 
 sums-requires : tie.Need-sums-requires Inv-loop μ-loop
@@ -48,7 +48,7 @@ sums-requires c κs =
     let a = s .args in
     let l = c .before .before .before .loop in (
       s .pre .0,
-      ((filled-known (a .horizon) (a .d .now) (a .h .now) (a .f .now) (a .r .now) (l .f) (l .r) (l .last) (l .inv .3) (omega arith) (omega arith), omega arith), s .pre .1 .1),
+      ((filled-known (a .horizon) (a .transform .now) (a .h .now) (a .f .now) (a .r .now) (l .f) (l .r) (l .last) (l .inv .3) (omega arith) (omega arith), omega arith), s .pre .1 .1),
     )
 
 -- the sums for the next cell fit
@@ -58,7 +58,7 @@ fit c =
     let s = c .before .before .before .before .before .before .before .before in
     let a = s .args in
     let l = c .before .before .before .before .loop in
-    sums-fit (a .d .now) (a .h .now) (l .f) (l .r) (l .last) (a .horizon) (suc (l .last)) (c .sums .result) (s .pre .0) (omega arith) (c .sums .ensures)
+    sums-fit (a .transform .now) (a .h .now) (l .f) (l .r) (l .last) (a .horizon) (suc (l .last)) (c .sums .result) (s .pre .0) (omega arith) (c .sums .ensures)
 
 bound-of-requires : tie.Need-bound-of-requires Inv-loop μ-loop
 bound-of-requires c κs =
@@ -72,7 +72,7 @@ bound-is c =
     let s = c .before .sums in
     c .bound-of .ensures
     ∙ ap (λ x. up (s .result .bound) x + 1) (add-one (l .last))
-    ∙ next-R (a .horizon) (a .d .now) (a .h .now) (a .f .now) (a .r .now) (l .f) (l .r) (l .last) (l .inv .3) (s .result) (omega arith) (s .ensures)
+    ∙ next-R (a .horizon) (a .transform .now) (a .h .now) (a .f .now) (a .r .now) (l .f) (l .r) (l .last) (l .inv .3) (s .result) (omega arith) (s .ensures)
 
 cell-is : (c : tie.After-cell-of Inv-loop μ-loop) → toZ w64 (ofZ w64 (c .cell-of .result)) ≡ cell (c .before .before .before .before .before .before .before .before .before .before .before) (suc (c .before .before .before .before .before .before .before .loop .last)) .f
 cell-is c =
@@ -82,7 +82,7 @@ cell-is c =
     toZ-ofZ (sfits-of {w = w64} (c .cell-of .ok))
     ∙ c .cell-of .ensures
     ∙ ap (λ x. nearest (sumOf (s .result)) x) (add-one (l .last))
-    ∙ next-f (a .horizon) (a .d .now) (a .h .now) (a .f .now) (a .r .now) (l .f) (l .r) (l .last) (l .inv .3) (s .result) (omega arith) (s .ensures)
+    ∙ next-f (a .horizon) (a .transform .now) (a .h .now) (a .f .now) (a .r .now) (l .f) (l .r) (l .last) (l .inv .3) (s .result) (omega arith) (s .ensures)
 
 same-length : tie.Need-same-length Inv-loop μ-loop
 same-length c = c .before .before .before .before .before .before .loop .inv .1
@@ -142,7 +142,7 @@ loop-again c =
       simp length-set (l .inv .1),
       simp length-set (l .inv .2),
       rw add-one
-          (filled-more (a .horizon) (a .d .now) (a .h .now) (a .f .now) (a .r .now) (l .f) (l .r) (l .last) (l .inv .3)
+          (filled-more (a .horizon) (a .transform .now) (a .h .now) (a .f .now) (a .r .now) (l .f) (l .r) (l .last) (l .inv .3)
           (toZ w64 (ofZ w64 (c .before .before .cell-of .result))) (c .before .before .before .before .bound-of .result)
           (omega arith) (omega arith) (cell-is (c .before .before)) R-is limited),
     )

@@ -4,7 +4,7 @@ use native.Mathlib.Omega.{arith}
 use borrow.Author.Needs.{needs}
 use Rattle.fund.specs.Limits.{most-rates, most-members}
 use Rattle.reader.specs.Read.{fileRead}
-use Rattle.reader.proofs.SoFar.{rates-long, members-long}
+use Rattle.reader.proofs.RowsSoFar.{rates-long, members-long}
 use Rattle.sheet_reader.proofs.SoFar.{RowsSoFar, start, rate-taken, member-taken, at-end, at-stop}
 use Rattle.sheet_reader.proofs.rows.read_rows.Statement.{statement}
 use Rattle.sheet_reader.proofs.rows.read_rows.Tie as tie

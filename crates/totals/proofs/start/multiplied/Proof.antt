@@ -33,7 +33,7 @@ use Rattle.walks.specs.WalkForm.{wordTy, Says, Extra, First, Facts}
 use Rattle.walks.specs.WalkTable.{meets}
 use Rattle.totals.proofs.PointElement.{point}
 use Rattle.totals.proofs.PointSums.{u64-local}
-use Rattle.totals.proofs.Multiplying.{multiplied-append}
+use Rattle.totals.proofs.StartProduct.{multiplied-append}
 use Rattle.totals.proofs.start.Product as P
 use Rattle.totals.proofs.start.Product.Laws as P′
 use Rattle.totals.proofs.start.product_step.Symbol.{name as #step}

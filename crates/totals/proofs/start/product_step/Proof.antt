@@ -11,7 +11,7 @@ use Rattle.fund.specs.declared.ModelPoint.{ModelPoint}
 use Rattle.fund.specs.Folding.{single}
 use Rattle.totals.specs.declared.start.Product.{Product}
 use Rattle.totals.specs.Start.{SizeWith, Times}
-use Rattle.totals.proofs.Multiplying.{times-none}
+use Rattle.totals.proofs.StartProduct.{times-none}
 use Rattle.totals.proofs.start.product_step.Statement.{statement}
 use Rattle.totals.proofs.start.product_step.Tie as tie
 

@@ -7,7 +7,7 @@ use native.Mathlib.Omega.{arith}
 use lib.ListN.{replicate}
 use Rattle.fund.specs.Recursion.{multiplied}
 use Rattle.whole.specs.Sign.{signed}
-use Rattle.totals.proofs.Multiplying.{times-one, no-larger}
+use Rattle.totals.proofs.StartProduct.{times-one, no-larger}
 use Rattle.totals.proofs.start.repeated.Statement.{statement}
 use Rattle.totals.proofs.start.repeated.Tie as tie
 

@@ -2,7 +2,7 @@
 use mathlib.Core.Path.{sym, _∙_}
 use borrow.Author.Needs.{needs}
 use borrow.Author.Tests.{not-true, not-false}
-use Rattle.totals.proofs.Testing.{tested-range, tested-load, tested-order, tested-short}
+use Rattle.totals.proofs.TestedTotals.{tested-range, tested-load, tested-order, tested-short}
 use Rattle.totals.proofs.tests.tested_totals.Statement.{statement}
 use Rattle.totals.proofs.tests.tested_totals.Tie as tie
 

@@ -42,7 +42,7 @@ use Rattle.fund.specs.Limits.{most-members}
 use Rattle.fund.proofs.ModelPoint as P
 use Rattle.fund.proofs.ModelPoint.Laws as P′
 use Rattle.walks.specs.Again.{last-slice}
-use Rattle.walks.specs.Freeing.{frees-cell, frees-room}
+use Rattle.walks.specs.FreedLocals.{frees-cell, frees-room}
 use Rattle.walks.specs.LentArray.{first, Kept, lends-first, first-back}
 use Rattle.walks.specs.Reborrow.{reborrows}
 use Rattle.walks.specs.Walks.{Stated, tokens, calls-leaving, cell}

@@ -9,7 +9,7 @@ use lib.ListN.{getD}
 use mir.Syntax.{w64}
 use mir.Val.{toZ, ofZ}
 use mir.Facts.{toZ-ofZ}
-use Rattle.limits.proofs.Growing.{sumN-grow, sumN-term}
+use Rattle.recursion_limits.proofs.PartialSums.{sumN-grow, sumN-term}
 use Rattle.valuation.specs.Premium.{BelowTo}
 use Rattle.valuation.proofs.WeighedCells.{below-none, below-more}
 use Rattle.valuation.proofs.premium.below.Statement.{statement}

@@ -10,7 +10,7 @@ use Rattle.fund.specs.Limits.{most-deductible, most-bound}
 use Rattle.fund.specs.Recursion.{Cell}
 use Rattle.whole.specs.Sums.{PartFits}
 use Rattle.whole.proofs.Signs.{with-part-is}
-use Rattle.limits.specs.Limits.{most-cell}
+use Rattle.recursion_limits.specs.Limits.{most-cell}
 use Rattle.valuation.proofs.WeighedCells.{weighed}
 use Rattle.valuation.proofs.premium.with_cell.Statement.{statement}
 use Rattle.valuation.proofs.premium.with_cell.Tie as tie

@@ -9,7 +9,7 @@ use lib.ListN.{length, getD}
 use mir.Syntax.{w64}
 use mir.Val.{toZ, ofZ}
 use mir.Facts.{toZ-ofZ}
-use Rattle.limits.proofs.Growing.{sumN-grow}
+use Rattle.recursion_limits.proofs.PartialSums.{sumN-grow}
 use Rattle.valuation.proofs.RunningSums.{sumTo, sum-none, sum-more, sum-size, summed, sums-none, sums-more, length-summed}
 use Rattle.valuation.proofs.sums.fill_sums.Statement.{statement}
 use Rattle.valuation.proofs.sums.fill_sums.Tie as tie

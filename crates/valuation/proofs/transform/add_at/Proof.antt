@@ -4,7 +4,7 @@ use borrow.Author.Tests.{not-true, not-false}
 use mathlib.Core.Path.{_≡_, sym, _∙_}
 use mathlib.Core.Bool.{true}
 use Rattle.fund.specs.Transform.{placed}
-use Rattle.widths.specs.Placing.{left-out-d, left-out-h, placed-d, placed-h, term-room}
+use Rattle.widths.specs.PlacedTerms.{left-out-d, left-out-h, placed-d, placed-h, term-room}
 use Rattle.valuation.proofs.transform.add_at.Statement.{statement}
 use Rattle.valuation.proofs.transform.add_at.Tie as tie
 
@@ -15,7 +15,7 @@ returns : tie.Need-returns
 returns c =
     let a = c .before .before .before .before .args in
     let e = sym (c .before .placed .ensures) ∙ not-true (c .before .placed .result) (c .if1 .taken) in
-    (left-out-d (a .horizon) (a .p .life) (a .n) (a .l) (a .p .lives) e (a .d .now), left-out-h (a .horizon) (a .p .life) (a .n) (a .l) (a .p .lives) e (a .h .now))
+    (left-out-d (a .horizon) (a .p .life) (a .n) (a .l) (a .p .lives) e (a .transform .now), left-out-h (a .horizon) (a .p .life) (a .n) (a .l) (a .p .lives) e (a .h .now))
 
 is-placed : (c : tie.Else1) → let a = c .before .before .before .before .args in placed (a .horizon) (a .p .life) (a .n) (a .l) ≡ true
 is-placed c = sym (c .before .placed .ensures) ∙ not-false (c .before .placed .result) (c .if1 .left)
@@ -35,7 +35,7 @@ returns-2 c =
     let a = s .args in
     let t = c .before .before .before .add-term in
     let x = y .before .before .place .ensures in (
-      rw (placed-d (a .horizon) (a .p .life) (a .n) (a .l) (a .p .lives) (is-placed y) (a .d .now), ← s .pre .2, ← x) (t .ensures .0),
+      rw (placed-d (a .horizon) (a .p .life) (a .n) (a .l) (a .p .lives) (is-placed y) (a .transform .now), ← s .pre .2, ← x) (t .ensures .0),
       rw (placed-h (a .horizon) (a .p .life) (a .n) (a .l) (a .p .lives) (is-placed y) (a .h .now), ← x) (t .ensures .1),
     )
 

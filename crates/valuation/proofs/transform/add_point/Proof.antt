@@ -1,7 +1,7 @@
 -- The group decides which terms are added. H gains nothing from group 2.
 use borrow.Author.Needs.{needs}
 use borrow.Author.Tests.{eq-eqb, ne-eqb}
-use Rattle.widths.specs.Placing.{life-single, life-replaced, replaced-none}
+use Rattle.widths.specs.PlacedTerms.{life-single, life-replaced, replaced-none}
 use Rattle.valuation.proofs.transform.add_point.Statement.{statement}
 use Rattle.valuation.proofs.transform.add_point.Tie as tie
 

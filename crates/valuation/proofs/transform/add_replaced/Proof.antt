@@ -5,7 +5,7 @@ use mathlib.Core.List.{List, _++_}
 use native.Mathlib.Omega.{arith}
 use Rattle.fund.specs.Transform.{Term, deathWeight, disabilityWeight, replacedTerm, replacedTerms}
 use Rattle.laws.specs.Weights.{Products, products}
-use Rattle.widths.specs.Adding.{addD, RoomD, times}
+use Rattle.widths.specs.AddedTerms.{addD, RoomD, times}
 use Rattle.widths.specs.Times.{times-append}
 use Rattle.widths.specs.AddingLaws.{addD-append, roomD-first, roomD-rest}
 use Rattle.valuation.proofs.transform.add_replaced.Statement.{statement}
@@ -25,7 +25,7 @@ both : (c : tie.Start) → times (c .args .p .lives) (replacedTerms (c .args .ho
 unfolding replacedTerms
 both c = times-append (c .args .p .lives) _ _
 
-apart : (c : tie.Start) → RoomD (c .args .horizon) (c .args .d .now) (death c ++ disability c)
+apart : (c : tie.Start) → RoomD (c .args .horizon) (c .args .transform .now) (death c ++ disability c)
 apart c = rw (both c) at (c .pre .2)
 
 mul-add-replaced-term : tie.Need-mul-add-replaced-term
@@ -56,8 +56,8 @@ returns c =
     let s = c .before .before .before .before .before .before .before .before .before .before in
     c .before .add-replaced-term2 .ensures
     ∙ ap (λ x. addD x (disability s)) (c .before .before .before .before .before .before .add-replaced-term .ensures)
-    ∙ sym (addD-append (s .args .d .now) (death s) (disability s))
-    ∙ ap (addD (s .args .d .now)) (sym (both s))
+    ∙ sym (addD-append (s .args .transform .now) (death s) (disability s))
+    ∙ ap (addD (s .args .transform .now)) (sym (both s))
 
 pub add-replaced-spec : {M : Type 1} → statement M
 add-replaced-spec =

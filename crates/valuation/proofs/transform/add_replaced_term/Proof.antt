@@ -7,14 +7,14 @@ use native.Mathlib.Omega.{arith}
 use lib.IntN.{pos, natAbs}
 use lib.ListN.{getD}
 use Rattle.fund.specs.Transform.{replacedTerm}
-use Rattle.widths.specs.Adding.{addD, times}
+use Rattle.widths.specs.AddedTerms.{addD, times}
 use Rattle.widths.specs.Times.{sizeD-times}
-use Rattle.widths.specs.Placing.{replaced-nothing, replaced-zero, replaced-beyond, replaced-here, replaced-size}
+use Rattle.widths.specs.PlacedTerms.{replaced-nothing, replaced-zero, replaced-beyond, replaced-here, replaced-size}
 use Rattle.valuation.proofs.transform.add_replaced_term.Statement.{statement}
 use Rattle.valuation.proofs.transform.add_replaced_term.Tie as tie
 
 returns : tie.Need-returns
-returns c = let a = c .before .args in replaced-nothing (a .horizon) (a .w) (a .k) (a .lives) (c .if1 .taken) (a .d .now)
+returns c = let a = c .before .args in replaced-nothing (a .horizon) (a .w) (a .k) (a .lives) (c .if1 .taken) (a .transform .now)
 
 returns-2 : tie.Need-returns-2
 unfolding addD times
@@ -35,7 +35,7 @@ mul-shift : tie.Need-mul-shift
 mul-shift c = omega (arith, here (c .before) .2)
 
 -- the room that the cell has
-room : (c : tie.Else3) → let a = c .before .before .before .args in natAbs (getD (a .d .now) (a .k) (pos 0)) + a .lives * (a .w * a .k) ≤ 2 ^ 62
+room : (c : tie.Else3) → let a = c .before .before .before .args in natAbs (getD (a .transform .now) (a .k) (pos 0)) + a .lives * (a .w * a .k) ≤ 2 ^ 62
 room c =
     let s = c .before .before .before in
     let a = s .args in

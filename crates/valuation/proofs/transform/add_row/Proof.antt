@@ -4,11 +4,11 @@ use Prim.Native.Nat.{_+_, _-_, _≤_}
 use native.Mathlib.Omega.{arith}
 use lib.ListN.{length, getD}
 use Rattle.fund.specs.Transform.{row as rowOf, rowTerms}
-use Rattle.widths.specs.Adding.{SingleRow, termsAt, times}
+use Rattle.widths.specs.AddedTerms.{SingleRow, termsAt, times}
 use Rattle.laws.specs.Triangle.{length-row}
-use Rattle.widths.specs.Placing.{row-start, row-goes}
+use Rattle.widths.specs.PlacedTerms.{row-start, row-goes}
 use Rattle.widths.specs.Times.{times-none, times-goes}
-use Rattle.widths.specs.Filling.{Filling, begin, turn-room, turn, end-d, end-h, long-d, long-h}
+use Rattle.widths.specs.FilledCells.{Filling, begin, turn-room, turn, end-d, end-h, long-d, long-h}
 use Rattle.valuation.proofs.transform.add_row.Statement.{statement}
 use Rattle.valuation.proofs.transform.add_row.Tie as tie
 

@@ -6,11 +6,11 @@ use native.Mathlib.Omega.{arith}
 use Rattle.fund.specs.Folding.{single}
 use Rattle.fund.specs.Transform.{row as rowOf, rowTerms, singleTerms}
 use Rattle.widths.specs.Lives.{InRange}
-use Rattle.widths.specs.Adding.{SingleRow, times}
+use Rattle.widths.specs.AddedTerms.{SingleRow, times}
 use Rattle.widths.specs.Triangle.{row-first}
-use Rattle.widths.specs.Placing.{single-start, single-goes}
+use Rattle.widths.specs.PlacedTerms.{single-start, single-goes}
 use Rattle.widths.specs.Times.{times-none, times-goes}
-use Rattle.widths.specs.Filling.{Filling, begin, turn-room, turn, end-d, end-h, long-d, long-h}
+use Rattle.widths.specs.FilledCells.{Filling, begin, turn-room, turn, end-d, end-h, long-d, long-h}
 use Rattle.valuation.proofs.transform.add_single.Statement.{statement}
 use Rattle.valuation.proofs.transform.add_single.Tie as tie
 

@@ -6,7 +6,7 @@ use native.Mathlib.Nat.{mul-le-mul, mul-zero}
 use native.Mathlib.Omega.{arith}
 use lib.IntN.{pos, _*ℤ_, *ℤ-zero}
 use Rattle.rounding.specs.Rounding.{near}
-use Rattle.widths.specs.Placing.{alternate-signed, term-zero, add-nothing}
+use Rattle.widths.specs.PlacedTerms.{alternate-signed, term-zero, add-nothing}
 use Rattle.widths.specs.Times.{times-signed}
 use Rattle.valuation.proofs.transform.add_term.Statement.{statement}
 use Rattle.valuation.proofs.transform.add_term.Tie as tie
@@ -15,7 +15,7 @@ returns : tie.Need-returns
 returns c =
     let a = c .before .before .before .args in
     let n : 0 < a .n = omega arith in
-    (add-nothing (a .d .now) (a .x) _ (ap (λ z. pos (a .lives) *ℤ z) (term-zero (a .n) (a .x) (a .v) n (ap (λ v. a .x * v) (c .if1 .taken) ∙ mul-zero (a .x))) ∙ *ℤ-zero (pos (a .lives))), refl)
+    (add-nothing (a .transform .now) (a .x) _ (ap (λ z. pos (a .lives) *ℤ z) (term-zero (a .n) (a .x) (a .v) n (ap (λ v. a .x * v) (c .if1 .taken) ∙ mul-zero (a .x))) ∙ *ℤ-zero (pos (a .lives))), refl)
 
 product : (c : tie.Start) → c .args .x * c .args .v ≤ 4095 * 1000000000000
 product c = mul-le-mul (c .pre .place-most) (c .pre .number-most)

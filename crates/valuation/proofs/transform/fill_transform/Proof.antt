@@ -43,7 +43,7 @@ use Rattle.fund.proofs.ModelPoint as P
 use Rattle.fund.proofs.ModelPoint.Laws as P′
 use Rattle.valuation.specs.declared.transform.Filling.{Filling}
 use Rattle.valuation.specs.Filling.{PointAdded, TableFits, TableAdded}
-use Rattle.walks.specs.Freeing.{frees-cell, frees-room}
+use Rattle.walks.specs.FreedLocals.{frees-cell, frees-room}
 use Rattle.walks.specs.Walks.{Stated, tokens, calls-leaving, cell}
 use Rattle.walks.specs.WalkForm.{wordTy, slice}
 use Rattle.walks.specs.WalkTable.{tests, byte-fits, next-fits, nearer, ended, next-element, nothing-in, next-in}

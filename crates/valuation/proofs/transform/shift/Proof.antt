@@ -12,8 +12,8 @@ use Rattle.valuation.proofs.transform.shift.Tie as tie
 returns : tie.Need-returns
 returns c =
     let a = c .before .before .args in
-    let cell = toZ-ofZ {w = w64} {z = getD (a .d .now) (a .x) (pos 0)} (sfits-of (c .before .moved-arg .given)) in
-    ap (set (a .d .now) (a .x))
+    let cell = toZ-ofZ {w = w64} {z = getD (a .transform .now) (a .x) (pos 0)} (sfits-of (c .before .moved-arg .given)) in
+    ap (set (a .transform .now) (a .x))
     (toZ-ofZ (sfits-of {w = w64} (c .moved .ok)) ∙ c .moved .ensures ∙ ap (λ z. z +ℤ signed (a .minus) (a .amount)) cell)
 
 pub shift-spec : {M : Type 1} → statement M

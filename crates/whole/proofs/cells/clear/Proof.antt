@@ -1,10 +1,10 @@
--- The first k cells are zero, the others as they were (`Clearing`).
+-- The first k cells are zero, the others as they were (`ClearedList`).
 use mathlib.Core.Path.{_≡_, refl}
 use mathlib.Core.List.{_++_}
 use Prim.Native.Nat.{_≤_, _-_}
 use native.Mathlib.Omega.{arith}
 use lib.ListN.{length, replicate, drop, length-set}
-use Rattle.whole.proofs.Clearing.{fill-step, fill-end}
+use Rattle.whole.proofs.ClearedList.{fill-step, fill-end}
 use Rattle.whole.proofs.cells.clear.Statement.{statement}
 use Rattle.whole.proofs.cells.clear.Tie as tie
 

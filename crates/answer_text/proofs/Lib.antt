@@ -1,0 +1,4 @@
+pub mod Pieces
+pub mod ListingSizes
+pub mod Range
+pub mod Level

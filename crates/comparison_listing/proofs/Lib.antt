@@ -1,3 +1,0 @@
-pub mod Sizes
-pub mod Pieces
-pub mod Printing

@@ -1,0 +1,4 @@
+pub mod Bounded
+pub mod ShownListing
+pub mod Level
+pub mod Input

@@ -1,2 +1,0 @@
-pub mod Growing
-pub mod Testing

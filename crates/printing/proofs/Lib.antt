@@ -1,4 +1,0 @@
-pub mod Bounded
-pub mod Printing
-pub mod Level
-pub mod Input

@@ -1,4 +1,0 @@
-pub mod Pieces
-pub mod Sizes
-pub mod Range
-pub mod Level
