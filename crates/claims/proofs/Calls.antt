@@ -28,7 +28,7 @@ use Rattle.prefix.specs.Prefix.{most-bytes}
 use Rattle.fund_printing.specs.Input.{PrintsInput, PrintsLevelInput, ReadsFirst}
 use Rattle.fund_printing.specs.Printed.{shownTo, levelLineTo, shownLevelTo}
 use Rattle.pricing.specs.declared.Priced.{Priced}
-use Rattle.pricing.specs.Priced.{left, horizonWith, Prices}
+use Rattle.pricing.specs.Priced.{leftPriced, horizonWith, Prices}
 use Rattle.pricing.specs.JoinedSteps.{told-horizon}
 use Rattle.miguepo.specs.Host.{Hosts}
 use Rattle.claims.specs.Demands.{partBytes, Demands}
@@ -36,8 +36,8 @@ use Rattle.claims.specs.Listing.{Shows, PrintsTo, Prints, PrintsLevelTo,
 use Rattle.claims.specs.Calls.{handed, priced, quantileRead, ResultStruct, hosted}
 use Rattle.claims.proofs.DemandsHold.{Answered, demands}
 
-module _ (text : List ℕ) (r : Reading) (level : ℕ) (n : Lengths) (p : Priced) (d : List ℤ) (h : List ℕ) (f : List ℤ) (b : List ℕ) (s : List ℤ) (k : Prices text r level n p (left p d h f b s)) where
-  is : left p d h f b s ≡ answerTo text n r
+module _ (text : List ℕ) (r : Reading) (level : ℕ) (n : Lengths) (p : Priced) (d : List ℤ) (h : List ℕ) (f : List ℤ) (b : List ℕ) (s : List ℤ) (k : Prices text r level n p (leftPriced p d h f b s)) where
+  is : leftPriced p d h f b s ≡ answerTo text n r
   is = k .answers .answer
 
   v : p .verdict ≡ answerTo text n r .verdict

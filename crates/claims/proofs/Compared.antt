@@ -14,7 +14,7 @@ use Rattle.fund.specs.Refusals.{Lengths, numberIn}
 use Rattle.fund.specs.Answer.{Answer, answer}
 use Rattle.laws.specs.Answer.{accepted-read}
 use Rattle.laws.specs.Numbers.{zero-accepted}
-use Rattle.pricing.specs.Priced.{left}
+use Rattle.pricing.specs.Priced.{leftPriced}
 use Rattle.moves.specs.declared.Move.{Move}
 use Rattle.moves.specs.declared.files.Differences.{Differences}
 use Rattle.moves.specs.Differences.{differences}
@@ -104,11 +104,11 @@ module _ (old new : List ℕ) (level : ℕ) (n m : Lengths) (o p : Received) (c 
 
 -- ---- the comparison call
 module _ (old new : List ℕ) (level : ℕ) (n m : Lengths) (c : Compared) (d : List ℤ) (h : List ℕ) (f : List ℤ) (r : List ℕ) (s : List ℤ) (d′ : List ℤ) (h′ : List ℕ) (f′ : List ℤ) (r′ : List ℕ) (s′ : List ℤ)
-    (k : Compares old new level n m c (left (c .old) d h f r s) (left (c .new) d′ h′ f′ r′ s′)) where
-  old-is : left (c .old) d h f r s ≡ answer old n
+    (k : Compares old new level n m c (leftPriced (c .old) d h f r s) (leftPriced (c .new) d′ h′ f′ r′ s′)) where
+  old-is : leftPriced (c .old) d h f r s ≡ answer old n
   old-is = k .old-priced .answers .answer
 
-  new-is : left (c .new) d′ h′ f′ r′ s′ ≡ answer new m
+  new-is : leftPriced (c .new) d′ h′ f′ r′ s′ ≡ answer new m
   new-is = k .new-priced .answers .answer
 
   comparison-is : c .comparison ≡ compared (reading old) (answer old n) (reading new) (answer new m)

@@ -30,12 +30,12 @@ ghost use Rattle.spelling.specs.Level.{levelIn};
 ghost use Rattle.reader.specs.Read.{fileRead};
 ghost use Rattle.reader.specs.Part.{Spans};
 ghost use Rattle.matching.specs.Matching.{matchedTables};
-ghost use Rattle.recursion.specs.Recursion.{left, recursion};
+ghost use Rattle.recursion.specs.Recursion.{leftCells, recursion};
 ghost use Rattle.recursion_limits.specs.Tests.{tested};
 ghost use Rattle.tariff.specs.Gross.{grossOf};
 ghost use Rattle.totals.specs.Totals.{TotalsFor};
 ghost use Rattle.totals.specs.Tests.{testedOf};
-ghost use Rattle.valuation.specs.Valued.{left as leftOf, lengths, valuation};
+ghost use Rattle.valuation.specs.Valued.{leftValued, lengths, valuation};
 ghost use Rattle.answer_text.specs.Shown.{shownAnswer, listingOf};
 ghost use Rattle.answer_text.specs.Level.{levelLineOf};
 ghost use Rattle.writing.specs.Writing.{Written};
@@ -135,7 +135,7 @@ pub fn claimed_value(
     r: &mut [u64],
     sums: &mut [i64],
 ) -> Valued
-    ensures { λ v. ⌜ leftOf v (now (transform .exit)) (now (h .exit)) (now (f .exit)) (now (r .exit)) (now (sums .exit)) ≡
+    ensures { λ v. ⌜ leftValued v (now (transform .exit)) (now (h .exit)) (now (f .exit)) (now (r .exit)) (now (sums .exit)) ≡
         valuation fund n (take n points) (lengths (now (transform .entry)) (now (h .entry)) (now (f .entry)) (now (r .entry)) (now (sums .entry))) ⌝ }
 {
     valuation::value(fund, points, n, transform, h, f, r, sums)
@@ -150,7 +150,7 @@ pub fn claimed_refusal(
     r: &mut [u64],
     sums: &mut [i64],
 ) -> Valued
-    ensures { λ v. ⌜ leftOf v (now (transform .exit)) (now (h .exit)) (now (f .exit)) (now (r .exit)) (now (sums .exit)) ≡
+    ensures { λ v. ⌜ leftValued v (now (transform .exit)) (now (h .exit)) (now (f .exit)) (now (r .exit)) (now (sums .exit)) ≡
         refused [] (lengths (now (transform .entry)) (now (h .entry)) (now (f .entry)) (now (r .entry)) (now (sums .entry))) verdict ⌝ }
 {
     valuation::refuse(verdict, transform, h, f, r, sums)
@@ -195,7 +195,7 @@ pub fn claimed_recursion(
     f: &mut [i64],
     r: &mut [u64],
 ) -> Recursed
-    ensures { λ a. ⌜ left a (now (f .exit)) (now (r .exit)) ≡
+    ensures { λ a. ⌜ leftCells a (now (f .exit)) (now (r .exit)) ≡
         recursion horizon (now (transform .entry)) (now (h .entry)) (record { f = first; R = bound }) (length (now (f .entry))) (length (now (r .entry))) ⌝ }
 {
     recursion::recursion(horizon, transform, h, first, bound, f, r)

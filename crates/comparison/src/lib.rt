@@ -9,7 +9,7 @@ use pricing::Priced;
 use reader::FileRead;
 ghost use mathlib.Core.Path.{_≡_};
 ghost use Rattle.valuation.specs.Valued.{lengths};
-ghost use Rattle.pricing.specs.Priced.{left};
+ghost use Rattle.pricing.specs.Priced.{leftPriced};
 ghost use Rattle.comparison.specs.Comparison.{ifAccepted, Compares};
 ghost use Rattle.comparison.specs.Steps.{toldOf};
 
@@ -79,8 +79,8 @@ pub fn compare(
     ensures { λ c. ⌜ Compares (now (old .entry)) (now (new .entry)) level
         (lengths (now («old_transform» .entry)) (now («old_h» .entry)) (now («old_f» .entry)) (now («old_r» .entry)) (now («old_sums» .entry)))
         (lengths (now («new_transform» .entry)) (now («new_h» .entry)) (now («new_f» .entry)) (now («new_r» .entry)) (now («new_sums» .entry))) c
-        (left (c .old) (now («old_transform» .exit)) (now («old_h» .exit)) (now («old_f» .exit)) (now («old_r» .exit)) (now («old_sums» .exit)))
-        (left (c .new) (now («new_transform» .exit)) (now («new_h» .exit)) (now («new_f» .exit)) (now («new_r» .exit)) (now («new_sums» .exit))) ⌝ }
+        (leftPriced (c .old) (now («old_transform» .exit)) (now («old_h» .exit)) (now («old_f» .exit)) (now («old_r» .exit)) (now («old_sums» .exit)))
+        (leftPriced (c .new) (now («new_transform» .exit)) (now («new_h» .exit)) (now («new_f» .exit)) (now («new_r» .exit)) (now («new_sums» .exit))) ⌝ }
 {
     let first = reader::read(old);
     let before = pricing::price_read(

@@ -11,7 +11,7 @@ use Rattle.fund.specs.Reading.{FundFile, read, reading}
 use Rattle.fund.specs.Answer.{Answer, answer}
 use Rattle.fund.specs.Listing.{enough}
 use Rattle.writing.specs.Writing.{Written}
-use Rattle.pricing.specs.Priced.{left}
+use Rattle.pricing.specs.Priced.{leftPriced}
 use Rattle.fund_printing.proofs.ShownListing.{lentLengths, answers-enough}
 use Rattle.moves.specs.declared.Move.{Move}
 use Rattle.moves.specs.declared.files.Differences.{Differences}
@@ -22,12 +22,12 @@ use Rattle.comparison_printing.specs.Lines.{comparisonLines}
 use Rattle.comparison_printing.specs.Printed.{comparison-room, listingOf, comparisonOf, comparisonListing, shownComparison, PrintsComparison}
 
 module _ (old new : List ℕ) (level : ℕ) (c : Compared) (d : List ℤ) (h : List ℕ) (f : List ℤ) (r : List ℕ) (s : List ℤ) (d′ : List ℤ) (h′ : List ℕ) (f′ : List ℤ) (r′ : List ℕ) (s′ : List ℤ)
-    (k : Compares old new level lentLengths lentLengths c (left (c .old) d h f r s) (left (c .new) d′ h′ f′ r′ s′)) where
-  old-is : left (c .old) d h f r s ≡ answer old enough
-  old-is = answers-enough old (reading old) level (c .old) (left (c .old) d h f r s) (k .old-priced .answers) .answer
+    (k : Compares old new level lentLengths lentLengths c (leftPriced (c .old) d h f r s) (leftPriced (c .new) d′ h′ f′ r′ s′)) where
+  old-is : leftPriced (c .old) d h f r s ≡ answer old enough
+  old-is = answers-enough old (reading old) level (c .old) (leftPriced (c .old) d h f r s) (k .old-priced .answers) .answer
 
-  new-is : left (c .new) d′ h′ f′ r′ s′ ≡ answer new enough
-  new-is = answers-enough new (reading new) level (c .new) (left (c .new) d′ h′ f′ r′ s′) (k .new-priced .answers) .answer
+  new-is : leftPriced (c .new) d′ h′ f′ r′ s′ ≡ answer new enough
+  new-is = answers-enough new (reading new) level (c .new) (leftPriced (c .new) d′ h′ f′ r′ s′) (k .new-priced .answers) .answer
 
   comparison-is : c .comparison ≡ comparisonOf old new
   unfolding comparisonOf

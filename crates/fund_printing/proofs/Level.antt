@@ -16,18 +16,18 @@ use Rattle.fund.specs.Listing.{horizonIn, enough}
 use Rattle.writing.specs.Writing.{Written}
 use Rattle.answer_text.specs.Level.{answerLine, level-room, levelLineOf}
 use Rattle.pricing.specs.declared.Priced.{Priced}
-use Rattle.pricing.specs.Priced.{left, Answers}
+use Rattle.pricing.specs.Priced.{leftPriced, Answers}
 use Rattle.pricing.specs.JoinedSteps.{quantile-is}
 use Rattle.prefix.specs.Prefix.{most-bytes, reading-first}
 use Rattle.fund_printing.specs.Printed.{lineAtLevel, levelLineTo, levelLine, shownLevelTo, shownLevel}
 use Rattle.fund_printing.specs.Input.{HoldsFirst, PrintsLevelFirst}
 use Rattle.fund_printing.proofs.ShownListing.{lentLengths, answers-enough, shows-first}
 
-pub level-is : (text : List ℕ) (r : Reading) (level : ℕ) (p : Priced) (d : List ℤ) (h : List ℕ) (f : List ℤ) (b : List ℕ) (s : List ℤ) → Answers text r level p (left p d h f b s) (answerTo text lentLengths r) →
+pub level-is : (text : List ℕ) (r : Reading) (level : ℕ) (p : Priced) (d : List ℤ) (h : List ℕ) (f : List ℤ) (b : List ℕ) (s : List ℤ) → Answers text r level p (leftPriced p d h f b s) (answerTo text lentLengths r) →
     (size : ℕ) → levelLineOf (p .verdict) (p .quantile) size ≡ shownLevelTo text r level size
 unfolding levelLineOf levelLineTo
 level-is text r level p d h f b s given size =
-    let k = answers-enough text r level p (left p d h f b s) given in
+    let k = answers-enough text r level p (leftPriced p d h f b s) given in
     ap (λ (l : List ℕ). if leb level-room size then l else []) (ap₂ answerLine (ap (λ (a : Answer). a .verdict) (k .answer)) (quantile-is k))
 
 -- the line does not show the part of the bytes that is handed back with a refusal

@@ -21,7 +21,7 @@ use Rattle.writing.specs.Writing.{Written}
 use Rattle.answer_text.specs.Shown.{room, shownAnswer, printable, listingOf}
 use Rattle.valuation.specs.Valued.{lengths}
 use Rattle.pricing.specs.declared.Priced.{Priced}
-use Rattle.pricing.specs.Priced.{left, horizonWith, Answers}
+use Rattle.pricing.specs.Priced.{leftPriced, horizonWith, Answers}
 use Rattle.prefix.specs.Prefix.{most-bytes, listing-first}
 use Rattle.fund_printing.specs.Printed.{shownTo, shown}
 use Rattle.fund_printing.specs.Input.{HoldsFirst, ShowsFirst, PrintsFirst}
@@ -63,20 +63,20 @@ horizon-most (stopped why place) ok Accepted = omega arith
 
 -- a listing shows the same of a refusal for every horizon
 printed-left : (p : Priced) (d : List ℤ) (h : List ℕ) (f : List ℤ) (r : List ℕ) (s : List ℤ) (X : ℕ) (v : Verdict) →
-    printed (shownAnswer (p .verdict) (p .figures) f r s) (horizonWith v X) v ≡ printed (left p d h f r s) X v
+    printed (shownAnswer (p .verdict) (p .figures) f r s) (horizonWith v X) v ≡ printed (leftPriced p d h f r s) X v
 unfolding printed listed
 printed-left p d h f r s X Accepted = refl
 printed-left p d h f r s X (Refused why place) = refl
 
 module _ (text : List ℕ) (r : Reading) (ok : (fund : FundFile) → r ≡ read fund → FundOk fund) (level : ℕ) (p : Priced) (d : List ℤ) (h : List ℕ) (f : List ℤ) (b : List ℕ) (s : List ℤ)
-    (given : Answers text r level p (left p d h f b s) (answerTo text lentLengths r)) where
-  k : Answers text r level p (left p d h f b s) (answerTo text enough r)
-  k = answers-enough text r level p (left p d h f b s) given
+    (given : Answers text r level p (leftPriced p d h f b s) (answerTo text lentLengths r)) where
+  k : Answers text r level p (leftPriced p d h f b s) (answerTo text enough r)
+  k = answers-enough text r level p (leftPriced p d h f b s) given
 
   abbrev shownOne : Answer
   shownOne = shownAnswer (p .verdict) (p .figures) f b s
 
-  within : AnswerIn (left p d h f b s)
+  within : AnswerIn (leftPriced p d h f b s)
   within = rw (k .answer) (answer-in text enough r)
 
   X-most : p .horizon ≤ most-horizon

@@ -66,20 +66,20 @@ part-length before after size e = simp (length-take, length-drop) (omega arith)
 
 -- ---- all of them
 -- The first `size` bytes are read: how it goes on from there is how the file is read from the start.
-pub record SoFar (file pieces buffer : List ℕ) (given size : ℕ) : Type 0 where
+pub record BytesSoFar (file pieces buffer : List ℕ) (given size : ℕ) : Type 0 where
   pub stands : Stands file given buffer size
   pub reads : (all : ℕ) (failed : Bool) → Reads file pieces (length buffer) size all failed → Reads file pieces (length buffer) 0 all failed
 
-pub none-yet : (file pieces buffer : List ℕ) → SoFar file pieces buffer 0 0
+pub none-yet : (file pieces buffer : List ℕ) → BytesSoFar file pieces buffer 0 0
 none-yet file pieces buffer = record { stands = record { at = refl; bytes = refl }; reads = λ all failed r. r }
 
 module _ {file pieces before after : List ℕ} {size : ℕ} where
-  pub stops : {given : ℕ} {failed : Bool} → SoFar file pieces before given size → Extends before size after → Reads file pieces (length before) size size failed →
+  pub stops : {given : ℕ} {failed : Bool} → BytesSoFar file pieces before given size → Extends before size after → Reads file pieces (length before) size size failed →
       ReadMemory file pieces after (record { size = size; failed = failed })
   stops {failed = failed} s e r = record { reads = rw (e .long) (s .reads size failed r); bytes = e .kept ∙ s .stands .bytes }
 
-  pub goes-on : {given to n : ℕ} → SoFar file pieces before given size → Given file pieces before size to after n → 0 < n → size < length before →
-      SoFar file pieces after to (size + n)
+  pub goes-on : {given to n : ℕ} → BytesSoFar file pieces before given size → Given file pieces before size to after n → 0 < n → size < length before →
+      BytesSoFar file pieces after to (size + n)
   goes-on s g some h =
       record {
         stands = g .stands;

@@ -14,13 +14,13 @@ use Rattle.fund.specs.Listing.{horizonIn}
 use Rattle.fund.specs.Distance.{WithinBounds, NeverBelow, QuantileWithin}
 use Rattle.laws.specs.Numbers.{zero-accepted}
 use Rattle.pricing.specs.declared.Priced.{Priced}
-use Rattle.pricing.specs.Priced.{left, Prices}
+use Rattle.pricing.specs.Priced.{leftPriced, Prices}
 use Rattle.pricing.specs.JoinedSteps.{quantile-is}
 use Rattle.miguepo.specs.Bits.{bitsOf, readSigned}
 use Rattle.miguepo.specs.Host.{resultFields, pricedFields, Hosts}
 
-module _ (text : List ℕ) (r : Reading) (level : ℕ) (n : Lengths) (p : Priced) (D : List ℤ) (H : List ℕ) (f : List ℤ) (R : List ℕ) (F : List ℤ) (k : Prices text r level n p (left p D H f R F)) where
-  same : left p D H f R F ≡ answerTo text n r
+module _ (text : List ℕ) (r : Reading) (level : ℕ) (n : Lengths) (p : Priced) (D : List ℤ) (H : List ℕ) (f : List ℤ) (R : List ℕ) (F : List ℤ) (k : Prices text r level n p (leftPriced p D H f R F)) where
+  same : leftPriced p D H f R F ≡ answerTo text n r
   same = k .answers .answer
 
   zero-told : numberIn (answerTo text n r .verdict) ≡ 0 → p .verdict ≡ Accepted

@@ -56,7 +56,7 @@ abbrev pub bytes-for : ℕ → ℕ
 bytes-for count = most-line * count + suc most-line
 
 -- n bytes are enough for what can follow these rows
-record Room (n : ℕ) (rates : List Rate) (members : List Member) : Type 0 where
+record RoomLeft (n : ℕ) (rates : List Rate) (members : List Member) : Type 0 where
   few-rates : length rates ≤ most-rates
   few-members : length members ≤ most-members
   enough : bytes-for (most-rates + most-members) ≤ n + most-line * (length rates + length members)
@@ -71,21 +71,21 @@ below a b h = go (ltb a b) refl
 false-true : false ≡ true → ⊥
 false-true e = let z : _≡_ {A = ℕ} 0 1 = cc in omega arith
 
-more-rates : (n m : ℕ) (rates : List Rate) (members : List Member) (r : Rate) → Room n rates members → rateInRange rates r ≡ true → n ≤ m + most-line → Room m (rates ++ (r ∷ [])) members
+more-rates : (n m : ℕ) (rates : List Rate) (members : List Member) (r : Rate) → RoomLeft n rates members → rateInRange rates r ≡ true → n ≤ m + most-line → RoomLeft m (rates ++ (r ∷ [])) members
 unfolding rateInRange
 more-rates n m rates members r k e h =
     let few = below (length rates) most-rates (λ s. false-true (rw (s, rateInRange) at e)) in
     let more = length-append rates (r ∷ []) in
     record { few-rates = omega arith; few-members = k .few-members; enough = omega arith }
 
-more-members : (n m : ℕ) (rates : List Rate) (members : List Member) (x : Member) → Room n rates members → memberInRange members x ≡ true → n ≤ m + most-line → Room m rates (members ++ (x ∷ []))
+more-members : (n m : ℕ) (rates : List Rate) (members : List Member) (x : Member) → RoomLeft n rates members → memberInRange members x ≡ true → n ≤ m + most-line → RoomLeft m rates (members ++ (x ∷ []))
 unfolding memberInRange
 more-members n m rates members x k e h =
     let few = below (length members) most-members (λ s. false-true (rw (s, memberInRange) at e)) in
     let more = length-append members (x ∷ []) in
     record { few-rates = k .few-rates; few-members = omega arith; enough = omega arith }
 
-rows-same : (k : ℕ) (header : Fund) (rates : List Rate) (members : List Member) {n : ℕ} {xs ys : List Line} → Cut n xs ys → Room n rates members → readRows k header rates members xs ≡ readRows k header rates members ys
+rows-same : (k : ℕ) (header : Fund) (rates : List Rate) (members : List Member) {n : ℕ} {xs ys : List Line} → Cut n xs ys → RoomLeft n rates members → readRows k header rates members xs ≡ readRows k header rates members ys
 unfolding readRows
 rows-same k header rates members over room = refl
 rows-same k header rates members (spent e) room = absurd (omega arith)
@@ -95,7 +95,7 @@ rows-same k header rates members (same {n} {m} {xs} {ys} l h c) room =
     by-length l (λ short. go (rowOf l) refl (omega arith) (λ rs ms. rows-same (suc k) header rs ms c))
     (λ u. rows-stop k header rates members l xs u ∙ sym (rows-stop k header rates members l ys u))
   where
-    go : (row : Row) → rowOf l ≡ row → n ≤ m + most-line → ((rs : List Rate) (ms : List Member) → Room m rs ms → readRows (suc k) header rs ms xs ≡ readRows (suc k) header rs ms ys)
+    go : (row : Row) → rowOf l ≡ row → n ≤ m + most-line → ((rs : List Rate) (ms : List Member) → RoomLeft m rs ms → readRows (suc k) header rs ms xs ≡ readRows (suc k) header rs ms ys)
         → readRows k header rates members (l ∷ xs) ≡ readRows k header rates members (l ∷ ys)
     go (rateRow r) s g ih =
         rw (s, readRows)

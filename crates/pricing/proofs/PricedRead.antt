@@ -13,7 +13,7 @@ use Rattle.reader.specs.declared.FileRead.{FileRead}
 use Rattle.reader.specs.Read.{fileRead}
 use Rattle.pricing.specs.declared.Priced.{Priced}
 use Rattle.pricing.specs.JoinedSteps.{answer-stopped}
-use Rattle.pricing.specs.Priced.{left, lined, horizonWith, MatchedFund, valuedBy, matchedOf, readBy, readAnswer, PricesRead, Prices}
+use Rattle.pricing.specs.Priced.{leftPriced, lined, horizonWith, MatchedFund, valuedBy, matchedOf, readBy, readAnswer, PricesRead, Prices}
 use Rattle.pricing.proofs.ValuedAnswer.{matched-answers, valued-answers}
 use Rattle.pricing.proofs.Reading.{stops, horizon-read, read-matched, matched-verdict, matched-points, few-enrolled}
 use Rattle.pricing.proofs.ToldAnswer.{prices}
@@ -34,7 +34,7 @@ module _ (text : List ℕ) (r : Reading) (found : FileRead) (e : found ≡ fileR
       go (Refused why place) w = sym (answer-stopped text n r why place (stops r found e why place w r refl))
       go Accepted w = of-tables (read-matched r found e ok (matchedOf found) refl w) (matchedOf found .verdict) refl
 
-  pub prices-read : (level : ℕ) (p : Priced) (d : List ℤ) (h : List ℕ) (f : List ℤ) (bounds : List ℕ) (s : List ℤ) → PricesRead text found level n p (left p d h f bounds s) → Prices text r level n p (left p d h f bounds s)
+  pub prices-read : (level : ℕ) (p : Priced) (d : List ℤ) (h : List ℕ) (f : List ℤ) (bounds : List ℕ) (s : List ℤ) → PricesRead text found level n p (leftPriced p d h f bounds s) → Prices text r level n p (leftPriced p d h f bounds s)
   prices-read level p d h f bounds s k =
       prices text r level n p d h f bounds s
       (record {

@@ -18,10 +18,10 @@ use Rattle.laws.specs.Ranges.{FundOk}
 use Rattle.distance.specs.Distance.{distance, level-within, never-below, average}
 use Rattle.reader.specs.declared.FileRead.{FileRead}
 use Rattle.valuation.specs.declared.Valued.{Valued}
-use Rattle.valuation.specs.Valued.{left as leftOf}
+use Rattle.valuation.specs.Valued.{leftValued}
 use Rattle.pricing.specs.JoinedSteps.{quantile-is}
 use Rattle.pricing.specs.declared.Priced.{Priced}
-use Rattle.pricing.specs.Priced.{left, lined, horizonWith, Tells, readAnswer, PricesRead, Answers, Prices, lineOf}
+use Rattle.pricing.specs.Priced.{leftPriced, lined, horizonWith, Told, readAnswer, PricesRead, Answers, Prices, lineOf}
 
 -- no horizon is told of a refusal
 pub refused-horizon : (a : Answer) (n : Lengths) (why : Refusal) (place X : ℕ) → a ≡ refused [] n (Refused why place) → horizonWith (a .verdict) 0 ≡ horizonWith (a .verdict) X
@@ -29,8 +29,8 @@ unfolding refused
 refused-horizon a n why place X e = rw e refl
 
 -- What is told of a valuation, and of the sums that it left, is the answer to what was read.
-pub tells-read : (text : List ℕ) (found : FileRead) (level : ℕ) (n : Lengths) (p : Priced) (v : Valued) (X : ℕ) (d : List ℤ) (h : List ℕ) (f : List ℤ) (bounds : List ℕ) (s : List ℤ) → Tells text level X v s p →
-    lined text (leftOf v d h f bounds s) ≡ readAnswer text found n → horizonWith (v .verdict) X ≡ horizonWith (v .verdict) (found .fund .horizon) → PricesRead text found level n p (left p d h f bounds s)
+pub tells-read : (text : List ℕ) (found : FileRead) (level : ℕ) (n : Lengths) (p : Priced) (v : Valued) (X : ℕ) (d : List ℤ) (h : List ℕ) (f : List ℤ) (bounds : List ℕ) (s : List ℤ) → Told text level X v s p →
+    lined text (leftValued v d h f bounds s) ≡ readAnswer text found n → horizonWith (v .verdict) X ≡ horizonWith (v .verdict) (found .fund .horizon) → PricesRead text found level n p (leftPriced p d h f bounds s)
 tells-read text found level n p v X d h f bounds s t is x =
     record {
       answer = (λ i. record { verdict = t .verdict i; part = t .line i; figures = t .figures i; D = d; H = h; f = f; R = bounds; F = s }) ∙ is;
@@ -41,8 +41,8 @@ tells-read text found level n p v X d h f bounds s t is x =
     }
 
 -- An answer of the definition's meets the contract of a call.
-pub prices : (text : List ℕ) (r : Reading) (level : ℕ) (n : Lengths) (p : Priced) (d : List ℤ) (h : List ℕ) (f : List ℤ) (bounds : List ℕ) (s : List ℤ) → Answers text r level p (left p d h f bounds s) (answerTo text n r) →
-    ((fund : FundFile) → r ≡ read fund → FundOk fund) → Prices text r level n p (left p d h f bounds s)
+pub prices : (text : List ℕ) (r : Reading) (level : ℕ) (n : Lengths) (p : Priced) (d : List ℤ) (h : List ℕ) (f : List ℤ) (bounds : List ℕ) (s : List ℤ) → Answers text r level p (leftPriced p d h f bounds s) (answerTo text n r) →
+    ((fund : FundFile) → r ≡ read fund → FundOk fund) → Prices text r level n p (leftPriced p d h f bounds s)
 prices text r level n p d h f bounds s k ok =
     let v = sym (ap (λ (x : Answer). x .verdict) (k .answer)) in
     record {

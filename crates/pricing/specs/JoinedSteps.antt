@@ -31,7 +31,7 @@ use Rattle.laws.specs.Ranges.{RateOk, MemberOk, FundOk}
 use Rattle.widths.specs.Lives.{InRange}
 use Rattle.totals.specs.Table.{PointIn, Points}
 use Rattle.pricing.specs.declared.Priced.{Priced}
-use Rattle.pricing.specs.Priced.{left, horizonWith, Answers}
+use Rattle.pricing.specs.Priced.{leftPriced, horizonWith, Answers}
 
 -- ---- model points in their ranges
 folded-in : (o : Option Rate) (m : Member) → ((r : Rate) → o ≡ some r → RateOk r) → MemberOk m → Limited (folded o m) → InRange (folded o m)
@@ -124,7 +124,7 @@ pub told-horizon : (level X : ℕ) (F : List ℤ) (v : Verdict) → quantileOf l
 told-horizon level X F Accepted = refl
 told-horizon level X F (Refused why place) = refl
 
-pub quantile-is : {text : List ℕ} {r : Reading} {level : ℕ} {p : Priced} {D : List ℤ} {H : List ℕ} {f : List ℤ} {R : List ℕ} {F : List ℤ} {is : Answer} → Answers text r level p (left p D H f R F) is →
+pub quantile-is : {text : List ℕ} {r : Reading} {level : ℕ} {p : Priced} {D : List ℤ} {H : List ℕ} {f : List ℤ} {R : List ℕ} {F : List ℤ} {is : Answer} → Answers text r level p (leftPriced p D H f R F) is →
     p .quantile ≡ quantileOf level (horizonIn r) (is .F) (is .verdict)
 quantile-is {r = r} {level} {p} {F = F} k =
     k .quantile

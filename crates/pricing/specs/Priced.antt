@@ -28,8 +28,8 @@ use Rattle.valuation.specs.Valued.{valuation}
 use Rattle.pricing.specs.declared.Priced.{Priced}
 
 -- The answer that a call leaves: what it returns, and the slices.
-abbrev pub left : Priced → List ℤ → List ℕ → List ℤ → List ℕ → List ℤ → Answer
-left p d h f r s =
+abbrev pub leftPriced : Priced → List ℤ → List ℕ → List ℤ → List ℕ → List ℤ → Answer
+leftPriced p d h f r s =
     record {
       verdict = p .verdict;
       part = record { start = p .start; size = p .end - p .start };
@@ -108,7 +108,7 @@ pub record PricesRead (text : List ℕ) (found : FileRead) (level : ℕ) (n : Le
   pub inside : p .end ≤ length text
 
 -- What is told of a valuation and of the sums that it left.
-pub record Tells (text : List ℕ) (level X : ℕ) (v : Valued) (sums : List ℤ) (p : Priced) : Type 0 where
+pub record Told (text : List ℕ) (level X : ℕ) (v : Valued) (sums : List ℤ) (p : Priced) : Type 0 where
   pub verdict : p .verdict ≡ v .verdict
   pub figures : p .figures ≡ v .figures
   pub line : record { start = p .start; size = p .end - p .start } ≡ part text (v .verdict)

@@ -11,8 +11,8 @@ ghost use mathlib.Core.Path.{_≡_};
 ghost use Rattle.fund.specs.Reading.{reading};
 ghost use Rattle.fund.specs.Quantile.{quantileOf};
 ghost use Rattle.fund.specs.Sheets.{sheetReading};
-ghost use Rattle.valuation.specs.Valued.{left as leftOf, lengths};
-ghost use Rattle.pricing.specs.Priced.{left, horizonWith, Tells, valuedOf, Prices, PricesRead, lineOf};
+ghost use Rattle.valuation.specs.Valued.{leftValued, lengths};
+ghost use Rattle.pricing.specs.Priced.{leftPriced, horizonWith, Told, valuedOf, Prices, PricesRead, lineOf};
 
 // What a call answers beside the result slices: the verdict, where the part of the host's bytes that goes with it starts and
 // ends, the horizon of a fund that is accepted, the figures, and the answer at the level.
@@ -47,7 +47,7 @@ fn quantile_of(verdict: Verdict, level: u64, horizon: u64, sums: &[i64]) -> Quan
 
 // What is told of a valuation beside its figures: the line of the verdict, the horizon and the answer at the level.
 fn told(file: &[u8], level: u64, horizon: u64, value: Valued, sums: &[i64]) -> Priced
-    ensures { λ p. ⌜ Tells (now (file .entry)) level horizon value (now (sums .entry)) p ⌝ }
+    ensures { λ p. ⌜ Told (now (file .entry)) level horizon value (now (sums .entry)) p ⌝ }
 {
     let verdict = value.verdict;
     let figures = value.figures;
@@ -75,7 +75,7 @@ fn valued(
     r: &mut [u64],
     sums: &mut [i64],
 ) -> Valued
-    ensures { λ v. ⌜ leftOf v (now (transform .exit)) (now (h .exit)) (now (f .exit)) (now (r .exit)) (now (sums .exit)) ≡
+    ensures { λ v. ⌜ leftValued v (now (transform .exit)) (now (h .exit)) (now (f .exit)) (now (r .exit)) (now (sums .exit)) ≡
         valuedOf fund matched enrolled (lengths (now (transform .entry)) (now (h .entry)) (now (f .entry)) (now (r .entry)) (now (sums .entry))) ⌝ }
 {
     let verdict = matched.verdict;
@@ -104,7 +104,7 @@ pub fn price_read(
 ) -> Priced
     ensures { λ p. ⌜ PricesRead (now (text .entry)) found level
         (lengths (now (transform .entry)) (now (h .entry)) (now (f .entry)) (now (r .entry)) (now (sums .entry))) p
-        (left p (now (transform .exit)) (now (h .exit)) (now (f .exit)) (now (r .exit)) (now (sums .exit))) ⌝ }
+        (leftPriced p (now (transform .exit)) (now (h .exit)) (now (f .exit)) (now (r .exit)) (now (sums .exit))) ⌝ }
 {
     let verdict = found.verdict;
     match verdict {
@@ -137,7 +137,7 @@ pub fn price(
 ) -> Priced
     ensures { λ p. ⌜ Prices (now (file .entry)) (reading (now (file .entry))) level
         (lengths (now (transform .entry)) (now (h .entry)) (now (f .entry)) (now (r .entry)) (now (sums .entry))) p
-        (left p (now (transform .exit)) (now (h .exit)) (now (f .exit)) (now (r .exit)) (now (sums .exit))) ⌝ }
+        (leftPriced p (now (transform .exit)) (now (h .exit)) (now (f .exit)) (now (r .exit)) (now (sums .exit))) ⌝ }
 {
     let found = reader::read(file);
     price_read(file, found, level, transform, h, f, r, sums)
@@ -157,7 +157,7 @@ pub fn price_sheets(
 ) -> Priced
     ensures { λ p. ⌜ Prices (now (header .entry)) (sheetReading (now (header .entry)) (now (rates .entry)) (now (members .entry))) level
         (lengths (now (transform .entry)) (now (h .entry)) (now (f .entry)) (now (r .entry)) (now (sums .entry))) p
-        (left p (now (transform .exit)) (now (h .exit)) (now (f .exit)) (now (r .exit)) (now (sums .exit))) ⌝ }
+        (leftPriced p (now (transform .exit)) (now (h .exit)) (now (f .exit)) (now (r .exit)) (now (sums .exit))) ⌝ }
 {
     let found = sheet_reader::read(header, rates, members);
     price_read(header, found, level, transform, h, f, r, sums)

@@ -17,7 +17,7 @@ use Rattle.whole.specs.declared.Sums.{Sums}
 use Rattle.whole.specs.Sign.{signed}
 use Rattle.whole.specs.Sums.{sumOf, WithPart}
 use Rattle.recursion_limits.specs.Limits.{CellFits, most-error}
-use Rattle.recursion.specs.Steps.{opposite, Added}
+use Rattle.recursion.specs.Steps.{opposite, ProductAdded}
 use Rattle.recursion.proofs.Opposite.{nearest-product}
 
 unit-positive : 0 < unit
@@ -76,7 +76,7 @@ module _ (k : Entry) (y : Cell) (limited : CellFits y) (error : k .H ≤ most-er
       }
 
   -- a part more, of the product's sign, is one k more
-  pub added : (s t : Sums) (n a b : ℕ) → Parts k y n a b → WithPart s (opposite (k .D) (y .f)) n (a + b) t → Added s k y t
+  pub added : (s t : Sums) (n a b : ℕ) → Parts k y n a b → WithPart s (opposite (k .D) (y .f)) n (a + b) t → ProductAdded s k y t
   added s t n a b p w =
       let l = within n a b p in
       record {
@@ -100,7 +100,7 @@ module _ (k : Entry) (y : Cell) (limited : CellFits y) (error : k .H ≤ most-er
   up-none : (m n : ℕ) → m ≡ 0 → up (m * n) unit ≡ 0
   up-none m n e = ap (λ m. up (m * n) unit) e ∙ ap (λ m. up m unit) (N.zero-mul n) ∙ up-zero unit unit-positive
 
-  pub added-none : (s t : Sums) (b : ℕ) → natAbs (k .D) ≡ 0 → b ≡ up (k .H * (natAbs (y .f) + y .R)) unit → WithPart s false 0 b t → Added s k y t
+  pub added-none : (s t : Sums) (b : ℕ) → natAbs (k .D) ≡ 0 → b ≡ up (k .H * (natAbs (y .f) + y .R)) unit → WithPart s false 0 b t → ProductAdded s k y t
   added-none s t b e h w =
       record {
         f-is = w .sum-is ∙ ap (λ z. sumOf s +ℤ z) (sym (addF-none e));
@@ -110,7 +110,7 @@ module _ (k : Entry) (y : Cell) (limited : CellFits y) (error : k .H ≤ most-er
         bound-within = omega (arith, w .bound-is, h, H-most);
       }
 
-  pub added-empty : (s : Sums) → natAbs (k .D) ≡ 0 → k .H ≡ 0 → Added s k y s
+  pub added-empty : (s : Sums) → natAbs (k .D) ≡ 0 → k .H ≡ 0 → ProductAdded s k y s
   added-empty s e h =
       record {
         f-is = sym (+ℤ-idr (sumOf s)) ∙ ap (λ z. sumOf s +ℤ z) (sym (addF-none e));

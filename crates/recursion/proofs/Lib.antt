@@ -1,5 +1,5 @@
 mod Opposite
-mod Added
+mod ProductAdded
 mod SumsTo
 mod CellsFilled
 mod ListedPlaces

@@ -28,7 +28,7 @@ use Rattle.recursion_limits.specs.Tests.{large, Kept, Tests}
 use Rattle.recursion_limits.proofs.Recursed as R
 use Rattle.recursion_limits.proofs.TestedLimits.{small-cell, tested-kept}
 use Rattle.recursion.specs.Slices.{cellIn, entriesIn}
-use Rattle.recursion.specs.Recursion.{stopped, cellsTo, after, recursed, left, leaves, recursion}
+use Rattle.recursion.specs.Recursion.{stopped, cellsTo, after, recursed, leftCells, leaves, recursion}
 use Rattle.recursion.specs.Steps.{CellsFilled, StepsTo, StepsFrom, CarriedOut, Settled}
 
 -- ---- the start
@@ -135,9 +135,9 @@ module _ (X : ℕ) (d : List ℤ) (h : List ℕ) (start : Cell) (nf nr : ℕ) wh
           lent-is 0 nr X (λ k. cell k .R) r (s .r-are) (s .r-beyond ∙ drop-replicate (suc X) nr 0)
           ∙ ap (lent 0 nr) (sym (map-table (λ (y : Cell). y .R) (suc X) cell) ∙ ap (map (λ (y : Cell). y .R)) (sym are))
 
-      done : left Done f r ≡ recursion X d h start nf nr
+      done : leftCells Done f r ≡ recursion X d h start nf nr
       unfolding recursion leaves
-      done = rw (rest ∙ stopped-none 0 (suc X) cell (λ k l. s .fit k (N.le-of-suc-le-suc l))) (ap₂ (left Done) f-lent r-lent)
+      done = rw (rest ∙ stopped-none 0 (suc X) cell (λ k l. s .fit k (N.le-of-suc-le-suc l))) (ap₂ (leftCells Done) f-lent r-lent)
 
     pub outcome-steps : (f : List ℤ) (r : List ℕ) (a : Recursed) → StepsFrom X d h start nf nr f r a → CarriedOut X d h start nf nr f r a
     outcome-steps f r Done s = done f r s
@@ -152,13 +152,13 @@ module _ (X : ℕ) (d : List ℤ) (h : List ℕ) (start : Cell) (nf nr : ℕ) wh
 
   -- what is left of either
   pub outcome-left : (f f′ : List ℤ) (r r′ : List ℕ) (a : Recursed) → length f ≡ nf → length r ≡ nr → CarriedOut X d h start nf nr f r a → Settled a f r f′ r′ →
-      left a f′ r′ ≡ recursion X d h start nf nr
+      leftCells a f′ r′ ≡ recursion X d h start nf nr
   unfolding recursion leaves
-  outcome-left f f′ r r′ Done e g o s = ap₂ (left Done) (s .0) (s .1) ∙ o
-  outcome-left f f′ r r′ Short e g o s = rw (o, ← e, ← g) (ap₂ (left Short) (s .0) (s .1))
-  outcome-left f f′ r r′ (Outside k) e g o s = rw (o, ← e, ← g) (ap₂ (left (Outside k)) (s .0) (s .1))
-  outcome-left f f′ r r′ (Wide x) e g o s = rw (o, ← e, ← g) (ap₂ (left (Wide x)) (s .0) (s .1))
-  outcome-left f f′ r r′ (Large x) e g o s = rw (o, ← e, ← g) (ap₂ (left (Large x)) (s .0) (s .1))
+  outcome-left f f′ r r′ Done e g o s = ap₂ (leftCells Done) (s .0) (s .1) ∙ o
+  outcome-left f f′ r r′ Short e g o s = rw (o, ← e, ← g) (ap₂ (leftCells Short) (s .0) (s .1))
+  outcome-left f f′ r r′ (Outside k) e g o s = rw (o, ← e, ← g) (ap₂ (leftCells (Outside k)) (s .0) (s .1))
+  outcome-left f f′ r r′ (Wide x) e g o s = rw (o, ← e, ← g) (ap₂ (leftCells (Wide x)) (s .0) (s .1))
+  outcome-left f f′ r r′ (Large x) e g o s = rw (o, ← e, ← g) (ap₂ (leftCells (Large x)) (s .0) (s .1))
 
 pub settled-zeros : (f f′ : List ℤ) (r r′ : List ℕ) (a : Recursed) → OneOf (1 ∷ 2 ∷ 3 ∷ 4 ∷ []) (Declared.tagOf R.the-type a) →
     (f′ ≡ replicate (length f) (pos 0)) × (r′ ≡ replicate (length r) 0) → Settled a f r f′ r′

@@ -12,14 +12,14 @@ use Rattle.recursion_limits.specs.Limits.{TransformFits}
 use Rattle.recursion_limits.proofs.PartialSums.{sumN-grow}
 use Rattle.recursion.specs.Slices.{cellIn, entryIn, CellsFit}
 use Rattle.recursion.specs.Places.{Blank, from, Listed}
-use Rattle.recursion.specs.Steps.{most-part-sum, SumsFit, Added, SumsTo}
+use Rattle.recursion.specs.Steps.{most-part-sum, SumsFit, ProductAdded, SumsTo}
 use Rattle.recursion.proofs.Added.{added-empty}
 
 module _ (d : List ℤ) (h : List ℕ) (f : List ℤ) (r : List ℕ) (last : ℕ) where
   pub sums-none : SumsTo d h f r last 0 (record { plus = 0; minus = 0; bound = 0 })
   sums-none = record { f-is = refl; R-is = refl; plus-within = omega arith; minus-within = omega arith; bound-within = omega arith }
 
-  pub sums-more : (k : ℕ) (s t : Sums) → SumsTo d h f r last k s → Added s (entryIn d h k) (cellIn f r (last - k)) t →
+  pub sums-more : (k : ℕ) (s t : Sums) → SumsTo d h f r last k s → ProductAdded s (entryIn d h k) (cellIn f r (last - k)) t →
       SumsTo d h f r last (suc k) t
   sums-more k s t i a =
       record {

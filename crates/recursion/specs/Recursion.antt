@@ -40,16 +40,16 @@ pub record Left : Type 0 where
   pub f : List ℤ
   pub R : List ℕ
 
-abbrev pub left : Recursed → List ℤ → List ℕ → Left
-left a f r = record { answer = a; f = f; R = r }
+abbrev pub leftCells : Recursed → List ℤ → List ℕ → Left
+leftCells a f r = record { answer = a; f = f; R = r }
 
 -- The cells with zeros beyond X, or zeros.
 unfoldable pub leaves : List Cell → ℕ → ℕ → Recursed → Left
-leaves ys nf nr Done = left Done (lent (pos 0) nf (map (λ (y : Cell). y .f) ys)) (lent 0 nr (map (λ (y : Cell). y .R) ys))
-leaves ys nf nr Short = left Short (replicate nf (pos 0)) (replicate nr 0)
-leaves ys nf nr (Outside k) = left (Outside k) (replicate nf (pos 0)) (replicate nr 0)
-leaves ys nf nr (Wide x) = left (Wide x) (replicate nf (pos 0)) (replicate nr 0)
-leaves ys nf nr (Large x) = left (Large x) (replicate nf (pos 0)) (replicate nr 0)
+leaves ys nf nr Done = leftCells Done (lent (pos 0) nf (map (λ (y : Cell). y .f) ys)) (lent 0 nr (map (λ (y : Cell). y .R) ys))
+leaves ys nf nr Short = leftCells Short (replicate nf (pos 0)) (replicate nr 0)
+leaves ys nf nr (Outside k) = leftCells (Outside k) (replicate nf (pos 0)) (replicate nr 0)
+leaves ys nf nr (Wide x) = leftCells (Wide x) (replicate nf (pos 0)) (replicate nr 0)
+leaves ys nf nr (Large x) = leftCells (Large x) (replicate nf (pos 0)) (replicate nr 0)
 
 unfoldable pub recursion : ℕ → List ℤ → List ℕ → Cell → ℕ → ℕ → Left
 recursion X d h start nf nr = leaves (cellsTo X d h start) nf nr (recursed X d h start nf nr)

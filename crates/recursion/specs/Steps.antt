@@ -16,7 +16,7 @@ use Rattle.recursion_limits.specs.declared.Recursed.{Recursed}
 use Rattle.recursion_limits.specs.declared.Recursed.the-variants.{Done, Short, Outside, Wide, Large}
 use Rattle.recursion_limits.specs.Limits.{most-transform, most-error, most-cell, sizes, CellFits}
 use Rattle.recursion.specs.Slices.{cellIn, entryIn, entriesIn, cellOf}
-use Rattle.recursion.specs.Recursion.{left, recursed, recursion}
+use Rattle.recursion.specs.Recursion.{leftCells, recursed, recursion}
 
 abbrev pub most-part-sum : ℕ
 most-part-sum = 9 * 10 ^ 17
@@ -38,7 +38,7 @@ pub record SumsFit (s : Sums) (k : Entry) (y : Cell) : Type 0 where
   pub minus-within : s .minus ≤ most-part-sum
   pub bound-within : s .bound ≤ most-part-sum
 
-pub record Added (s : Sums) (k : Entry) (y : Cell) (t : Sums) : Type 0 where
+pub record ProductAdded (s : Sums) (k : Entry) (y : Cell) (t : Sums) : Type 0 where
   pub f-is : sumOf t ≡ sumOf s +ℤ addF k y
   pub R-is : t .bound ≡ s .bound + addR k y
   pub plus-within : t .plus ≤ s .plus + 2 * natAbs (k .D)
@@ -90,7 +90,7 @@ StepsFrom X d h start nf nr f′ r′ a = StepsTo X (cellAt (entriesIn X d h) st
 
 -- ---- the tests and the steps: where they are done the slices are filled, else the answer is the definition's
 abbrev pub CarriedOut : ℕ → List ℤ → List ℕ → Cell → ℕ → ℕ → List ℤ → List ℕ → Recursed → Type 0
-CarriedOut X d h start nf nr f′ r′ Done = left Done f′ r′ ≡ recursion X d h start nf nr
+CarriedOut X d h start nf nr f′ r′ Done = leftCells Done f′ r′ ≡ recursion X d h start nf nr
 CarriedOut X d h start nf nr f′ r′ Short = recursed X d h start nf nr ≡ Short
 CarriedOut X d h start nf nr f′ r′ (Outside k) = recursed X d h start nf nr ≡ Outside k
 CarriedOut X d h start nf nr f′ r′ (Wide x) = recursed X d h start nf nr ≡ Wide x

@@ -7,7 +7,7 @@ mod steps;
 pub use recursion_limits::Recursed;
 ghost use mathlib.Core.Path.{_≡_};
 ghost use lib.ListN.{length};
-ghost use Rattle.recursion.specs.Recursion.{left, recursion};
+ghost use Rattle.recursion.specs.Recursion.{leftCells, recursion};
 ghost use Rattle.recursion.specs.Steps.{CarriedOut, Settled};
 
 // The limits, and where they are kept the steps.
@@ -51,7 +51,7 @@ pub fn recursion(
     f: &mut [i64],
     r: &mut [u64],
 ) -> Recursed
-    ensures { λ a. ⌜ left a (now (f .exit)) (now (r .exit)) ≡
+    ensures { λ a. ⌜ leftCells a (now (f .exit)) (now (r .exit)) ≡
         recursion horizon (now (transform .entry)) (now (h .entry)) (record { f = first; R = bound }) (length (now (f .entry))) (length (now (r .entry))) ⌝ }
 {
     let answer = carried_out(horizon, transform, h, first, bound, f, r);

@@ -7,7 +7,7 @@ ghost use Prim.Native.Nat.{_*_, _^_, _≤_};
 ghost use Rattle.rounding.specs.Rounding.{near, up};
 ghost use Rattle.recursion_limits.specs.Limits.{most-cell};
 ghost use Rattle.recursion.specs.Places.{most-small-size, SmallEntry};
-ghost use Rattle.recursion.specs.Steps.{opposite, SumsFit, Added};
+ghost use Rattle.recursion.specs.Steps.{opposite, SumsFit, ProductAdded};
 
 const HALF_UNIT: u64 = rounding::UNIT / 2;
 
@@ -19,7 +19,7 @@ const UNIT_OVER_BASE: u64 = rounding::UNIT / BASE;
 pub(crate) fn add(small: bool, s: Sums, d: i64, h: u64, f: i64, r: u64) -> Sums
     requires { ⌜ SumsFit s (record { D = d; H = h }) (record { f = f; R = r }) ⌝ }
     requires { ⌜ (small ≡ true → SmallEntry d h) ⌝ }
-    ensures { λ t. ⌜ Added s (record { D = d; H = h }) (record { f = f; R = r }) t ⌝ }
+    ensures { λ t. ⌜ ProductAdded s (record { D = d; H = h }) (record { f = f; R = r }) t ⌝ }
 {
     if small {
         return add_small(s, d, h, f, r);
@@ -31,7 +31,7 @@ pub(crate) fn add(small: bool, s: Sums, d: i64, h: u64, f: i64, r: u64) -> Sums
 fn add_small(s: Sums, d: i64, h: u64, f: i64, r: u64) -> Sums
     requires { ⌜ SumsFit s (record { D = d; H = h }) (record { f = f; R = r }) ⌝ }
     requires { ⌜ SmallEntry d h ⌝ }
-    ensures { λ t. ⌜ Added s (record { D = d; H = h }) (record { f = f; R = r }) t ⌝ }
+    ensures { λ t. ⌜ ProductAdded s (record { D = d; H = h }) (record { f = f; R = r }) t ⌝ }
 {
     let size = whole::magnitude(d);
     let cell = whole::magnitude(f);
@@ -70,7 +70,7 @@ fn product_nearest(a: u64, b: u64) -> u64
 // The same for any factors within the limits: none is formed for f where D is 0.
 fn add_wide(s: Sums, d: i64, h: u64, f: i64, r: u64) -> Sums
     requires { ⌜ SumsFit s (record { D = d; H = h }) (record { f = f; R = r }) ⌝ }
-    ensures { λ t. ⌜ Added s (record { D = d; H = h }) (record { f = f; R = r }) t ⌝ }
+    ensures { λ t. ⌜ ProductAdded s (record { D = d; H = h }) (record { f = f; R = r }) t ⌝ }
 {
     let size = whole::magnitude(d);
     if size == 0 {

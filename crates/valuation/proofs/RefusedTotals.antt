@@ -34,14 +34,14 @@ use Rattle.totals.specs.Tests.{testedOf, PassedTests, Tested}
 use Rattle.totals.proofs.TestedTotals.{tested-range}
 use Rattle.valuation.specs.Filling.{TableFits, TableAdded}
 use Rattle.valuation.specs.declared.Valued.{Valued}
-use Rattle.valuation.specs.Valued.{left, outcome, Zeros, verdictOf, valuation}
+use Rattle.valuation.specs.Valued.{leftValued, outcome, Zeros, verdictOf, valuation}
 use Rattle.valuation.specs.Steps.{Fillable, TransformFilled, ReadyFor, ValuedAnswer}
 use Rattle.totals.proofs.InsideTells.{inside-tells}
 
 -- ---- a refusal
 -- zeros in all slices and figures
 pub left-zeros : (v : Valued) (w : Verdict) (n : Lengths) (d : List ℤ) (h : List ℕ) (f : List ℤ) (r : List ℕ) (s : List ℤ) → Zeros n d h f r s → v ≡ record { verdict = w; figures = noFigures } →
-    left v d h f r s ≡ refused [] n w
+    leftValued v d h f r s ≡ refused [] n w
 unfolding refused
 left-zeros v w n d h f r s z k = rw (k, z .d-zero, z .h-zero, z .f-zero, z .r-zero, z .s-zero, no-line w)
 

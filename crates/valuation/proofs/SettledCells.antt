@@ -52,7 +52,7 @@ use Rattle.totals.specs.Table.{Members, most-mean}
 use Rattle.totals.specs.Totals.{startLambda}
 use Rattle.valuation.specs.Premium.{Cells, StopLossIs, levels}
 use Rattle.valuation.specs.Sums.{SumsFit}
-use Rattle.valuation.specs.Valued.{left, outcome}
+use Rattle.valuation.specs.Valued.{leftValued, outcome}
 use Rattle.valuation.specs.Steps.{ReadyFor, Ready, RecursionLeft, RecursedFor, refusalOf, centimesIn, ValuedAnswer, SettledFor, AnsweredFor}
 use Rattle.valuation.proofs.RunningSums.{fronted}
 use Rattle.valuation.proofs.OwnLimits.{answerOf, narrow-of, FundFits, recursion-is}
@@ -64,9 +64,9 @@ mean-is ms l a m h e = omega (arith, e, load-is a ms, total-le InRange (meanPart
 
 -- answers that agree field by field
 same-answer : {d d′ f f′ s s′ : List ℤ} {h h′ r r′ : List ℕ} {e e′ m m′ w w′ g g′ : ℕ} {p p′ : ℤ} → d ≡ d′ → h ≡ h′ → f ≡ f′ → r ≡ r′ → s ≡ s′ → e ≡ e′ → m ≡ m′ → p ≡ p′ → w ≡ w′ → g ≡ g′ →
-    left (record { verdict = Accepted; figures = record { truncation = e; mean = m; premium = p; within = w; gross = g } }) d h f r s
-    ≡ left (record { verdict = Accepted; figures = record { truncation = e′; mean = m′; premium = p′; within = w′; gross = g′ } }) d′ h′ f′ r′ s′
-same-answer a b c q s x y z u g = λ i. left (record { verdict = Accepted; figures = record { truncation = x i; mean = y i; premium = z i; within = u i; gross = g i } }) (a i) (b i) (c i) (q i) (s i)
+    leftValued (record { verdict = Accepted; figures = record { truncation = e; mean = m; premium = p; within = w; gross = g } }) d h f r s
+    ≡ leftValued (record { verdict = Accepted; figures = record { truncation = e′; mean = m′; premium = p′; within = w′; gross = g′ } }) d′ h′ f′ r′ s′
+same-answer a b c q s x y z u g = λ i. leftValued (record { verdict = Accepted; figures = record { truncation = x i; mean = y i; premium = z i; within = u i; gross = g i } }) (a i) (b i) (c i) (q i) (s i)
 
 -- a search that found none
 none-of : {A : Type 0} (met : A → Bool) (at n : ℕ) (g : ℕ → A) → first met at (table n g) ≡ none → (x : ℕ) → x < n → met (g x) ≡ false
@@ -127,7 +127,7 @@ module _ (fund : Fund) (ms : List Life) (t : Totals) (d : List ℤ) (h : List �
   unfolding fundTruncation
   rest = valued-rest fund ms n (fundCells fund ms) within-load (omega (arith, figure-is, k .passed .truncation-within)) (k .passed .long)
 
-  leaves-is : (a : Recursed) → RecursionLeft fund t a d h f r → Rec.left a f r ≡ leaves (fundCells fund ms) (length f) (length r) (answerOf found)
+  leaves-is : (a : Recursed) → RecursionLeft fund t a d h f r → Rec.leftCells a f r ≡ leaves (fundCells fund ms) (length f) (length r) (answerOf found)
   leaves-is a e =
       e
       ∙ ap (λ y. Rec.recursion X d h y (length f) (length r)) start-is
@@ -135,11 +135,11 @@ module _ (fund : Fund) (ms : List Life) (t : Totals) (d : List ℤ) (h : List �
 
   -- ---- a wide cell
   pub answers-wide : (a : Recursed) → OneOf (1 ∷ 2 ∷ 3 ∷ 4 ∷ []) (Declared.tagOf R.the-type a) → RecursionLeft fund t a d h f r → (v : Valued) (d′ : List ℤ) (h′ : List ℕ) (s′ : List ℤ) →
-      v ≡ record { verdict = refusalOf a; figures = noFigures } → d′ ≡ replicate (length d) (pos 0) → h′ ≡ replicate (length h) 0 → s′ ≡ replicate ns (pos 0) → ValuedAnswer fund ms n (left v d′ h′ f r s′)
+      v ≡ record { verdict = refusalOf a; figures = noFigures } → d′ ≡ replicate (length d) (pos 0) → h′ ≡ replicate (length h) 0 → s′ ≡ replicate ns (pos 0) → ValuedAnswer fund ms n (leftValued v d′ h′ f r s′)
   unfolding leaves refuse refused part
   answers-wide a o e v d′ h′ s′ v-is d-is h-is s-is = go found refl
     where
-      go : (x : Option ℕ) → found ≡ x → ValuedAnswer fund ms n (left v d′ h′ f r s′)
+      go : (x : Option ℕ) → found ≡ x → ValuedAnswer fund ms n (leftValued v d′ h′ f r s′)
       go none s =
           let e′ = leaves-is a e ∙ ap (λ x. leaves (fundCells fund ms) (length f) (length r) (answerOf x)) s in
           let done = ap (λ (l : Left). l .answer) e′ in
@@ -149,7 +149,7 @@ module _ (fund : Fund) (ms : List Life) (t : Totals) (d : List ℤ) (h : List �
           let w : v ≡ record { verdict = Refused refusal.Wide x; figures = noFigures } = v-is ∙ ap (λ b. record { verdict = refusalOf b; figures = noFigures }) (ap (λ (l : Left). l .answer) e′) in
           let f₀ : f ≡ replicate (length f) (pos 0) = ap (λ (l : Left). l .f) e′ in
           let r₀ : r ≡ replicate (length r) 0 = ap (λ (l : Left). l .R) e′ in
-          let z : left v d′ h′ f r s′ ≡ refused [] n (Refused refusal.Wide x) = λ i. left (w i) (d-is i) (h-is i) (f₀ i) (r₀ i) (s-is i) in
+          let z : leftValued v d′ h′ f r s′ ≡ refused [] n (Refused refusal.Wide x) = λ i. leftValued (w i) (d-is i) (h-is i) (f₀ i) (r₀ i) (s-is i) in
           z ∙ ap (outcome fund ms n) (sym (rest ∙ ap (λ x. refuse refusal.Wide x Accepted) s))
 
   -- ---- cells that stand
@@ -213,7 +213,7 @@ module _ (fund : Fund) (ms : List Life) (t : Totals) (d : List ℤ) (h : List �
 
     -- the figures and the slices
     pub answers-accepted : (pr : ℤ) (p : StopLoss) (g : ℕ) (s′ : List ℤ) → StopLossIs (fund .deductible) (t .mean) (t .truncation) f r p → pr ≡ p .premium → g ≡ centimesIn (grossOf fund (p .premium) (p .within)) → s′ ≡ lent (pos 0) ns (table (suc X) (runningSum f)) →
-        ValuedAnswer fund ms n (left (record { verdict = Accepted; figures = record { truncation = t .truncation; mean = t .mean; premium = pr; within = p .within; gross = g } }) d h f r s′)
+        ValuedAnswer fund ms n (leftValued (record { verdict = Accepted; figures = record { truncation = t .truncation; mean = t .mean; premium = pr; within = p .within; gross = g } }) d h f r s′)
     unfolding accepted fundFigures fundMean fundPremium fundWithin
     answers-accepted pr p g s′ priced pr-is gross-is sums-is = same-answer d-lent h-lent (s .f-is) (s .r-is) s-lent figure-is m-is pr-of p-of g-of ∙ ap (outcome fund ms n) (sym (s .accepts))
       where
@@ -246,7 +246,7 @@ module _ (fund : Fund) (ms : List Life) (t : Totals) (d : List ℤ) (h : List �
 
 -- ---- slices whose lengths are those of others
 module _ (fund : Fund) (t : Totals) (a : Recursed) (d : List ℤ) (h : List ℕ) (f : List ℤ) (r : List ℕ) (nf nr ns : ℕ) (ef : length f ≡ nf) (er : length r ≡ nr) where
-  pub recursed-for : Ready fund t d h nf nr ns → Rec.left a f r ≡ Rec.recursion (fund .horizon) d h (record { f = t .cell; R = t .bound }) nf nr → RecursedFor fund t a d h f r ns
+  pub recursed-for : Ready fund t d h nf nr ns → Rec.leftCells a f r ≡ Rec.recursion (fund .horizon) d h (record { f = t .cell; R = t .bound }) nf nr → RecursedFor fund t a d h f r ns
   recursed-for k e = record { ready = rw (ef, er) k; left-is = rw (ef, er) e }
 
   pub answered-for : (answer : Answer) → SettledFor fund t d h f r ns answer → AnsweredFor fund t d h nf nr ns answer

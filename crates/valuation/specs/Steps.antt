@@ -55,7 +55,7 @@ pub record Ready (fund : Fund) (t : Totals) (d : List ℤ) (h : List ℕ) (nf nr
 
 -- what the recursion left of the totals and the transform
 abbrev pub RecursionLeft : Fund → Totals → Recursed → List ℤ → List ℕ → List ℤ → List ℕ → Type 0
-RecursionLeft fund t a d h f r = Rec.left a f r ≡ recursion (fund .horizon) d h (record { f = t .cell; R = t .bound }) (length f) (length r)
+RecursionLeft fund t a d h f r = Rec.leftCells a f r ≡ recursion (fund .horizon) d h (record { f = t .cell; R = t .bound }) (length f) (length r)
 
 pub record RecursedFor (fund : Fund) (t : Totals) (a : Recursed) (d : List ℤ) (h : List ℕ) (f : List ℤ) (r : List ℕ) (ns : ℕ) : Type 0 where
   pub ready : Ready fund t d h (length f) (length r) ns

@@ -18,8 +18,8 @@ use Rattle.valuation.specs.declared.Valued.{Valued}
 use Rattle.totals.specs.Inside.{inside}
 
 -- The answer that a call leaves: what it returns, and the slices.
-abbrev pub left : Valued → List ℤ → List ℕ → List ℤ → List ℕ → List ℤ → Answer
-left v d h f r s = record { verdict = v .verdict; part = empty; figures = v .figures; D = d; H = h; f = f; R = r; F = s }
+abbrev pub leftValued : Valued → List ℤ → List ℕ → List ℤ → List ℕ → List ℤ → Answer
+leftValued v d h f r s = record { verdict = v .verdict; part = empty; figures = v .figures; D = d; H = h; f = f; R = r; F = s }
 
 -- The answer for a verdict: a refusal hands back no line here.
 abbrev pub outcome : Fund → List Life → Lengths → Verdict → Answer

@@ -22,7 +22,7 @@ ghost use lib.ListN.{length, replicate, take};
 ghost use Rattle.fund.specs.Answer.{noFigures, refused};
 ghost use Rattle.fund.specs.Folding.{copies};
 ghost use Rattle.fund.specs.Limits.{most-members};
-ghost use Rattle.valuation.specs.Valued.{left, lengths, Zeros, valuation};
+ghost use Rattle.valuation.specs.Valued.{leftValued, lengths, Zeros, valuation};
 ghost use Rattle.valuation.specs.Steps.{Ready, refusalOf, centimesIn, RecursedFor, SettledFor, AnsweredFor, Fillable, TransformFilled};
 
 // What a valuation answers beside the result slices.
@@ -65,7 +65,7 @@ pub fn refuse(
     r: &mut [u64],
     sums: &mut [i64],
 ) -> Valued
-    ensures { λ v. ⌜ left v (now (transform .exit)) (now (h .exit)) (now (f .exit)) (now (r .exit)) (now (sums .exit)) ≡
+    ensures { λ v. ⌜ leftValued v (now (transform .exit)) (now (h .exit)) (now (f .exit)) (now (r .exit)) (now (sums .exit)) ≡
         refused [] (lengths (now (transform .entry)) (now (h .entry)) (now (f .entry)) (now (r .entry)) (now (sums .entry))) verdict ⌝ }
 {
     clear_all(transform, h, f, r, sums);
@@ -108,7 +108,7 @@ fn settled(
 ) -> Valued
     requires { ⌜ RecursedFor fund t answer (now transform) (now h) (now f) (now r) (length (now sums)) ⌝ }
     ensures { λ v. ⌜ SettledFor fund t (now (transform .entry)) (now (h .entry)) (now (f .entry)) (now (r .entry)) (length (now (sums .entry)))
-        (left v (now (transform .exit)) (now (h .exit)) (now (f .entry)) (now (r .entry)) (now (sums .exit))) ⌝ }
+        (leftValued v (now (transform .exit)) (now (h .exit)) (now (f .entry)) (now (r .entry)) (now (sums .exit))) ⌝ }
 {
     let Recursed::Done = answer else {
         clear_transform(transform, h);
@@ -142,7 +142,7 @@ fn recursed(
 ) -> Valued
     requires { ⌜ Ready fund t (now transform) (now h) (length (now f)) (length (now r)) (length (now sums)) ⌝ }
     ensures { λ v. ⌜ AnsweredFor fund t (now (transform .entry)) (now (h .entry)) (length (now (f .entry))) (length (now (r .entry))) (length (now (sums .entry)))
-        (left v (now (transform .exit)) (now (h .exit)) (now (f .exit)) (now (r .exit)) (now (sums .exit))) ⌝ }
+        (leftValued v (now (transform .exit)) (now (h .exit)) (now (f .exit)) (now (r .exit)) (now (sums .exit))) ⌝ }
 {
     let answer = recursion::recursion(
         fund.horizon as usize,
@@ -188,7 +188,7 @@ pub fn value(
     r: &mut [u64],
     sums: &mut [i64],
 ) -> Valued
-    ensures { λ v. ⌜ left v (now (transform .exit)) (now (h .exit)) (now (f .exit)) (now (r .exit)) (now (sums .exit)) ≡
+    ensures { λ v. ⌜ leftValued v (now (transform .exit)) (now (h .exit)) (now (f .exit)) (now (r .exit)) (now (sums .exit)) ≡
         valuation fund n (take n points) (lengths (now (transform .entry)) (now (h .entry)) (now (f .entry)) (now (r .entry)) (now (sums .entry))) ⌝ }
 {
     let t = totals::first_totals(fund, points, n);

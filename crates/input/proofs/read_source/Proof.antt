@@ -12,13 +12,13 @@ use mir.Val.{toZ, ofZ}
 use Rattle.io.specs.Counts.{clamped}
 use Rattle.input.specs.Reads.{full}
 use Rattle.input.specs.Input.{InMemory, Closed, ReadBytes}
-use Rattle.input.proofs.Memory.{SoFar, none-yet, stops, goes-on, stops-failed, stops-ended, counts, part-length}
+use Rattle.input.proofs.Memory.{BytesSoFar, none-yet, stops, goes-on, stops-failed, stops-ended, counts, part-length}
 use Rattle.input.proofs.read_source.Statement.{statement}
 use Rattle.input.proofs.read_source.Tie as tie
 
 abbrev Inv-loop : tie.InvT-loop
 Inv-loop source file pieces buffer₀ given₀ size₀ buffer given size =
-    (size ≤ length buffer) × (length buffer ≡ length buffer₀) × (InMemory source → SoFar file pieces buffer given size) × (Closed source → size ≡ 0)
+    (size ≤ length buffer) × (length buffer ≡ length buffer₀) × (InMemory source → BytesSoFar file pieces buffer given size) × (Closed source → size ≡ 0)
 
 abbrev μ-loop : tie.MeasureT-loop
 μ-loop source file pieces buffer₀ given₀ size₀ buffer given size = length buffer - size
