@@ -13,7 +13,7 @@ use Rattle.recursion_limits.proofs.PartialSums.{sumN-grow}
 use Rattle.recursion.specs.Slices.{cellIn, entryIn, CellsFit}
 use Rattle.recursion.specs.Places.{Blank, from, Listed}
 use Rattle.recursion.specs.Steps.{most-part-sum, SumsFit, ProductAdded, SumsTo}
-use Rattle.recursion.proofs.Added.{added-empty}
+use Rattle.recursion.proofs.ProductAdded.{added-empty}
 
 module _ (d : List ℤ) (h : List ℕ) (f : List ℤ) (r : List ℕ) (last : ℕ) where
   pub sums-none : SumsTo d h f r last 0 (record { plus = 0; minus = 0; bound = 0 })

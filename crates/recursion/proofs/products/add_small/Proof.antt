@@ -13,7 +13,7 @@ use Rattle.recursion_limits.specs.Limits.{most-cell}
 use Rattle.recursion.specs.Places.{most-small-size}
 use Rattle.whole.specs.Sums.{PartFits}
 use Rattle.whole.proofs.Signs.{with-part-is}
-use Rattle.recursion.proofs.Added.{Parts, Within, within, added}
+use Rattle.recursion.proofs.ProductAdded.{Parts, Within, within, added}
 use Rattle.recursion.proofs.products.add_small.Statement.{statement}
 use Rattle.recursion.proofs.products.add_small.Tie as tie
 

@@ -13,7 +13,7 @@ use Rattle.fund.specs.Transform.{unit}
 use Rattle.fund.specs.Recursion.{Cell, Entry}
 use Rattle.whole.specs.Sums.{PartFits}
 use Rattle.whole.proofs.Signs.{with-part-is}
-use Rattle.recursion.proofs.Added.{part-is, Parts, Within, within, H-most, added, added-none, added-empty}
+use Rattle.recursion.proofs.ProductAdded.{part-is, Parts, Within, within, H-most, added, added-none, added-empty}
 use Rattle.recursion.proofs.products.add_wide.Statement.{statement}
 use Rattle.recursion.proofs.products.add_wide.Tie as tie
 
