@@ -5,23 +5,9 @@
 // the member sheet. The peer is built with the fuzzer's coverage and with sanitizers, so that new paths through it lead the
 // search; the library is the archive itself. Before and behind each slice and the result stand bytes that must stay as they
 // are, since no sanitizer sees the archive's stores.
-#include "../bench/verified.h"
+#include "common.h"
 
-#include <stdlib.h>
-#include <string.h>
-
-static size_t cells(uint8_t byte) { return byte < 250 ? byte : byte == 250 ? 4096 : (size_t)(byte - 250) * 900; }
-
-// Least byte first; below 2 x 10^12 where bit 62 is clear, which keeps every level that can be reached.
-static uint64_t level_of(const uint8_t *bytes) {
-    uint64_t level = 0;
-    for (int k = 8; k-- > 0;)
-        level = level << 8 | bytes[k];
-    return level >> 62 & 1 ? level : level % (2 * MIGUEPO_MOST_LEVEL);
-}
-
-enum { SLICES = 5, HEAD = 1 + SLICES + 8 }; // bytes before the texts
-enum { EDGE = 64 }; // bytes before and behind each slice
+enum { HEAD = 1 + SLICES + 8 }; // bytes before the texts
 
 // A file, or a header text, a rate sheet and a member sheet; `given` are the input's bytes, `at` copies of them.
 enum { TEXTS = 3 };
@@ -32,35 +18,12 @@ struct texts {
     size_t length[TEXTS];
 };
 
-// A slice of so many bytes, filled, between its edges.
-static uint8_t *slice_of(size_t size, int filling) {
-    uint8_t *at = malloc(size + 2 * EDGE);
-    if (!at)
-        abort();
-    memset(at, filling, size + 2 * EDGE);
-    return at + EDGE;
-}
-
-static void edges_kept(const uint8_t *at, size_t size, int filling) {
-    for (size_t k = 1; k <= EDGE; k++)
-        if (at[-(ptrdiff_t)k] != filling || at[size + k - 1] != filling)
-            abort();
-}
-
-static void same(const void *a, const void *b, size_t size) {
-    if (memcmp(a, b, size) != 0)
-        abort();
-}
-
 // The next text: so many bytes, or as many as are left.
 static void add_text(struct texts *t, const uint8_t **from, size_t *left, size_t length) {
     int k = t->count++;
     t->given[k] = *from;
     t->length[k] = length < *left ? length : *left;
-    t->at[k] = malloc(t->length[k] ? t->length[k] : 1);
-    if (!t->at[k])
-        abort();
-    memcpy(t->at[k], *from, t->length[k]);
+    t->at[k] = copy_of(*from, t->length[k]);
     *from += t->length[k];
     *left -= t->length[k];
 }

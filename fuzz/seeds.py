@@ -1,7 +1,8 @@
-"""Writes the first inputs of the fuzzer: python3 fuzz/seeds.py DIR
+"""Writes the first inputs of the fuzzers: python3 fuzz/seeds.py DIR PAIRS
 
 The examples and the short ones of the stored cases, files and sheets, each behind a byte that says which, five bytes for the
-slices' lengths and eight for the level; sheets also behind the lengths of the header text and the rate sheet, two bytes each.
+slices' lengths and eight for the level; sheets also behind the lengths of the header text and the rate sheet, two bytes each. Into
+PAIRS those of the stored pairs, each behind ten bytes for the slices' lengths, eight for the level and two for the old file's length.
 """
 
 import sys
@@ -44,10 +45,19 @@ def sheet_inputs():
             + b"".join(len(text).to_bytes(2, "little") for text in three[:2]) + b"".join(three) for three, level in pairs]
 
 
-def main(directory):
-    for number, data in enumerate(file_inputs() + sheet_inputs()):
-        (directory / f"seed-{number:03}").write_bytes(data)
+def pair_inputs():
+    folder = ROOT / "examples"
+    worked = tuple((folder / name).read_bytes() for name in ("sixty-members.fund", "sixty-members-2031.fund"))
+    pairs = [(worked, generate.USUAL_LEVEL), *stored(cases.A_PAIR)]
+    return [b"".join(head(A_FILE, pricing.price(data).horizon, 0)[1:6] for data in two) + level.to_bytes(8, "little")
+            + len(two[0]).to_bytes(2, "little") + b"".join(two) for two, level in pairs]
+
+
+def main(directory, pairs):
+    for folder, inputs in ((directory, file_inputs() + sheet_inputs()), (pairs, pair_inputs())):
+        for number, data in enumerate(inputs):
+            (folder / f"seed-{number:03}").write_bytes(data)
 
 
 if __name__ == "__main__":
-    main(Path(sys.argv[1]))
+    main(*map(Path, sys.argv[1:3]))

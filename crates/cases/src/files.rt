@@ -1,11 +1,11 @@
 // A file is answered by its listing, the line that the host is handed, the line of the answer at the level, and an empty line.
 use crate::write;
-use crate::write_ended;
 use crate::write_handed;
+use fund_printing::Asked;
 
-fn write_listing(file: &[u8]) -> bool {
+fn write_asked(asked: Asked, file: &[u8]) -> bool {
     let mut text = [0u8; answer_text::ROOM];
-    let size = fund_printing::print(file, &mut text);
+    let size = fund_printing::print(asked, file, &mut text);
     write(&text[..size])
 }
 
@@ -20,18 +20,15 @@ fn write_line(file: &[u8]) -> bool {
     write_handed(pricing::line(file, priced))
 }
 
-fn write_level(file: &[u8], level: u64) -> bool {
-    let mut text = [0u8; answer_text::LEVEL_ROOM];
-    let size = fund_printing::print_level(file, level, &mut text);
-    write_ended(&text[..size])
-}
-
 pub(crate) fn write_answer(file: &[u8], level: u64) -> bool {
-    if !write_listing(file) {
+    if !write_asked(Asked::Listing, file) {
         return false;
     }
     if !write_line(file) {
         return false;
     }
-    write_level(file, level)
+    if !write_asked(Asked::AtLevel(level), file) {
+        return false;
+    }
+    write(b"\n")
 }

@@ -1,11 +1,11 @@
 // A header text with two sheets is answered as a file is; the line that the host is handed is one of the header text.
 use crate::write;
-use crate::write_ended;
 use crate::write_handed;
+use fund_printing::Asked;
 
-fn write_listing(header: &[u8], rates: &[u8], members: &[u8]) -> bool {
+fn write_asked(asked: Asked, header: &[u8], rates: &[u8], members: &[u8]) -> bool {
     let mut text = [0u8; answer_text::ROOM];
-    let size = fund_printing::print_sheets(header, rates, members, &mut text);
+    let size = fund_printing::print_sheets(asked, header, rates, members, &mut text);
     write(&text[..size])
 }
 
@@ -30,18 +30,15 @@ fn write_line(header: &[u8], rates: &[u8], members: &[u8]) -> bool {
     write_handed(pricing::line(header, priced))
 }
 
-fn write_level(header: &[u8], rates: &[u8], members: &[u8], level: u64) -> bool {
-    let mut text = [0u8; answer_text::LEVEL_ROOM];
-    let size = fund_printing::print_sheets_level(header, rates, members, level, &mut text);
-    write_ended(&text[..size])
-}
-
 pub(crate) fn write_answer(header: &[u8], rates: &[u8], members: &[u8], level: u64) -> bool {
-    if !write_listing(header, rates, members) {
+    if !write_asked(Asked::Listing, header, rates, members) {
         return false;
     }
     if !write_line(header, rates, members) {
         return false;
     }
-    write_level(header, rates, members, level)
+    if !write_asked(Asked::AtLevel(level), header, rates, members) {
+        return false;
+    }
+    write(b"\n")
 }

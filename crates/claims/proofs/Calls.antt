@@ -1,5 +1,4 @@
--- The contracts of the pricing calls and of the listing, in plain words (price-answered, price-demands, host-answered, host-demands, prints, prints-level, prints-read,
--- prints-level-read, prints-file).
+-- The contracts of the pricing calls and of the listing, in plain words (price-answered, price-demands, host-answered, host-demands, prints, prints-read, prints-file).
 use mathlib.Core.Path.{_≡_, refl, sym, _∙_, ap, subst}
 use mathlib.Core.Bool.{Bool, true, false}
 use mathlib.Core.List.{List, []}
@@ -25,14 +24,16 @@ use Rattle.writing.specs.Writing.{Written}
 use Rattle.fund_printing.specs.declared.PrintedInput.{PrintedInput}
 use Rattle.input.specs.AllRead.{first-bytes, fails-at, ends-at}
 use Rattle.prefix.specs.Prefix.{most-bytes}
-use Rattle.fund_printing.specs.Input.{PrintsInput, PrintsLevelInput, ReadsFirst}
-use Rattle.fund_printing.specs.Printed.{shownTo, levelLineTo, shownLevelTo}
+use Rattle.fund_printing.specs.declared.Asked.{Asked}
+use Rattle.fund_printing.specs.declared.Asked.the-variants.{Listing, AtLevel}
+use Rattle.fund_printing.specs.Input.{ShowsInput, ReadsFirst}
+use Rattle.fund_printing.specs.Printed.{levelLineTo, shownTo, shown}
 use Rattle.pricing.specs.declared.Priced.{Priced}
 use Rattle.pricing.specs.Priced.{leftPriced, horizonWith, Prices}
 use Rattle.pricing.specs.JoinedSteps.{told-horizon}
 use Rattle.miguepo.specs.Host.{Hosts}
 use Rattle.claims.specs.Demands.{partBytes, Demands}
-use Rattle.claims.specs.Listing.{Shows, PrintsTo, Prints, PrintsLevelTo, PrintsLevel, PrintsRead, PrintsFile}
+use Rattle.claims.specs.Listing.{Shows, PrintsAsked, Prints, PrintsRead, PrintsFile}
 use Rattle.claims.specs.Calls.{handed, priced, quantileRead, ResultStruct, hosted}
 use Rattle.claims.proofs.DemandsHold.{Answered, demands}
 
@@ -131,26 +132,17 @@ shows least shown before after size w =
 abbrev InRanges : Reading → Type 0
 InRanges r = (fund : FundFile) → r ≡ read fund → FundOk fund
 
-pub prints : (text : List ℕ) (r : Reading) → InRanges r → (before after : List ℕ) (size : ℕ) → Written (shownTo text r (length before)) before after size → PrintsTo text r before after size
-prints text r ok before after size w =
+pub prints : (asked : Asked) (text : List ℕ) (r : Reading) → InRanges r → (before after : List ℕ) (size : ℕ) → Written (shownTo asked text r (length before)) before after size →
+    PrintsAsked asked text r before after size
+prints Listing text r ok before after size w =
     record { shows = shows room (listingTo text r) before after size w; within = λ fund e v. distance text enough r fund (ok fund e) e v; covers = λ fund e v. never-below text enough r fund (ok fund e) e v }
-
-pub prints-level : (level : ℕ) (text : List ℕ) (r : Reading) → InRanges r → (before after : List ℕ) (size : ℕ) → Written (shownLevelTo text r level (length before)) before after size → PrintsLevelTo level text r before after size
-prints-level level text r ok before after size w =
+prints (AtLevel level) text r ok before after size w =
     record { shows = shows 64 (levelLineTo text r level) before after size w; within = λ fund e v l. level-within text enough r fund (ok fund e) e v level l }
 
-pub prints-read : (buffer before after : List ℕ) (p : PrintedInput) → PrintsInput buffer before after p → PrintsRead Prints buffer before after (p .failed) (p .read) (p .size)
-prints-read buffer before after p k =
+pub prints-read : (asked : Asked) (buffer before after : List ℕ) (p : PrintedInput) → ShowsInput (shown asked) buffer before after p → PrintsRead (Prints asked) buffer before after (p .failed) (p .read) (p .size)
+prints-read asked buffer before after p k =
     record {
-      printed = λ e file h. prints file (reading file) (read-ranges file) before after (p .size) (k .prints e file h);
-      stays = λ e. let s = k .kept e in record { none = s .0; same = s .1 };
-      inside = k .inside;
-    }
-
-pub prints-level-read : (level : ℕ) (buffer before after : List ℕ) (p : PrintedInput) → PrintsLevelInput level buffer before after p → PrintsRead (PrintsLevel level) buffer before after (p .failed) (p .read) (p .size)
-prints-level-read level buffer before after p k =
-    record {
-      printed = λ e file h. prints-level level file (reading file) (read-ranges file) before after (p .size) (k .prints e file h);
+      printed = λ e file h. prints asked file (reading file) (read-ranges file) before after (p .size) (k .prints e file h);
       stays = λ e. let s = k .kept e in record { none = s .0; same = s .1 };
       inside = k .inside;
     }

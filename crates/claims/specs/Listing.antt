@@ -11,6 +11,8 @@ use Rattle.fund.specs.Answer.{answerTo}
 use Rattle.fund.specs.Listing.{horizonIn, enough, listingTo}
 use Rattle.fund.specs.Distance.{WithinBounds, NeverBelow, QuantileWithin}
 use Rattle.answer_text.specs.Shown.{room}
+use Rattle.fund_printing.specs.declared.Asked.{Asked}
+use Rattle.fund_printing.specs.declared.Asked.the-variants.{Listing, AtLevel}
 use Rattle.fund_printing.specs.Printed.{levelLineTo}
 
 -- The text begins with what is shown, and what stood behind stays.
@@ -36,17 +38,19 @@ pub record PrintsTo (text : List ℕ) (r : Reading) (before after : List ℕ) (s
   pub within : (fund : FundFile) → r ≡ read fund → answerTo text enough r .verdict ≡ Accepted → WithinBounds fund (answerTo text enough r)
   pub covers : (fund : FundFile) → r ≡ read fund → answerTo text enough r .verdict ≡ Accepted → NeverBelow fund (answerTo text enough r)
 
-abbrev pub Prints : List ℕ → List ℕ → List ℕ → ℕ → Type 0
-Prints file = PrintsTo file (reading file)
-
 -- The line of the answer at a level, in a text of at least 64 bytes; and what the answer of an accepted fund says of the exact distribution function.
 pub record PrintsLevelTo (level : ℕ) (text : List ℕ) (r : Reading) (before after : List ℕ) (size : ℕ) : Type 0 where
   pub shows : Shows 64 (levelLineTo text r level) before after size
   pub within : (fund : FundFile) → r ≡ read fund → answerTo text enough r .verdict ≡ Accepted → level ≤ 10 ^ 12 →
       QuantileWithin fund (answerTo text enough r) level (quantileOf level (horizonIn r) (answerTo text enough r .F) (answerTo text enough r .verdict))
 
-abbrev pub PrintsLevel : ℕ → List ℕ → List ℕ → List ℕ → ℕ → Type 0
-PrintsLevel level file = PrintsLevelTo level file (reading file)
+-- What is asked: the listing, or the line of the answer at a level.
+abbrev pub PrintsAsked : Asked → List ℕ → Reading → List ℕ → List ℕ → ℕ → Type 0
+PrintsAsked Listing = PrintsTo
+PrintsAsked (AtLevel level) = PrintsLevelTo level
+
+abbrev pub Prints : Asked → List ℕ → List ℕ → List ℕ → ℕ → Type 0
+Prints asked file = PrintsAsked asked file (reading file)
 
 -- Standard input, of which `read` bytes stand in a buffer: whatever the file is, if these are its first bytes, as many as the buffer has
 -- room for, then the same is printed of it. Where it fails, the text stays as it is.

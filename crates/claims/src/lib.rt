@@ -6,6 +6,7 @@ mod reading;
 mod sheets;
 mod steps;
 
+use fund_printing::Asked;
 use fund_printing::PrintedInput;
 use input::Source;
 use pricing::Priced;
@@ -16,7 +17,7 @@ ghost use Rattle.laws.specs.Ranges.{FundOk};
 ghost use Rattle.reader.specs.Read.{fileRead};
 ghost use Rattle.valuation.specs.Valued.{lengths};
 ghost use Rattle.claims.specs.Demands.{Demands};
-ghost use Rattle.claims.specs.Listing.{Prints, PrintsLevel, PrintsRead, PrintsFile};
+ghost use Rattle.claims.specs.Listing.{Prints, PrintsRead, PrintsFile};
 ghost use Rattle.claims.specs.Calls.{handed, priced, ResultStruct, hosted};
 ghost use Rattle.claims.specs.WrittenOut.{PricedWrittenOut};
 
@@ -88,55 +89,29 @@ pub fn claimed_host(
     miguepo::miguepo_price(file, level, transform, h, f, r, sums, result);
 }
 
-// The listing.
-pub fn claimed_print(file: &[u8], text: &mut [u8]) -> usize
-    ensures { λ size. ⌜ Prints (now (file .entry)) (now (text .entry)) (now (text .exit)) size ⌝ }
+// What is asked of a file: its listing, or the line of its answer at a level.
+pub fn claimed_print(asked: Asked, file: &[u8], text: &mut [u8]) -> usize
+    ensures { λ size. ⌜ Prints asked (now (file .entry)) (now (text .entry)) (now (text .exit)) size ⌝ }
 {
-    fund_printing::print(file, text)
-}
-
-// The listing of standard input.
-pub fn claimed_input(buffer: &mut [u8], text: &mut [u8]) -> PrintedInput
-    ensures { λ p. ⌜ PrintsRead Prints (now (buffer .exit)) (now (text .entry)) (now (text .exit)) (p .failed) (p .read) (p .size) ⌝ }
-{
-    fund_printing::print_input(buffer, text)
-}
-
-// The listing of a file in memory, which is read as standard input is.
-pub fn claimed_memory(
-    file: &[u8],
-    pieces: &[u32],
-    buffer: &mut [u8],
-    text: &mut [u8],
-) -> PrintedInput
-    ensures { λ p. ⌜ PrintsFile Prints (now (file .entry)) (now (pieces .entry)) (now (buffer .exit)) (now (text .entry)) (now (text .exit)) (p .failed) (p .read) (p .size) ⌝ }
-{
-    fund_printing::print_source(Source::memory(), file, pieces, buffer, text)
-}
-
-// The line of the answer at a level.
-pub fn claimed_level(file: &[u8], level: u64, text: &mut [u8]) -> usize
-    ensures { λ size. ⌜ PrintsLevel level (now (file .entry)) (now (text .entry)) (now (text .exit)) size ⌝ }
-{
-    fund_printing::print_level(file, level, text)
+    fund_printing::print(asked, file, text)
 }
 
 // The same of standard input.
-pub fn claimed_level_input(buffer: &mut [u8], level: u64, text: &mut [u8]) -> PrintedInput
-    ensures { λ p. ⌜ PrintsRead (PrintsLevel level) (now (buffer .exit)) (now (text .entry)) (now (text .exit)) (p .failed) (p .read) (p .size) ⌝ }
+pub fn claimed_input(asked: Asked, buffer: &mut [u8], text: &mut [u8]) -> PrintedInput
+    ensures { λ p. ⌜ PrintsRead (Prints asked) (now (buffer .exit)) (now (text .entry)) (now (text .exit)) (p .failed) (p .read) (p .size) ⌝ }
 {
-    fund_printing::print_level_input(buffer, level, text)
+    fund_printing::print_input(asked, buffer, text)
 }
 
-// The same of a file in memory.
-pub fn claimed_level_memory(
+// The same of a file in memory, which is read as standard input is.
+pub fn claimed_memory(
+    asked: Asked,
     file: &[u8],
     pieces: &[u32],
     buffer: &mut [u8],
-    level: u64,
     text: &mut [u8],
 ) -> PrintedInput
-    ensures { λ p. ⌜ PrintsFile (PrintsLevel level) (now (file .entry)) (now (pieces .entry)) (now (buffer .exit)) (now (text .entry)) (now (text .exit)) (p .failed) (p .read) (p .size) ⌝ }
+    ensures { λ p. ⌜ PrintsFile (Prints asked) (now (file .entry)) (now (pieces .entry)) (now (buffer .exit)) (now (text .entry)) (now (text .exit)) (p .failed) (p .read) (p .size) ⌝ }
 {
-    fund_printing::print_level_source(Source::memory(), file, pieces, buffer, level, text)
+    fund_printing::print_source(asked, Source::memory(), file, pieces, buffer, text)
 }

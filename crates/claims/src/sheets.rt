@@ -3,6 +3,7 @@ use fund::Member;
 use fund::Rate;
 use fund::Refusal;
 use fund::SheetRow;
+use fund_printing::Asked;
 use pricing::Priced;
 use reader::FileRead;
 use reader::Header;
@@ -15,7 +16,7 @@ ghost use Rattle.reader.specs.Header.{HeaderRead};
 ghost use Rattle.reader.specs.Rows.{rateFits, memberFits};
 ghost use Rattle.reader.specs.Read.{fileRead};
 ghost use Rattle.claims.specs.Demands.{Demands};
-ghost use Rattle.claims.specs.Listing.{PrintsTo, PrintsLevelTo};
+ghost use Rattle.claims.specs.Listing.{PrintsAsked};
 ghost use Rattle.claims.specs.Calls.{priced, ResultStruct, hosted};
 ghost use Rattle.claims.specs.Sheets.{PricedAsFile};
 
@@ -78,26 +79,18 @@ pub fn claimed_host_sheets(
     );
 }
 
-// The listing of sheets.
-pub fn claimed_print_sheets(header: &[u8], rates: &[u8], members: &[u8], text: &mut [u8]) -> usize
-    ensures { λ size. ⌜ PrintsTo (now (header .entry)) (sheetReading (now (header .entry)) (now (rates .entry)) (now (members .entry)))
-        (now (text .entry)) (now (text .exit)) size ⌝ }
-{
-    fund_printing::print_sheets(header, rates, members, text)
-}
-
-// The line of their answer at a level.
-pub fn claimed_sheets_level(
+// What is asked of sheets: their listing, or the line of their answer at a level.
+pub fn claimed_print_sheets(
+    asked: Asked,
     header: &[u8],
     rates: &[u8],
     members: &[u8],
-    level: u64,
     text: &mut [u8],
 ) -> usize
-    ensures { λ size. ⌜ PrintsLevelTo level (now (header .entry)) (sheetReading (now (header .entry)) (now (rates .entry)) (now (members .entry)))
+    ensures { λ size. ⌜ PrintsAsked asked (now (header .entry)) (sheetReading (now (header .entry)) (now (rates .entry)) (now (members .entry)))
         (now (text .entry)) (now (text .exit)) size ⌝ }
 {
-    fund_printing::print_sheets_level(header, rates, members, level, text)
+    fund_printing::print_sheets(asked, header, rates, members, text)
 }
 
 // Refusals 1, 2 and 11, or the header and the rows.

@@ -13,18 +13,17 @@ use Rattle.fund.specs.Folding.{lives}
 use Rattle.fund.specs.Refusals.{Lengths, verdict}
 use Rattle.fund.specs.Answer.{Answer, fundCells, refused, answerOf, answerTo}
 use Rattle.fund.specs.Listing.{horizonIn, enough}
-use Rattle.writing.specs.Writing.{Written}
 use Rattle.answer_text.specs.Level.{answerLine, level-room, levelLineOf}
 use Rattle.pricing.specs.declared.Priced.{Priced}
 use Rattle.pricing.specs.Priced.{leftPriced, Answers}
 use Rattle.pricing.specs.JoinedSteps.{quantile-is}
 use Rattle.prefix.specs.Prefix.{most-bytes, reading-first}
-use Rattle.fund_printing.specs.Printed.{lineAtLevel, levelLineTo, levelLine, shownLevelTo, shownLevel}
-use Rattle.fund_printing.specs.Input.{HoldsFirst, PrintsLevelFirst}
-use Rattle.fund_printing.proofs.ShownListing.{lentLengths, answers-enough, shows-first}
+use Rattle.fund_printing.specs.declared.Asked.the-variants.{AtLevel}
+use Rattle.fund_printing.specs.Printed.{lineAtLevel, levelLineTo, levelLine, shownTo}
+use Rattle.fund_printing.proofs.ShownListing.{lentLengths, answers-enough}
 
 pub level-is : (text : List ℕ) (r : Reading) (level : ℕ) (p : Priced) (d : List ℤ) (h : List ℕ) (f : List ℤ) (b : List ℕ) (s : List ℤ) → Answers text r level p (leftPriced p d h f b s) (answerTo text lentLengths r) →
-    (size : ℕ) → levelLineOf (p .verdict) (p .quantile) size ≡ shownLevelTo text r level size
+    (size : ℕ) → levelLineOf (p .verdict) (p .quantile) size ≡ shownTo (AtLevel level) text r size
 unfolding levelLineOf levelLineTo
 level-is text r level p d h f b s given size =
     let k = answers-enough text r level p (leftPriced p d h f b s) given in
@@ -45,7 +44,3 @@ pub level-first : (n : ℕ) (file : List ℕ) (level : ℕ) → most-bytes ≤ n
 unfolding levelLineTo
 level-first n file level h =
     ap (λ (r : Reading). lineAtLevel level (horizonIn r) (answerTo (take n file) enough r)) (reading-first n file h) ∙ line-to (take n file) file enough level (horizonIn (reading file)) (reading file)
-
-pub prints-level-first : (level : ℕ) (buffer : List ℕ) (size : ℕ) {before after : List ℕ} {n : ℕ} → HoldsFirst buffer size → Written (shownLevel (take size buffer) level (length before)) before after n →
-    PrintsLevelFirst level buffer size before after n
-prints-level-first level = shows-first (λ n file m h. ap (λ (l : List ℕ). if leb level-room m then l else []) (level-first n file level h))

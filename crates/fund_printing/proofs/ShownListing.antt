@@ -22,9 +22,10 @@ use Rattle.answer_text.specs.Shown.{room, shownAnswer, printable, listingOf}
 use Rattle.valuation.specs.Valued.{lengths}
 use Rattle.pricing.specs.declared.Priced.{Priced}
 use Rattle.pricing.specs.Priced.{leftPriced, horizonWith, Answers}
-use Rattle.prefix.specs.Prefix.{most-bytes, listing-first}
-use Rattle.fund_printing.specs.Printed.{shownTo, shown}
-use Rattle.fund_printing.specs.Input.{HoldsFirst, ShowsFirst, PrintsFirst}
+use Rattle.prefix.specs.Prefix.{most-bytes}
+use Rattle.fund_printing.specs.declared.Asked.the-variants.{Listing}
+use Rattle.fund_printing.specs.Printed.{shownTo}
+use Rattle.fund_printing.specs.Input.{HoldsFirst, ShowsFirst}
 use Rattle.fund_printing.proofs.Bounded.{AnswerIn, bounded-first, answer-in}
 
 -- what is written lies in the text
@@ -100,7 +101,7 @@ module _ (text : List ℕ) (r : Reading) (ok : (fund : FundFile) → r ≡ read 
         both true = refl
         both false = refl
 
-    pub shown-is : listingOf shownOne (p .horizon) size ≡ shownTo text r size
+    pub shown-is : listingOf shownOne (p .horizon) size ≡ shownTo Listing text r size
     unfolding listingOf listingTo
     shown-is =
         rw range-is
@@ -114,6 +115,3 @@ pub shows-first : {of : List ℕ → ℕ → List ℕ} → ((n : ℕ) (file : Li
     (buffer : List ℕ) (size : ℕ) {before after : List ℕ} {n : ℕ} → HoldsFirst buffer size → Written (of (take size buffer) (length before)) before after n → ShowsFirst of buffer size before after n
 shows-first {of} same buffer size {before} {after} {n} h w file e =
     subst (λ (l : List ℕ). Written l before after n) (ap (λ (f : List ℕ). of f (length before)) (sym e) ∙ same (length buffer) file (length before) (h .enough)) w
-
-pub prints-first : (buffer : List ℕ) (size : ℕ) {before after : List ℕ} {n : ℕ} → HoldsFirst buffer size → Written (shown (take size buffer) (length before)) before after n → PrintsFirst buffer size before after n
-prints-first = shows-first (λ n file m h. ap (λ (l : List ℕ). if leb room m then l else []) (listing-first n file h))

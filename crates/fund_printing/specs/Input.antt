@@ -11,7 +11,6 @@ use Rattle.input.specs.Reads.{Reads}
 use Rattle.input.specs.Input.{InMemory, ReadBytes}
 use Rattle.writing.specs.Writing.{Written}
 use Rattle.fund_printing.specs.declared.PrintedInput.{PrintedInput}
-use Rattle.fund_printing.specs.Printed.{shown, shownLevel}
 
 -- A buffer that has room for all that is read of a file, and how many of its bytes were read.
 pub record HoldsFirst (buffer : List ℕ) (size : ℕ) : Type 0 where
@@ -39,19 +38,6 @@ pub record ShowsInput (of : List ℕ → ℕ → List ℕ) (buffer before after 
   pub holds : p .failed ≡ false → HoldsFirst buffer (p .read)
   pub prints : p .failed ≡ false → ShowsFirst of buffer (p .read) before after (p .size)
   pub kept : p .failed ≡ true → (p .size ≡ 0) × (after ≡ before)
-
--- The listing, and the line of the answer at a level.
-abbrev pub PrintsFirst : List ℕ → ℕ → List ℕ → List ℕ → ℕ → Type 0
-PrintsFirst = ShowsFirst shown
-
-abbrev pub PrintsInput : List ℕ → List ℕ → List ℕ → PrintedInput → Type 0
-PrintsInput = ShowsInput shown
-
-abbrev pub PrintsLevelFirst : ℕ → List ℕ → ℕ → List ℕ → List ℕ → ℕ → Type 0
-PrintsLevelFirst level = ShowsFirst (λ file. shownLevel file level)
-
-abbrev pub PrintsLevelInput : ℕ → List ℕ → List ℕ → List ℕ → PrintedInput → Type 0
-PrintsLevelInput level = ShowsInput (λ file. shownLevel file level)
 
 -- What is printed of a file in memory is printed of what was read of it.
 abbrev pub PrintsMemory : List ℕ → List ℕ → List ℕ → PrintedInput → Type 0

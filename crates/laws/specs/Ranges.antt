@@ -4,11 +4,11 @@ use mathlib.Core.Path.{_≡_, refl, sym, _∙_, ap, subst}
 use mathlib.Core.Bool.{Bool, true, false, _&&_}
 use mathlib.Core.List.{List, [], _∷_, _++_, map, append-nil, append-assoc}
 use mathlib.Core.Option.{Option, none, some}
-use Prim.Native.Nat.{ℕ, suc, _+_, _≤_, _<_}
+use Prim.Native.Nat.{ℕ, zero, suc, _+_, _≤_, _<_}
 use native.Mathlib.Omega.{arith}
 use borrow.Author.Tests.{ltb-true, leb-true, eqb-true}
 use lib.Dec.{eqb, leb, ltb}
-use lib.ListN.{length, length-append, length-map}
+use lib.ListN.{length, getD, length-append, length-map}
 use Rattle.fund.specs.declared.Fund.{Fund}
 use Rattle.fund.specs.declared.Frequencies.{Frequencies}
 use Rattle.fund.specs.declared.Rate.{Rate}
@@ -199,6 +199,17 @@ in-ranges-append [] ss (v ∷ vs) ws h k = absurd h
 in-ranges-append (r ∷ rs) ss [] ws h k = absurd h
 in-ranges-append (r ∷ rs) ss (v ∷ vs) ws h k = (h .0, in-ranges-append rs ss vs ws (h .1) k)
 
+-- each number is in its own range; behind the last, 0 is from 0 to 0
+abbrev noRange : NumberRange
+noRange = record { least = 0; most = 0 }
+
+in-range-at : (rs : List NumberRange) (vs : List ℕ) (k : ℕ) → InRanges rs vs → (getD rs k noRange .least ≤ getD vs k 0) × (getD vs k 0 ≤ getD rs k noRange .most)
+in-range-at [] [] k h = (omega arith, omega arith)
+in-range-at [] (v ∷ vs) k h = absurd h
+in-range-at (r ∷ rs) [] k h = absurd h
+in-range-at (r ∷ rs) (v ∷ vs) zero h = h .0
+in-range-at (r ∷ rs) (v ∷ vs) (suc k) h = in-range-at rs vs k (h .1)
+
 -- the ranges of header lines, one after the other
 abbrev pub rangesOf : List HeaderLine → List NumberRange
 rangesOf [] = []
@@ -252,29 +263,21 @@ pub record FundOk (fund : FundFile) : Type 0 where
 
 header-ok : (vs : List ℕ) → InRanges (rangesOf headerLines) vs → HeaderOk (headerOf vs)
 unfolding headerLines headerOf
-header-ok (a ∷ b ∷ c ∷ d ∷ e ∷ f ∷ g ∷ h ∷ []) w =
+header-ok vs w =
+    let at = in-range-at (rangesOf headerLines) vs in
     record {
-      rates-least = w .0 .0;
-      rates-most = w .0 .1;
-      members-least = w .1 .0 .0;
-      members-most = w .1 .0 .1;
-      horizon = w .1 .1 .0 .1;
-      order-least = w .1 .1 .1 .0 .0;
-      order-most = w .1 .1 .1 .0 .1;
-      frequency = record { death = w .1 .1 .1 .1 .0 .1; disability = w .1 .1 .1 .1 .1 .0 .1 };
-      deductible = w .1 .1 .1 .1 .1 .1 .0 .1;
-      worth-least = w .1 .1 .1 .1 .1 .1 .1 .0 .0;
-      worth-most = w .1 .1 .1 .1 .1 .1 .1 .0 .1;
+      rates-least = at 0 w .0;
+      rates-most = at 0 w .1;
+      members-least = at 1 w .0;
+      members-most = at 1 w .1;
+      horizon = at 2 w .1;
+      order-least = at 3 w .0;
+      order-most = at 3 w .1;
+      frequency = record { death = at 4 w .1; disability = at 5 w .1 };
+      deductible = at 6 w .1;
+      worth-least = at 7 w .0;
+      worth-most = at 7 w .1;
     }
-header-ok [] w = absurd w
-header-ok (a ∷ []) w = absurd (w .1)
-header-ok (a ∷ b ∷ []) w = absurd (w .1 .1)
-header-ok (a ∷ b ∷ c ∷ []) w = absurd (w .1 .1 .1)
-header-ok (a ∷ b ∷ c ∷ d ∷ []) w = absurd (w .1 .1 .1 .1)
-header-ok (a ∷ b ∷ c ∷ d ∷ e ∷ []) w = absurd (w .1 .1 .1 .1 .1)
-header-ok (a ∷ b ∷ c ∷ d ∷ e ∷ f ∷ []) w = absurd (w .1 .1 .1 .1 .1 .1)
-header-ok (a ∷ b ∷ c ∷ d ∷ e ∷ f ∷ g ∷ []) w = absurd (w .1 .1 .1 .1 .1 .1 .1)
-header-ok (a ∷ b ∷ c ∷ d ∷ e ∷ f ∷ g ∷ h ∷ i ∷ vs) w = absurd (w .1 .1 .1 .1 .1 .1 .1 .1)
 
 pub no-rows : RowsOk [] []
 unfolding livesInAll total

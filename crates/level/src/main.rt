@@ -1,5 +1,6 @@
 // Prints the deductible at a level of the fund file on standard input: the first place where the sum of the cells is at least the level,
 // or none; or the refusal's line. The level is the argument, in units of 10^-12.
+use fund_printing::Asked;
 use libc::STDERR_FILENO;
 use libc::STDOUT_FILENO;
 use spelling::Argument;
@@ -14,7 +15,7 @@ fn print_usage() {
 fn print_line(level: u64) {
     let mut file = [0u8; fund_printing::MOST_BYTES];
     let mut text = [0u8; answer_text::LEVEL_ROOM];
-    let printed = fund_printing::print_level_input(&mut file, level, &mut text);
+    let printed = fund_printing::print_input(Asked::AtLevel(level), &mut file, &mut text);
     if printed.failed {
         os::fail(b"standard input");
         return;

@@ -1,35 +1,14 @@
 // The fund in three files that a program's arguments name: a header text and two sheets of binary64 cells, the rates and the members. What is
 // asked of it, or the refusal's line, goes to standard output.
+use fund_printing::Asked;
 use fund_printing::MOST_BYTES;
 use libc::STDOUT_FILENO;
 
-pub enum Asked {
-    Listing,
-    AtLevel(u64),
-}
-
-fn print_text(text: &[u8]) {
-    if !io::write_all(STDOUT_FILENO, text) {
-        os::fail(b"standard output");
-    }
-}
-
-fn print_listing(header: &[u8], rates: &[u8], members: &[u8]) {
-    let mut text = [0u8; answer_text::ROOM];
-    let size = fund_printing::print_sheets(header, rates, members, &mut text);
-    print_text(&text[..size]);
-}
-
-fn print_line(header: &[u8], rates: &[u8], members: &[u8], level: u64) {
-    let mut text = [0u8; answer_text::LEVEL_ROOM];
-    let size = fund_printing::print_sheets_level(header, rates, members, level, &mut text);
-    print_text(&text[..size]);
-}
-
 fn print(asked: Asked, header: &[u8], rates: &[u8], members: &[u8]) {
-    match asked {
-        Asked::Listing => print_listing(header, rates, members),
-        Asked::AtLevel(level) => print_line(header, rates, members, level),
+    let mut text = [0u8; answer_text::ROOM];
+    let size = fund_printing::print_sheets(asked, header, rates, members, &mut text);
+    if !io::write_all(STDOUT_FILENO, &text[..size]) {
+        os::fail(b"standard output");
     }
 }
 

@@ -1,7 +1,7 @@
 // Prints the listing of a fund in a header text and two sheets, or the refusal's line. The arguments are the paths of the header text, of
 // the rates and of the members.
+use fund_printing::Asked;
 use libc::STDERR_FILENO;
-use sheet_files::Asked;
 
 fn main() {
     if os::arg_count() != 4 {

@@ -1,7 +1,7 @@
 // Prints the deductible at a level of a fund in a header text and two sheets, or the refusal's line. The arguments are the paths of the
 // header text, of the rates and of the members, and the level in units of 10^-12.
+use fund_printing::Asked;
 use libc::STDERR_FILENO;
-use sheet_files::Asked;
 use spelling::Argument;
 
 fn print_usage() {

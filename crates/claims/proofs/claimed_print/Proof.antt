@@ -1,4 +1,4 @@
--- The contract of the listing, in plain words.
+-- The contract of what is printed, in plain words.
 use borrow.Author.Needs.{needs}
 use Rattle.laws.specs.Ranges.{read-ranges}
 use Rattle.claims.proofs.Calls.{prints}
@@ -6,7 +6,7 @@ use Rattle.claims.proofs.claimed_print.Statement.{statement}
 use Rattle.claims.proofs.claimed_print.Tie as tie
 
 returns : tie.Need-returns
-returns c = prints _ _ (read-ranges _) _ _ _ (c .before .before .print .ensures .0)
+returns c = prints _ _ _ (read-ranges _) _ _ _ (c .before .before .print .ensures .0)
 
 pub claimed-print-spec : {M : Type 1} → statement M
 claimed-print-spec = tie.close (tie.spec (λ c κs. search needs) (λ c. search needs) returns)

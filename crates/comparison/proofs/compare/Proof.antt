@@ -9,17 +9,20 @@ use Rattle.comparison.proofs.ComparedFiles.{compares}
 use Rattle.comparison.proofs.compare.Statement.{statement}
 use Rattle.comparison.proofs.compare.Tie as tie
 
--- where the new file is priced, and the old one
+-- where the new file is priced and read, and the old one
 abbrev new-priced : tie.After-told-priced → tie.After-price-read2
 new-priced c = c .before .before .before .before .before .before .before .before
 
+abbrev new-read : tie.After-told-priced → tie.After-read2
+new-read c = new-priced c .before .before .before .before .before .before
+
 abbrev old-priced : tie.After-told-priced → tie.After-price-read
-old-priced c = new-priced c .before .before .before .before .before .before .before .before .before .before .before .before .before .before
+old-priced c = new-read c .before .before .before .before .before .before .before .before
 
 returns : tie.Need-returns
 returns c =
     let after = new-priced c in
-    let second = after .before .before .before .before .before .before in
+    let second = new-read c in
     let before = old-priced c in
     let first = before .before .before .before .before .before .before in
     let a = first .before .before .before .before .before .before .before .args in

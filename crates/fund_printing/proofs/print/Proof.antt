@@ -1,31 +1,25 @@
--- The figures that are shown are those of the call's answer.
-use mathlib.Core.Path.{_∙_, subst}
-use mathlib.Core.List.{List}
-use Prim.Native.Nat.{ℕ}
+-- What is written is what is asked of the call's answer.
+use mathlib.Core.Path.{_∙_}
 use borrow.Author.Needs.{needs}
-use lib.ListN.{length}
 use Rattle.laws.specs.Ranges.{read-ranges}
-use Rattle.writing.specs.Writing.{Written}
-use Rattle.fund_printing.proofs.ShownListing.{written-within, cells-length, signed-length, shown-is}
+use Rattle.fund_printing.proofs.ShownListing.{cells-length, signed-length}
+use Rattle.fund_printing.proofs.ShownAsked.{written}
 use Rattle.fund_printing.proofs.print.Statement.{statement}
 use Rattle.fund_printing.proofs.print.Tie as tie
 
 returns : tie.Need-returns
 returns c =
-    let listed = c .before .before in
-    let priced = listed .before .before .before .before .before .before .before .before .before .before .before in
-    let a = priced .before .before .before .before .before .before .before .before .args in
+    let put = c .before .before in
+    let priced = put .before .before .before .before .before .before .before .before .before .before in
+    let level = priced .before .before .before .before .before .before in
+    let a = level .before .before .before .args in
     let p = priced .price in
-    let l = listed .listing in
     let o = p .last .1 .1 in
-    let w = subst (λ (t : List ℕ). Written t (a .text .now) (l .last .1 .1 .1 .1 .1 .1 .0) (l .result))
-    (shown-is (a .file .now) _ (read-ranges (a .file .now)) 0 (p .result) (o .0) (o .1 .0) (o .1 .1 .0) (o .1 .1 .1 .0) (o .1 .1 .1 .1 .0) (p .ensures .answers) (p .kept .1 .1 .1 .1 .0 ∙ signed-length) (p .kept .1 .1 .1 .1 .1 .0 ∙ cells-length) (p .kept .1 .1 .1 .1 .1 .1 .0 ∙ signed-length) (length (a .text .now)))
-    (l .ensures) in
-    (w, written-within w)
+    written (a .file .now) _ (read-ranges (a .file .now)) (p .result) (o .0) (o .1 .0) (o .1 .1 .0) (o .1 .1 .1 .0) (o .1 .1 .1 .1 .0) (p .kept .1 .1 .1 .1 .0 ∙ signed-length) (p .kept .1 .1 .1 .1 .1 .0 ∙ cells-length) (p .kept .1 .1 .1 .1 .1 .1 .0 ∙ signed-length)
+    (a .asked) (level .level-of .ensures) (p .ensures .answers) (put .write .ensures)
 
 pub print-spec : {M : Type 1} → statement M
 print-spec =
     tie.close
-    (tie.spec (λ c. search needs) (λ c. search needs) (λ c. search needs)
-    (λ c. search needs) (λ c. search needs) (λ c κs. search needs) (λ c. search needs)
-    (λ c. search needs) (λ c. search needs) (λ c κs. search needs) (λ c. search needs) returns)
+    (tie.spec (λ c κs. search needs) (λ c. search needs) (λ c. search needs) (λ c. search needs) (λ c. search needs) (λ c. search needs) (λ c κs. search needs)
+    (λ c. search needs) (λ c. search needs) (λ c. search needs) (λ c κs. search needs) (λ c. search needs) returns)

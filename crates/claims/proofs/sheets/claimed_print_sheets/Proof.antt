@@ -1,4 +1,4 @@
--- The contract of the listing of sheets, in plain words.
+-- The contract of what is printed of sheets, in plain words.
 use borrow.Author.Needs.{needs}
 use Rattle.laws.specs.SheetRanges.{sheet-ranges}
 use Rattle.claims.proofs.Calls.{prints}
@@ -6,7 +6,7 @@ use Rattle.claims.proofs.sheets.claimed_print_sheets.Statement.{stateme
 use Rattle.claims.proofs.sheets.claimed_print_sheets.Tie as tie
 
 returns : tie.Need-returns
-returns c = prints _ _ (sheet-ranges _ _ _) _ _ _ (c .before .before .print-sheets .ensures .0)
+returns c = prints _ _ _ (sheet-ranges _ _ _) _ _ _ (c .before .before .print-sheets .ensures .0)
 
 pub claimed-print-sheets-spec : {M : Type 1} → statement M
 claimed-print-sheets-spec = tie.close (tie.spec (λ c κs. search needs) (λ c. search needs) returns)

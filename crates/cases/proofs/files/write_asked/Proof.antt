@@ -1,9 +1,9 @@
 -- The listing lies in the text.
 use borrow.Author.Needs.{needs}
-use Rattle.cases.proofs.files.write_listing.Statement.{statement}
-use Rattle.cases.proofs.files.write_listing.Tie as tie
+use Rattle.cases.proofs.files.write_asked.Statement.{statement}
+use Rattle.cases.proofs.files.write_asked.Tie as tie
 
-pub write-listing-spec : {M : Type 1} → statement M
-write-listing-spec =
+pub write-asked-spec : {M : Type 1} → statement M
+write-asked-spec =
     tie.close
     (tie.spec (λ c. search needs) (λ c κs. search needs) (λ c. search needs) (λ c. c .before .before .print .ensures .1 .1) (λ c κs. search needs) (λ c. search needs))
