@@ -4,7 +4,7 @@ use fund::Figures;
 use fund::Fund;
 use moves::Differences;
 use moves::Moved;
-use reader::FileRead;
+use rows::FileRead;
 ghost use mathlib.Core.Path.{_≡_};
 ghost use Rattle.valuation.specs.Valued.{lengths};
 ghost use Rattle.moves.specs.Differences.{differences, fileIn};

@@ -5,16 +5,16 @@ use fund::Refusal;
 use fund::SheetRow;
 use fund_printing::Asked;
 use pricing::Priced;
-use reader::FileRead;
 use reader::Header;
+use rows::FileRead;
 ghost use mathlib.Core.Path.{_≡_};
-ghost use Rattle.fund.specs.Reading.{stopped};
+ghost use Rattle.fund.specs.Reading.{stopped, between};
 ghost use Rattle.fund.specs.SheetCells.{rateRowOf, memberRowOf};
 ghost use Rattle.fund.specs.Sheets.{sheetReading};
 ghost use Rattle.valuation.specs.Valued.{lengths};
 ghost use Rattle.reader.specs.Header.{HeaderRead};
-ghost use Rattle.reader.specs.Rows.{rateFits, memberFits};
-ghost use Rattle.reader.specs.Read.{fileRead};
+ghost use Rattle.rows.specs.Rows.{rateFits, memberFits};
+ghost use Rattle.rows.specs.Read.{fileRead};
 ghost use Rattle.claims.specs.Demands.{Demands};
 ghost use Rattle.claims.specs.Listing.{PrintsAsked};
 ghost use Rattle.claims.specs.Calls.{priced, ResultStruct, hosted};
@@ -111,21 +111,28 @@ pub fn claimed_header(text: &[u8]) -> Header
 pub fn claimed_without_rows(why: Refusal, place: u64) -> FileRead
     ensures { λ r. ⌜ r ≡ fileRead (stopped why place) ⌝ }
 {
-    reader::without_rows(why, place)
+    rows::without_rows(why, place)
+}
+
+// Whether a number is from the least to the most.
+pub fn claimed_within(least: u64, most: u64, n: u64) -> bool
+    ensures { λ t. ⌜ t ≡ between least most n ⌝ }
+{
+    rows::within(least, most, n)
 }
 
 // Whether a rate row is in range behind so many others and from a least age on.
 pub fn claimed_rate_in_range(rated: usize, least: u64, r: Rate) -> bool
     ensures { λ t. ⌜ t ≡ rateFits rated least r ⌝ }
 {
-    reader::rate_in_range(rated, least, r)
+    rows::rate_in_range(rated, least, r)
 }
 
 // Whether a member row is in range behind so many others with so many lives.
 pub fn claimed_member_in_range(enrolled: usize, lives: u64, m: Member) -> bool
     ensures { λ t. ⌜ t ≡ memberFits enrolled lives m ⌝ }
 {
-    reader::member_in_range(enrolled, lives, m)
+    rows::member_in_range(enrolled, lives, m)
 }
 
 // A row of the rates' sheet, from its bytes.

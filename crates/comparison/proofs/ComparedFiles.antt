@@ -18,7 +18,7 @@ use Rattle.fund.specs.Answer.{Answer, fundFigures, refused, lent, accepted, ans
 use Rattle.laws.specs.Answer.{Read, accepted-read, answer-accepted}
 use Rattle.laws.specs.Ranges.{FundOk, read-ranges}
 use Rattle.distance.specs.NotNegative.{not-negative}
-use Rattle.reader.specs.Read.{rateTable, memberTable, fileRead}
+use Rattle.rows.specs.Read.{rateTable, memberTable, fileRead}
 use Rattle.pricing.specs.declared.Priced.{Priced}
 use Rattle.pricing.specs.Priced.{Prices}
 use Rattle.moves.specs.declared.Move.{Move}

@@ -1,7 +1,7 @@
 -- What the steps of a comparison say of files that were read and of their figures.
 use mathlib.Core.List.{List}
 use Rattle.fund.specs.declared.Figures.{Figures}
-use Rattle.reader.specs.declared.FileRead.{FileRead}
+use Rattle.rows.specs.declared.FileRead.{FileRead}
 use Rattle.moves.specs.declared.Moved.{Moved as MovedBy}
 use Rattle.moves.specs.declared.Moved.the-variants.{By, Outside}
 use Rattle.moves.specs.declared.files.Differences.{Differences}

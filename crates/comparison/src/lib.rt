@@ -6,7 +6,7 @@ use moves::Differences;
 use moves::Move;
 use moves::Moved;
 use pricing::Priced;
-use reader::FileRead;
+use rows::FileRead;
 ghost use mathlib.Core.Path.{_≡_};
 ghost use Rattle.valuation.specs.Valued.{lengths};
 ghost use Rattle.pricing.specs.Priced.{leftPriced};

@@ -15,7 +15,7 @@ use Rattle.fund.specs.Base.{if_then_else_}
 use Rattle.fund.specs.Reading.{headerLines}
 use Rattle.fund.specs.Refusals.{firstMember}
 use Rattle.laws.specs.Rows.{blankMember}
-use Rattle.reader.specs.declared.FileRead.{FileRead}
+use Rattle.rows.specs.declared.FileRead.{FileRead}
 use Rattle.moves.specs.Differences.{sameMember, firstMemberLine, memberLine, fileIn}
 
 abbrev pub Ahead : List Member → List Member → ℕ → Type 0

@@ -9,7 +9,7 @@ use Rattle.fund.specs.declared.Member.{Member}
 use Rattle.fund.specs.Base.{if_then_else_}
 use Rattle.fund.specs.Reading.{FundFile}
 use Rattle.fund.specs.Refusals.{firstMember}
-use Rattle.reader.specs.declared.FileRead.{FileRead}
+use Rattle.rows.specs.declared.FileRead.{FileRead}
 use Rattle.moves.specs.declared.files.Differences.{Differences}
 
 -- The line of the first header line behind the editions' in which two headers differ: `horizon=` stands in line 3, `worth=` in line 7. 0 where

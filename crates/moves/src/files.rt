@@ -2,7 +2,7 @@
 use fund::Fund;
 use fund::Member;
 use fund::Rate;
-use reader::FileRead;
+use rows::FileRead;
 ghost use mathlib.Core.Path.{_≡_};
 ghost use Prim.Native.Nat.{_+_, _≤_};
 ghost use mathlib.Core.Bool.{not};

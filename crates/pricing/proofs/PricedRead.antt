@@ -9,8 +9,8 @@ use Rattle.fund.specs.Reading.{FundFile, Reading, read}
 use Rattle.fund.specs.Refusals.{Lengths}
 use Rattle.fund.specs.Answer.{answerTo}
 use Rattle.laws.specs.Ranges.{FundOk}
-use Rattle.reader.specs.declared.FileRead.{FileRead}
-use Rattle.reader.specs.Read.{fileRead}
+use Rattle.rows.specs.declared.FileRead.{FileRead}
+use Rattle.rows.specs.Read.{fileRead}
 use Rattle.pricing.specs.declared.Priced.{Priced}
 use Rattle.pricing.specs.JoinedSteps.{answer-stopped}
 use Rattle.pricing.specs.Priced.{leftPriced, lined, horizonWith, MatchedFund, valuedBy, matchedOf, readBy, readAnswer, PricesRead, Prices}

@@ -19,8 +19,8 @@ use Rattle.fund.specs.Answer.{Answer, refused, answerTo}
 use Rattle.fund.specs.Listing.{horizonIn}
 use Rattle.laws.specs.Ranges.{FundOk}
 use Rattle.laws.specs.Rows.{blankRate, blankMember, blankPoint, rows-back}
-use Rattle.reader.specs.declared.FileRead.{FileRead}
-use Rattle.reader.specs.Read.{rateTable, memberTable, fileRead}
+use Rattle.rows.specs.declared.FileRead.{FileRead}
+use Rattle.rows.specs.Read.{rateTable, memberTable, fileRead}
 use Rattle.matching.specs.declared.table.Matched.{Matched}
 use Rattle.matching.specs.Matching.{pointTable, withPoints, matching, matchedTables}
 use Rattle.pricing.specs.Priced.{MatchedFund}

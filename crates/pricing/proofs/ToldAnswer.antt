@@ -16,7 +16,7 @@ use Rattle.fund.specs.Listing.{horizonIn}
 use Rattle.fund.specs.Distance.{WithinBounds, NeverBelow, QuantileWithin}
 use Rattle.laws.specs.Ranges.{FundOk}
 use Rattle.distance.specs.Distance.{distance, level-within, never-below, average}
-use Rattle.reader.specs.declared.FileRead.{FileRead}
+use Rattle.rows.specs.declared.FileRead.{FileRead}
 use Rattle.valuation.specs.declared.Valued.{Valued}
 use Rattle.valuation.specs.Valued.{leftValued}
 use Rattle.pricing.specs.JoinedSteps.{quantile-is}

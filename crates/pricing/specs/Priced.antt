@@ -22,7 +22,7 @@ use Rattle.fund.specs.Distance.{WithinBounds, AverageExcess, NeverBelow, Quanti
 use Rattle.laws.specs.Ranges.{FundOk}
 use Rattle.matching.specs.declared.table.Matched.{Matched}
 use Rattle.matching.specs.Matching.{matching, matchedTables}
-use Rattle.reader.specs.declared.FileRead.{FileRead}
+use Rattle.rows.specs.declared.FileRead.{FileRead}
 use Rattle.valuation.specs.declared.Valued.{Valued}
 use Rattle.valuation.specs.Valued.{valuation}
 use Rattle.pricing.specs.declared.Priced.{Priced}

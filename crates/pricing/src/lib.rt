@@ -4,7 +4,7 @@ use fund::Fund;
 use fund::Quantile;
 use fund::Verdict;
 use matching::Matched;
-use reader::FileRead;
+use rows::FileRead;
 use valuation::Valued;
 use valuation::refuse;
 ghost use mathlib.Core.Path.{_≡_};

@@ -2,5 +2,4 @@ pub mod Lines
 pub mod Headers
 pub mod Rows
 pub mod Steps
-pub mod RowsSoFar
 pub mod Parts

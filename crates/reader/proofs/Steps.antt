@@ -12,13 +12,15 @@ use Rattle.fund.specs.declared.Member.{Member}
 use Rattle.fund.specs.declared.Refusal.{Refusal}
 use Rattle.fund.specs.declared.Refusal.the-variants.{Form, Range}
 use Rattle.fund.specs.Lines.{Line as FundLine, linesFrom}
-use Rattle.fund.specs.Reading.{stopped, rowOf, rateRow, memberRow, endRow, otherRow, rateInRange, livesInAll, memberInRange, noMember, atEnd, readRows}
+use Rattle.fund.specs.Reading.{stopped, rowOf, rateRow, memberRow, endRow, otherRow, rateInRange, memberInRange, noMember, atEnd, readRows}
+use Rattle.rows.specs.Rows.{linePlace, rateFits, memberFits, Counted}
+use Rattle.rows.proofs.Rows.{rate-fits, member-fits, fits-rated, fits-enrolled}
 use Rattle.reader.specs.declared.line.Line.{Line}
 use Rattle.reader.specs.declared.row.RowStep.the-variants.{Rate as RateNext, Member as MemberNext, End, Stopped}
 use Rattle.reader.specs.Lines.{linesAt, lineIn, NextLine}
-use Rattle.reader.specs.Rows.{linePlace, leastAge, rateFits, memberFits, rowsFrom, RowStepped}
+use Rattle.reader.specs.Rows.{rowsFrom, RowStepped}
 use Rattle.reader.proofs.Lines.{line-left}
-use Rattle.reader.proofs.Rows.{rate-fits, member-fits, no-member, some-member, fits-rated, fits-enrolled}
+use Rattle.reader.proofs.Rows.{no-member, some-member}
 
 -- The definition at a line, by what the line is.
 module _ (n : ℕ) (fund : Fund) (rs : List Rate) (ms : List Member) (l : FundLine) (ls : List FundLine) where
@@ -60,68 +62,68 @@ module _ (n : ℕ) (fund : Fund) (rs : List Rate) (ms : List Member) (l : FundLi
 
 -- What a line answers, behind rows of these counts and lives.
 module _ (file : List ℕ) (at rated enrolled least lives place : ℕ) (p : place ≡ linePlace rated enrolled) where
-  here : (rs : List Rate) (ms : List Member) → length rs ≡ rated → length ms ≡ enrolled → linePlace (length rs) (length ms) ≡ place
-  here rs ms a b = rw (a, b, p)
+  here : (rs : List Rate) (ms : List Member) → Counted rs ms rated enrolled least lives → linePlace (length rs) (length ms) ≡ place
+  here rs ms c = rw (c .rated-is, c .enrolled-is, p)
 
   pub step-missing : length file ≤ at → RowStepped file at rated enrolled least lives (Stopped Form place)
   unfolding readRows linesFrom
   step-missing h =
-      record { takes = tt; same = λ fund rs ms a b c d. rw (drop-of-length-le file h) (ap (stopped Form) (here rs ms a b)) }
+      record { takes = tt; same = λ fund rs ms c. rw (drop-of-length-le file h) (ap (stopped Form) (here rs ms c)) }
 
   module _ (l : Line) (n : NextLine file at l) where
     stop
         : (why : Refusal)
-        → ((fund : Fund) (rs : List Rate) (ms : List Member) → length rs ≡ rated → length ms ≡ enrolled → leastAge rs ≡ least → livesInAll ms ≡ lives →
+        → ((fund : Fund) (rs : List Rate) (ms : List Member) → Counted rs ms rated enrolled least lives →
         readRows (linePlace (length rs) (length ms)) fund rs ms (lineIn file l ∷ linesAt file (l .next)) ≡ stopped why (linePlace (length rs) (length ms)))
         → RowStepped file at rated enrolled least lives (Stopped why place)
     stop why is =
-        record { takes = tt; same = λ fund rs ms a b c d. rw (n .first) (is fund rs ms a b c d) ∙ ap (stopped why) (here rs ms a b) }
+        record { takes = tt; same = λ fund rs ms c. rw (n .first) (is fund rs ms c) ∙ ap (stopped why) (here rs ms c) }
 
     pub step-other : rowOf (lineIn file l) ≡ otherRow → RowStepped file at rated enrolled least lives (Stopped Form place)
-    step-other o = stop Form (λ fund rs ms a b c d. rows-other _ fund rs ms _ _ o)
+    step-other o = stop Form (λ fund rs ms c. rows-other _ fund rs ms _ _ o)
 
     module _ (r : Rate) (o : rowOf (lineIn file l) ≡ rateRow r) where
       pub step-order : 0 < enrolled → RowStepped file at rated enrolled least lives (Stopped Form place)
-      step-order h = stop Form (λ fund rs ms a b c d. rows-order _ fund rs ms _ _ r o (some-member ms (omega arith)))
+      step-order h = stop Form (λ fund rs ms c. rows-order _ fund rs ms _ _ r o (some-member ms (omega (arith, c .enrolled-is))))
 
       module _ (h : enrolled ≡ 0) where
         pub step-rate-out : rateFits rated least r ≡ false → RowStepped file at rated enrolled least lives (Stopped Range place)
         step-rate-out f =
-            stop Range (λ fund rs ms a b c d. rows-rate-out _ fund rs ms _ _ r o (no-member ms (b ∙ h)) (rate-fits rs r ∙ rw (a, c) f))
+            stop Range (λ fund rs ms c. rows-rate-out _ fund rs ms _ _ r o (no-member ms (c .enrolled-is ∙ h)) (rate-fits rs ms _ _ _ _ c r ∙ f))
 
         pub step-rate : rateFits rated least r ≡ true → RowStepped file at rated enrolled least lives (RateNext r (l .next))
         step-rate f =
             let w = fits-rated rated least r f in
             record {
               takes = (record { later = n .later; inside = n .inside; few = w .0 }, w .1);
-              same = λ fund rs ms a b c d.
+              same = λ fund rs ms c.
                   let z : suc (linePlace (length rs) (length ms)) ≡ linePlace (length (rs ++ (r ∷ []))) (length ms) = omega (arith, length-append rs (r ∷ [])) in
-                  rw (n .first) (rows-rate _ fund rs ms _ _ r o (no-member ms (b ∙ h)) (rate-fits rs r ∙ rw (a, c) f))
+                  rw (n .first) (rows-rate _ fund rs ms _ _ r o (no-member ms (c .enrolled-is ∙ h)) (rate-fits rs ms _ _ _ _ c r ∙ f))
                   ∙ ap (λ k. readRows k fund (rs ++ (r ∷ [])) ms (linesAt file (l .next))) z;
             }
 
     module _ (m : Member) (o : rowOf (lineIn file l) ≡ memberRow m) where
       pub step-member-out : memberFits enrolled lives m ≡ false → RowStepped file at rated enrolled least lives (Stopped Range place)
-      step-member-out f = stop Range (λ fund rs ms a b c d. rows-member-out _ fund rs ms _ _ m o (member-fits ms m ∙ rw (b, d) f))
+      step-member-out f = stop Range (λ fund rs ms c. rows-member-out _ fund rs ms _ _ m o (member-fits rs ms _ _ _ _ c m ∙ f))
 
       pub step-member : memberFits enrolled lives m ≡ true → RowStepped file at rated enrolled least lives (MemberNext m (l .next))
       step-member f =
           let w = fits-enrolled enrolled lives m f in
           record {
             takes = (record { later = n .later; inside = n .inside; few = w .0 }, w .1);
-            same = λ fund rs ms a b c d.
+            same = λ fund rs ms c.
                 let z : suc (linePlace (length rs) (length ms)) ≡ linePlace (length rs) (length (ms ++ (m ∷ []))) = omega (arith, length-append ms (m ∷ [])) in
-                rw (n .first) (rows-member _ fund rs ms _ _ m o (member-fits ms m ∙ rw (b, d) f))
+                rw (n .first) (rows-member _ fund rs ms _ _ m o (member-fits rs ms _ _ _ _ c m ∙ f))
                 ∙ ap (λ k. readRows k fund rs (ms ++ (m ∷ [])) (linesAt file (l .next))) z;
           }
 
     module _ (k : ℕ) (o : rowOf (lineIn file l) ≡ endRow k) where
       pub step-count : (k ≡ enrolled → ⊥) → RowStepped file at rated enrolled least lives (Stopped Range place)
-      step-count f = stop Range (λ fund rs ms a b c d. rows-count _ fund rs ms _ _ k o (λ w. f (w ∙ b)))
+      step-count f = stop Range (λ fund rs ms c. rows-count _ fund rs ms _ _ k o (λ w. f (w ∙ c .enrolled-is)))
 
       module _ (e : k ≡ enrolled) where
         ended : (fund : Fund) (rs : List Rate) (ms : List Member) → length ms ≡ enrolled →
-            rowsFrom file fund rs ms at ≡ atEnd (suc (linePlace (length rs) (length ms))) (record { header = fund; rates = rs; members = ms }) (linesAt file (l .next))
+            rowsFrom file fund at rs ms ≡ atEnd (suc (linePlace (length rs) (length ms))) (record { header = fund; rates = rs; members = ms }) (linesAt file (l .next))
         ended fund rs ms b = rw (n .first) (rows-end _ fund rs ms _ _ k o (e ∙ sym b))
 
         pub step-more : l .next < length file → RowStepped file at rated enrolled least lives (Stopped Form (place + 1))
@@ -129,12 +131,12 @@ module _ (file : List ℕ) (at rated enrolled least lives place : ℕ) (p : plac
         step-more h =
             record {
               takes = tt;
-              same = λ fund rs ms a b c d.
-                  let z : suc (linePlace (length rs) (length ms)) ≡ place + 1 = omega (arith, here rs ms a b) in
+              same = λ fund rs ms c.
+                  let z : suc (linePlace (length rs) (length ms)) ≡ place + 1 = omega (arith, here rs ms c) in
                   let w = line-left file (l .next) h in
-                  ended fund rs ms b ∙ rw (w .1 .1) (ap (stopped Form) z);
+                  ended fund rs ms (c .enrolled-is) ∙ rw (w .1 .1) (ap (stopped Form) z);
             }
 
         pub step-end : length file ≤ l .next → RowStepped file at rated enrolled least lives End
         unfolding atEnd linesFrom
-        step-end h = record { takes = tt; same = λ fund rs ms a b c d. ended fund rs ms b ∙ rw (drop-of-length-le file h) }
+        step-end h = record { takes = tt; same = λ fund rs ms c. ended fund rs ms (c .enrolled-is) ∙ rw (drop-of-length-le file h) }

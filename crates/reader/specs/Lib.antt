@@ -1,5 +1,4 @@
 pub mod Lines
 pub mod Header
 pub mod Rows
-pub mod Read
 pub mod Part

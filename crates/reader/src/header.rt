@@ -27,15 +27,6 @@ pub enum Header {
     Stopped(Refusal, u64),
 }
 
-pub(crate) fn within(least: u64, most: u64, n: u64) -> bool
-    ensures { λ r. ⌜ r ≡ between least most n ⌝ }
-{
-    if n < least {
-        return false;
-    }
-    n <= most
-}
-
 // The numbers of the header line k.
 fn numbers_at(file: &[u8], line: Line, k: usize) -> Numbers
     requires { ⌜ LineInside (now file) line ⌝ }
@@ -57,8 +48,8 @@ fn numbers_at(file: &[u8], line: Line, k: usize) -> Numbers
 fn both_within(least: u64, most: u64, first: u64, second: u64) -> bool
     ensures { λ r. ⌜ r ≡ (between least most first && between least most second) ⌝ }
 {
-    if within(least, most, first) {
-        return within(least, most, second);
+    if rows::within(least, most, first) {
+        return rows::within(least, most, second);
     }
     false
 }
@@ -69,13 +60,13 @@ fn header_in_range(k: usize, first: u64, second: u64) -> bool
     ensures { λ r. ⌜ r ≡ inRanges (headerLine k .ranges) (lineNumbers k first second) ⌝ }
 {
     match k {
-        0 => within(Fund::LEAST_EDITION, Fund::MOST_EDITION, first),
-        1 => within(Fund::LEAST_EDITION, Fund::MOST_EDITION, first),
-        2 => within(0, Fund::MOST_HORIZON, first),
-        3 => within(Fund::LEAST_ORDER, Fund::MOST_ORDER, first),
+        0 => rows::within(Fund::LEAST_EDITION, Fund::MOST_EDITION, first),
+        1 => rows::within(Fund::LEAST_EDITION, Fund::MOST_EDITION, first),
+        2 => rows::within(0, Fund::MOST_HORIZON, first),
+        3 => rows::within(Fund::LEAST_ORDER, Fund::MOST_ORDER, first),
         4 => both_within(0, Fund::MOST_FREQUENCY, first, second),
-        5 => within(0, Fund::MOST_DEDUCTIBLE, first),
-        _ => within(Fund::LEAST_WORTH, Fund::MOST_WORTH, first),
+        5 => rows::within(0, Fund::MOST_DEDUCTIBLE, first),
+        _ => rows::within(Fund::LEAST_WORTH, Fund::MOST_WORTH, first),
     }
 }
 

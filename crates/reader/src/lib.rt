@@ -5,31 +5,14 @@ mod line;
 mod part;
 mod row;
 
-pub use body::without_rows;
-use fund::Fund;
-use fund::Member;
-use fund::Rate;
-use fund::Verdict;
 pub use header::Header;
 pub use header::read_header;
 pub use part::Part;
 pub use part::part_of;
-pub use row::member_in_range;
-pub use row::rate_in_range;
+use rows::FileRead;
 ghost use mathlib.Core.Path.{_≡_};
 ghost use Rattle.fund.specs.Reading.{reading};
-ghost use Rattle.reader.specs.Read.{fileRead};
-
-// What reading a file found: the verdict of 1 and 2, the header's figures, and the tables of the rate rows and of the member
-// rows with the number of rows at their start. The rows behind these are blank, and so is all but the verdict of a refusal.
-pub struct FileRead {
-    pub verdict: Verdict,
-    pub fund: Fund,
-    pub rates: [Rate; Fund::RATE_ROWS],
-    pub rated: usize,
-    pub members: [Member; Fund::MEMBER_ROWS],
-    pub enrolled: usize,
-}
+ghost use Rattle.rows.specs.Read.{fileRead};
 
 // Reads a file's lines one after the other.
 pub fn read(file: &[u8]) -> FileRead
@@ -37,6 +20,6 @@ pub fn read(file: &[u8]) -> FileRead
 {
     match header::read_header(file) {
         Header::Whole(fund, at) => body::read_rows(file, fund, at),
-        Header::Stopped(why, place) => body::without_rows(why, place),
+        Header::Stopped(why, place) => rows::without_rows(why, place),
     }
 }

@@ -1,5 +1,4 @@
 // A row line: what it is, and whether its numbers are in range behind the rows before it.
-use crate::header;
 use crate::line;
 use crate::line::Line;
 use fund::Fund;
@@ -7,13 +6,12 @@ use fund::Member;
 use fund::Rate;
 use fund::Refusal;
 ghost use mathlib.Core.Path.{_≡_};
-ghost use mathlib.Core.Bool.{_&&_};
-ghost use Prim.Native.Nat.{_+_, _≤_};
-ghost use lib.Dec.{leb};
-ghost use Rattle.fund.specs.Limits.{most-rates, most-members, least-lives, most-lives};
-ghost use Rattle.fund.specs.Reading.{between, rowOf};
+ghost use Prim.Native.Nat.{_≤_};
+ghost use Rattle.fund.specs.Limits.{most-rates, most-members};
+ghost use Rattle.fund.specs.Reading.{rowOf};
 ghost use Rattle.reader.specs.Lines.{lineIn, LineInside};
-ghost use Rattle.reader.specs.Rows.{rowIn, linePlace, rateFits, memberFits, RowStepped};
+ghost use Rattle.rows.specs.Rows.{linePlace};
+ghost use Rattle.reader.specs.Rows.{rowIn, RowStepped};
 
 pub(crate) enum Row {
     Rate(Rate),
@@ -70,60 +68,6 @@ fn line_place(rated: usize, enrolled: usize) -> u64
     Fund::HEADER_LINES as u64 + rated as u64 + enrolled as u64 + 1
 }
 
-// The rate row behind `rated` others; `least` is the least age that is above theirs.
-pub fn rate_in_range(rated: usize, least: u64, r: Rate) -> bool
-    ensures { λ t. ⌜ t ≡ rateFits rated least r ⌝ }
-{
-    if Fund::RATE_ROWS <= rated {
-        return false;
-    }
-    if Fund::MOST_AGE < r.age {
-        return false;
-    }
-    if r.age < least {
-        return false;
-    }
-    if Fund::MOST_RATE < r.q {
-        return false;
-    }
-    if Fund::MOST_RATE < r.i {
-        return false;
-    }
-    r.q + r.i <= Fund::MOST_RATE
-}
-
-// The lives of a member row behind rows of so many: "lives in all are at most 1,000, else range (2) at the line that passes it".
-fn lives_in_range(before: u64, lives: u64) -> bool
-    ensures { λ t. ⌜ t ≡ (between least-lives most-lives lives && leb (before + lives) most-lives) ⌝ }
-{
-    if header::within(Fund::LEAST_LIVES, Fund::MOST_LIVES, lives) {
-        return before <= Fund::MOST_LIVES - lives;
-    }
-    false
-}
-
-// The member row behind `enrolled` others, which stand for so many lives.
-pub fn member_in_range(enrolled: usize, lives: u64, m: Member) -> bool
-    ensures { λ t. ⌜ t ≡ memberFits enrolled lives m ⌝ }
-{
-    if Fund::MEMBER_ROWS <= enrolled {
-        return false;
-    }
-    if Fund::MOST_AGE < m.age {
-        return false;
-    }
-    if header::within(Fund::LEAST_GROUP, Fund::MOST_GROUP, m.group) {
-        if Fund::MOST_AMOUNT < m.d {
-            return false;
-        }
-        if Fund::MOST_AMOUNT < m.e {
-            return false;
-        }
-        return lives_in_range(lives, m.lives);
-    }
-    false
-}
-
 // The line at `at`, behind the rows before it. A rate line after a member line breaks the order. `end=`: "the number of
 // member lines; nothing after it."
 pub(crate) fn row_step(
@@ -148,13 +92,13 @@ pub(crate) fn row_step(
             if 0 < enrolled {
                 return RowStep::Stopped(Refusal::Form, here);
             }
-            if rate_in_range(rated, least, r) {
+            if rows::rate_in_range(rated, least, r) {
                 return RowStep::Rate(r, l.next);
             }
             RowStep::Stopped(Refusal::Range, here)
         }
         Row::Member(m) => {
-            if member_in_range(enrolled, lives, m) {
+            if rows::member_in_range(enrolled, lives, m) {
                 return RowStep::Member(m, l.next);
             }
             RowStep::Stopped(Refusal::Range, here)

@@ -1,3 +1,2 @@
 pub mod Next
-pub mod SoFar
 pub mod Header

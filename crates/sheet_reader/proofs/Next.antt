@@ -9,21 +9,19 @@ use borrow.Author.Tests.{ltb-true, ltb-false}
 use lib.Dec.{ltb}
 use lib.ListN.{length, take, drop, length-append, length-drop, drop-of-length-le}
 use lib.Seq.{drop-cons, take-all}
-use Rattle.fund.specs.declared.Rate.{Rate}
-use Rattle.fund.specs.declared.Member.{Member}
 use Rattle.fund.specs.declared.Refusal.the-variants.{Range, Cell as CellRefusal}
 use Rattle.fund.specs.declared.SheetRow.{SheetRow}
 use Rattle.fund.specs.declared.SheetRow.the-variants.{Rate as RateRow, Member as MemberRow, NotTaken}
 use Rattle.fund.specs.Base.{table}
-use Rattle.fund.specs.Reading.{stopped, headerLines, rateInRange, livesInAll, memberInRange}
+use Rattle.fund.specs.Reading.{stopped, headerLines}
 use Rattle.fund.specs.SheetCells.{rate-width, member-width, rateRowOf, memberRowOf}
 use Rattle.fund.specs.Sheets.{rowCount, rowAt, rowsOf, readSheetRows}
 use Rattle.laws.specs.Tables.{length-table, getD-table}
 use Rattle.laws.specs.TakenRows.{NoMember, NoRate, rate-row, member-row}
-use Rattle.reader.specs.Rows.{linePlace, leastAge, rateFits, memberFits}
-use Rattle.reader.proofs.Rows.{rate-fits, member-fits, fits-rated, fits-enrolled}
-use Rattle.sheet_reader.specs.declared.rows.RowStep.the-variants.{Rate as RateNext, Member as MemberNext, End, Stopped}
-use Rattle.sheet_reader.specs.Rows.{RowEnd, rowsLeft, Behind, NextOf, rowsFrom, RowStepped, rowStep}
+use Rattle.rows.specs.Rows.{linePlace, rateFits, memberFits}
+use Rattle.rows.proofs.Rows.{rate-fits, member-fits, fits-rated, fits-enrolled}
+use Rattle.sheet_reader.specs.declared.body.RowStep.the-variants.{Rate as RateNext, Member as MemberNext, End, Stopped}
+use Rattle.sheet_reader.specs.Rows.{RowEnd, rowsLeft, Rest, NextOf, rowsFrom, RowStepped, rowStep}
 
 -- ---- the rows of a sheet
 module _ (width : ℕ) (sheet : List ℕ) (some : 0 < width) where
@@ -66,7 +64,7 @@ row-bytes width k end sheet e = go (ltb (length sheet - width * k) width) refl
 
 -- ---- the next row
 module _ (rates members : List ℕ) (rated enrolled : ℕ) where
-  rate-behind : (is : SheetRow) → NoMember is → Behind rates members rated enrolled is (rowsLeft rates members (suc rated) enrolled)
+  rate-behind : (is : SheetRow) → NoMember is → Rest rates members rated enrolled is (rowsLeft rates members (suc rated) enrolled)
   rate-behind (RateRow r) h = refl
   rate-behind (MemberRow m) h = absurd h
   rate-behind NotTaken h = tt
@@ -84,7 +82,7 @@ module _ (rates members : List ℕ) (rated enrolled : ℕ) where
       }
 
   module _ (done : length rates ≤ rate-width * rated) where
-    member-behind : (is : SheetRow) → NoRate is → Behind rates members rated enrolled is (rowsLeft rates members rated (suc enrolled))
+    member-behind : (is : SheetRow) → NoRate is → Rest rates members rated enrolled is (rowsLeft rates members rated (suc enrolled))
     member-behind (RateRow r) h = absurd h
     member-behind (MemberRow m) h = refl
     member-behind NotTaken h = tt
@@ -109,54 +107,48 @@ module _ (rates members : List ℕ) (rated enrolled : ℕ) where
 module _ (rates members : List ℕ) (rated enrolled least lives : ℕ) where
   pub rows-end : rowsLeft rates members rated enrolled ≡ [] → RowStepped rates members rated enrolled least lives End
   unfolding rowsFrom readSheetRows
-  rows-end e = record { takes = tt; same = λ fund rs ms a b c d. rw (a, b, e) refl }
+  rows-end e = record { takes = tt; same = λ fund rs ms n. rw (n .rated-is, n .enrolled-is, e) refl }
 
   pub row-after : (row : SheetRow) → NextOf rates members rated enrolled row → RowStepped rates members rated enrolled least lives (rowStep rated enrolled least lives row)
   unfolding rowsFrom readSheetRows rowStep
   row-after NotTaken k =
       record {
         takes = tt;
-        same = λ fund rs ms a b c d. let z : suc (length rs + length ms) ≡ rated + enrolled + 1 = omega arith in rw (a, b, k .first) (ap (stopped CellRefusal) z);
+        same = λ fund rs ms n. let z : suc (length rs + length ms) ≡ rated + enrolled + 1 = omega (arith, n .rated-is, n .enrolled-is) in rw (n .rated-is, n .enrolled-is, k .first) (ap (stopped CellRefusal) z);
       }
   row-after (RateRow r) k = go (rateFits rated least r) refl
     where
-      fit : (rs : List Rate) → length rs ≡ rated → leastAge rs ≡ least → rateInRange rs r ≡ rateFits rated least r
-      fit rs a c = rw (← a, ← c) (rate-fits rs r)
-
       go : (b : Bool) → rateFits rated least r ≡ b → RowStepped rates members rated enrolled least lives (elim b [ true ↦ RateNext r | false ↦ Stopped Range (length headerLines + (rated + enrolled + 1)) ])
       go true f =
           record {
             takes = fits-rated rated least r f;
-            same = λ fund rs ms a b c d.
-                let l : length (rs ++ (r ∷ [])) ≡ suc rated = omega (arith, length-append rs (r ∷ []), a) in
+            same = λ fund rs ms n.
+                let l : length (rs ++ (r ∷ [])) ≡ suc rated = omega (arith, length-append rs (r ∷ []), n .rated-is) in
                 let z : suc (linePlace rated enrolled) ≡ linePlace (suc rated) enrolled = omega arith in
-                rw (a, b, k .first, k .behind, l) (rw (fit rs a c ∙ f, readSheetRows) (ap (λ n. readSheetRows n fund (rs ++ (r ∷ [])) ms (rowsLeft rates members (suc rated) enrolled)) z));
+                rw (n .rated-is, n .enrolled-is, k .first, k .behind, l) (rw (rate-fits rs ms _ _ _ _ n r ∙ f, readSheetRows) (ap (λ p. readSheetRows p fund (rs ++ (r ∷ [])) ms (rowsLeft rates members (suc rated) enrolled)) z));
           }
       go false f =
           record {
             takes = tt;
-            same = λ fund rs ms a b c d.
+            same = λ fund rs ms n.
                 let z : linePlace rated enrolled ≡ length headerLines + (rated + enrolled + 1) = omega arith in
-                rw (a, b, k .first) (rw (fit rs a c ∙ f, readSheetRows) (ap (stopped Range) z));
+                rw (n .rated-is, n .enrolled-is, k .first) (rw (rate-fits rs ms _ _ _ _ n r ∙ f, readSheetRows) (ap (stopped Range) z));
           }
   row-after (MemberRow m) k = go (memberFits enrolled lives m) refl
     where
-      fit : (ms : List Member) → length ms ≡ enrolled → livesInAll ms ≡ lives → memberInRange ms m ≡ memberFits enrolled lives m
-      fit ms b d = rw (← b, ← d) (member-fits ms m)
-
       go : (b : Bool) → memberFits enrolled lives m ≡ b → RowStepped rates members rated enrolled least lives (elim b [ true ↦ MemberNext m | false ↦ Stopped Range (length headerLines + (rated + enrolled + 1)) ])
       go true f =
           record {
             takes = fits-enrolled enrolled lives m f;
-            same = λ fund rs ms a b c d.
-                let l : length (ms ++ (m ∷ [])) ≡ suc enrolled = omega (arith, length-append ms (m ∷ []), b) in
+            same = λ fund rs ms n.
+                let l : length (ms ++ (m ∷ [])) ≡ suc enrolled = omega (arith, length-append ms (m ∷ []), n .enrolled-is) in
                 let z : suc (linePlace rated enrolled) ≡ linePlace rated (suc enrolled) = omega arith in
-                rw (a, b, k .first, k .behind, l) (rw (fit ms b d ∙ f, readSheetRows) (ap (λ n. readSheetRows n fund rs (ms ++ (m ∷ [])) (rowsLeft rates members rated (suc enrolled))) z));
+                rw (n .rated-is, n .enrolled-is, k .first, k .behind, l) (rw (member-fits rs ms _ _ _ _ n m ∙ f, readSheetRows) (ap (λ p. readSheetRows p fund rs (ms ++ (m ∷ [])) (rowsLeft rates members rated (suc enrolled))) z));
           }
       go false f =
           record {
             takes = tt;
-            same = λ fund rs ms a b c d.
+            same = λ fund rs ms n.
                 let z : linePlace rated enrolled ≡ length headerLines + (rated + enrolled + 1) = omega arith in
-                rw (a, b, k .first) (rw (fit ms b d ∙ f, readSheetRows) (ap (stopped Range) z));
+                rw (n .rated-is, n .enrolled-is, k .first) (rw (member-fits rs ms _ _ _ _ n m ∙ f, readSheetRows) (ap (stopped Range) z));
           }

@@ -11,14 +11,14 @@ use Rattle.fund.specs.declared.Refusal.the-variants.{Range, Cell as CellRefusal
 use Rattle.fund.specs.declared.SheetRow.{SheetRow}
 use Rattle.fund.specs.declared.SheetRow.the-variants.{Rate as RateRow, Member as MemberRow, NotTaken}
 use Rattle.fund.specs.Limits.{most-rates, most-age, most-members, most-lives}
-use Rattle.fund.specs.Reading.{Reading, read, stopped, headerLines, livesInAll}
+use Rattle.fund.specs.Reading.{read, stopped, headerLines}
 use Rattle.fund.specs.SheetCells.{rate-width, member-width, rateRowOf, memberRowOf}
 use Rattle.fund.specs.Sheets.{rowsOf, readSheetRows}
-use Rattle.reader.specs.Rows.{linePlace, leastAge, rateFits, memberFits}
-use Rattle.sheet_reader.specs.declared.rows.NextRow.{NextRow}
-use Rattle.sheet_reader.specs.declared.rows.NextRow.the-variants.{Row, End as NoRow}
-use Rattle.sheet_reader.specs.declared.rows.RowStep.{RowStep}
-use Rattle.sheet_reader.specs.declared.rows.RowStep.the-variants.{Rate as RateNext, Member as MemberNext, End, Stopped}
+use Rattle.rows.specs.Rows.{linePlace, rateFits, memberFits, Behind, Leads}
+use Rattle.sheet_reader.specs.declared.body.NextRow.{NextRow}
+use Rattle.sheet_reader.specs.declared.body.NextRow.the-variants.{Row, End as NoRow}
+use Rattle.sheet_reader.specs.declared.body.RowStep.{RowStep}
+use Rattle.sheet_reader.specs.declared.body.RowStep.the-variants.{Rate as RateNext, Member as MemberNext, End, Stopped}
 
 -- The end of the row from a place on.
 pub record RowEnd (at width size end : ℕ) : Type 0 where
@@ -33,35 +33,30 @@ module _ (rates members : List ℕ) where
   rowsLeft rated enrolled = map rateRowOf (drop rated (rowsOf rate-width rates)) ++ map memberRowOf (drop enrolled (rowsOf member-width members))
 
   -- What is left behind a row.
-  abbrev pub Behind : ℕ → ℕ → SheetRow → List SheetRow → Type 0
-  Behind rated enrolled (RateRow r) rest = rest ≡ rowsLeft (suc rated) enrolled
-  Behind rated enrolled (MemberRow m) rest = rest ≡ rowsLeft rated (suc enrolled)
-  Behind rated enrolled NotTaken rest = Unit {0}
+  abbrev pub Rest : ℕ → ℕ → SheetRow → List SheetRow → Type 0
+  Rest rated enrolled (RateRow r) rest = rest ≡ rowsLeft (suc rated) enrolled
+  Rest rated enrolled (MemberRow m) rest = rest ≡ rowsLeft rated (suc enrolled)
+  Rest rated enrolled NotTaken rest = Unit {0}
 
   pub record NextOf (rated enrolled : ℕ) (row : SheetRow) : Type 0 where
     pub rest : List SheetRow
     pub first : rowsLeft rated enrolled ≡ row ∷ rest
-    pub behind : Behind rated enrolled row rest
+    pub behind : Rest rated enrolled row rest
 
   abbrev pub NextIs : ℕ → ℕ → NextRow → Type 0
   NextIs rated enrolled (Row row) = NextOf rated enrolled row
   NextIs rated enrolled NoRow = rowsLeft rated enrolled ≡ []
 
   -- The reading behind the rows that are read.
-  unfoldable pub rowsFrom : Fund → List Rate → List Member → Reading
+  unfoldable pub rowsFrom : Fund → Behind
   rowsFrom fund rs ms = readSheetRows (linePlace (length rs) (length ms)) fund rs ms (rowsLeft (length rs) (length ms))
 
   -- The reading after a row, behind the rows before it.
-  abbrev pub afterRow : Fund → List Rate → List Member → RowStep → Reading
-  afterRow fund rs ms (RateNext r) = rowsFrom fund (rs ++ (r ∷ [])) ms
-  afterRow fund rs ms (MemberNext m) = rowsFrom fund rs (ms ++ (m ∷ []))
-  afterRow fund rs ms End = read (record { header = fund; rates = rs; members = ms })
-  afterRow fund rs ms (Stopped why place) = stopped why place
-
-  -- The next row decides how the sheets are read, whatever rows of these counts and lives stand before it.
-  abbrev pub After : ℕ → ℕ → ℕ → ℕ → RowStep → Type 0
-  After rated enrolled least lives step = (fund : Fund) (rs : List Rate) (ms : List Member) → length rs ≡ rated → length ms ≡ enrolled → leastAge rs ≡ least → livesInAll ms ≡ lives →
-      rowsFrom fund rs ms ≡ afterRow fund rs ms step
+  abbrev pub afterRow : Fund → RowStep → Behind
+  afterRow fund (RateNext r) rs ms = rowsFrom fund (rs ++ (r ∷ [])) ms
+  afterRow fund (MemberNext m) rs ms = rowsFrom fund rs (ms ++ (m ∷ []))
+  afterRow fund End rs ms = read (record { header = fund; rates = rs; members = ms })
+  afterRow fund (Stopped why place) rs ms = stopped why place
 
 -- A row that is taken has its place in the table.
 abbrev pub Takes : ℕ → ℕ → ℕ → RowStep → Type 0
@@ -70,9 +65,10 @@ Takes rated enrolled lives (MemberNext m) = (enrolled < most-members) × (lives 
 Takes rated enrolled lives End = Unit {0}
 Takes rated enrolled lives (Stopped why place) = Unit {0}
 
+-- The next row decides how the sheets are read, whatever rows of these counts and lives stand before it.
 pub record RowStepped (rates members : List ℕ) (rated enrolled least lives : ℕ) (step : RowStep) : Type 0 where
   pub takes : Takes rated enrolled lives step
-  pub same : After rates members rated enrolled least lives step
+  pub same : (fund : Fund) → Leads rated enrolled least lives (rowsFrom rates members fund) (afterRow rates members fund step)
 
 -- What a row gives behind so many others.
 unfoldable pub rowStep : ℕ → ℕ → ℕ → ℕ → SheetRow → RowStep

@@ -2,7 +2,7 @@
 use mathlib.Core.Path.{sym, ap, _∙_}
 use borrow.Author.Needs.{needs}
 use Rattle.fund.specs.Reading.{fileRows, reading}
-use Rattle.reader.specs.Read.{fileRead}
+use Rattle.rows.specs.Read.{fileRead}
 use Rattle.reader.proofs.read.Statement.{statement}
 use Rattle.reader.proofs.read.Tie as tie
 

@@ -2,7 +2,7 @@
 use mathlib.Core.Path.{sym, ap, _∙_}
 use borrow.Author.Needs.{needs}
 use Rattle.fund.specs.Reading.{headerLines}
-use Rattle.reader.specs.Read.{fileRead}
+use Rattle.rows.specs.Read.{fileRead}
 use Rattle.sheet_reader.proofs.Header.{header-stops, more-bytes, rows-follow}
 use Rattle.sheet_reader.proofs.read.Statement.{statement}
 use Rattle.sheet_reader.proofs.read.Tie as tie

@@ -1,5 +1,5 @@
 -- `reader::part::line_at`: place 0 has no line, and any other stands behind one line fewer.
-use mathlib.Core.Path.{_≡_, ap, subst}
+use mathlib.Core.Path.{_≡_, subst}
 use mathlib.Core.List.{List}
 use Prim.Native.Nat.{ℕ, suc, _-_}
 use native.Mathlib.Omega.{arith}

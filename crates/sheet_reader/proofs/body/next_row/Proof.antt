@@ -1,8 +1,8 @@
--- `sheet_reader::rows::next_row`: a rate row while one is left, then a member row.
+-- `sheet_reader::body::next_row`: a rate row while one is left, then a member row.
 use borrow.Author.Needs.{needs}
 use Rattle.sheet_reader.proofs.Next.{next-rate, next-member, no-more}
-use Rattle.sheet_reader.proofs.rows.next_row.Statement.{statement}
-use Rattle.sheet_reader.proofs.rows.next_row.Tie as tie
+use Rattle.sheet_reader.proofs.body.next_row.Statement.{statement}
+use Rattle.sheet_reader.proofs.body.next_row.Tie as tie
 
 returns : tie.Need-returns
 returns c =

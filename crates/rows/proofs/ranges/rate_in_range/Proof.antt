@@ -1,11 +1,11 @@
--- `reader::row::rate_in_range`: the tests of the definition, in its order.
+-- `rows::ranges::rate_in_range`: the tests of the definition, in its order.
 use native.Mathlib.Omega.{arith}
 use borrow.Author.Needs.{needs}
 use borrow.Author.Tests.{lt-ltb, le-ltb, le-leb, lt-leb}
 use Rattle.fund.specs.Limits.{most-rates, most-age, most-rate}
-use Rattle.reader.specs.Rows.{rateFits}
-use Rattle.reader.proofs.row.rate_in_range.Statement.{statement}
-use Rattle.reader.proofs.row.rate_in_range.Tie as tie
+use Rattle.rows.specs.Rows.{rateFits}
+use Rattle.rows.proofs.ranges.rate_in_range.Statement.{statement}
+use Rattle.rows.proofs.ranges.rate_in_range.Tie as tie
 
 returns : tie.Need-returns
 unfolding rateFits

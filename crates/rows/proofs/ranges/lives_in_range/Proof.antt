@@ -1,4 +1,4 @@
--- `reader::row::lives_in_range`: what is left of the most lives is asked, so that no sum is formed.
+-- `rows::ranges::lives_in_range`: what is left of the most lives is asked, so that no sum is formed.
 use mathlib.Core.Path.{_≡_, refl, sym, _∙_}
 use mathlib.Core.Bool.{Bool, true, false}
 use Prim.Native.Nat.{ℕ, _+_, _-_, _≤_}
@@ -8,8 +8,8 @@ use borrow.Author.Tests.{leb-true, leb-false, le-leb, lt-leb}
 use lib.Dec.{leb}
 use Rattle.fund.specs.Limits.{least-lives, most-lives}
 use Rattle.laws.specs.Ranges.{between-true}
-use Rattle.reader.proofs.row.lives_in_range.Statement.{statement}
-use Rattle.reader.proofs.row.lives_in_range.Tie as tie
+use Rattle.rows.proofs.ranges.lives_in_range.Statement.{statement}
+use Rattle.rows.proofs.ranges.lives_in_range.Tie as tie
 
 left-over : (before lives most : ℕ) → lives ≤ most → leb before (most - lives) ≡ leb (before + lives) most
 left-over before lives most h = go (leb before (most - lives)) refl

@@ -1,10 +1,10 @@
--- `sheet_reader::rows::step_of`: by what the row is, and whether it is in range.
+-- `sheet_reader::body::step_of`: by what the row is, and whether it is in range.
 use mathlib.Core.Path.{sym, _∙_}
 use borrow.Author.Needs.{needs}
 use Rattle.fund.specs.Reading.{headerLines}
 use Rattle.sheet_reader.specs.Rows.{rowStep}
-use Rattle.sheet_reader.proofs.rows.step_of.Statement.{statement}
-use Rattle.sheet_reader.proofs.rows.step_of.Tie as tie
+use Rattle.sheet_reader.proofs.body.step_of.Statement.{statement}
+use Rattle.sheet_reader.proofs.body.step_of.Tie as tie
 
 returns : tie.Need-returns
 unfolding rowStep

@@ -9,7 +9,7 @@ use Rattle.fund.specs.Limits.{most-rates, most-members}
 use Rattle.fund.specs.Reading.{Reading, read, stopped}
 use Rattle.fund.specs.Answer.{lent}
 use Rattle.laws.specs.Rows.{blankRate, blankMember}
-use Rattle.reader.specs.declared.FileRead.{FileRead}
+use Rattle.rows.specs.declared.FileRead.{FileRead}
 
 abbrev pub blankFund : Fund
 blankFund = record { rates = 0; members = 0; horizon = 0; order = 0; frequency = record { death = 0; disability = 0 }; deductible = 0; worth = 0 }

@@ -1,10 +1,10 @@
--- `sheet_reader::rows::row_step`: the next row settles what it gives behind the rows before it.
+-- `sheet_reader::body::row_step`: the next row settles what it gives behind the rows before it.
 use mathlib.Core.Path.{sym, subst}
 use borrow.Author.Needs.{needs}
 use Rattle.sheet_reader.specs.Rows.{RowStepped}
 use Rattle.sheet_reader.proofs.Next.{rows-end, row-after}
-use Rattle.sheet_reader.proofs.rows.row_step.Statement.{statement}
-use Rattle.sheet_reader.proofs.rows.row_step.Tie as tie
+use Rattle.sheet_reader.proofs.body.row_step.Statement.{statement}
+use Rattle.sheet_reader.proofs.body.row_step.Tie as tie
 
 returns : tie.Need-returns
 returns c =

@@ -1,12 +1,12 @@
--- `reader::row::member_in_range`: the tests of the definition, in its order.
+-- `rows::ranges::member_in_range`: the tests of the definition, in its order.
 use mathlib.Core.Path.{sym, _∙_}
 use native.Mathlib.Omega.{arith}
 use borrow.Author.Needs.{needs}
 use borrow.Author.Tests.{lt-ltb, le-ltb, le-leb, lt-leb}
 use Rattle.fund.specs.Limits.{most-members, most-age, most-amount}
-use Rattle.reader.specs.Rows.{memberFits}
-use Rattle.reader.proofs.row.member_in_range.Statement.{statement}
-use Rattle.reader.proofs.row.member_in_range.Tie as tie
+use Rattle.rows.specs.Rows.{memberFits}
+use Rattle.rows.proofs.ranges.member_in_range.Statement.{statement}
+use Rattle.rows.proofs.ranges.member_in_range.Tie as tie
 
 returns : tie.Need-returns
 unfolding memberFits

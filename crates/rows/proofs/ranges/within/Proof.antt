@@ -1,8 +1,8 @@
--- `reader::header::within` is the test of the definitions.
+-- `rows::ranges::within` is the test of the definitions.
 use borrow.Author.Tests.{le-leb, lt-leb}
 use Rattle.fund.specs.Reading.{between}
-use Rattle.reader.proofs.header.within.Statement.{statement}
-use Rattle.reader.proofs.header.within.Tie as tie
+use Rattle.rows.proofs.ranges.within.Statement.{statement}
+use Rattle.rows.proofs.ranges.within.Tie as tie
 
 returns : tie.Need-returns
 unfolding between

@@ -5,12 +5,12 @@ use fund::Rate;
 use fund::Refusal;
 use fund::SheetRow;
 use fund::Verdict;
-use reader::FileRead;
+use rows::FileRead;
 ghost use mathlib.Core.Path.{_≡_};
 ghost use mathlib.Core.List.{[]};
 ghost use Prim.Native.Nat.{_+_, _≤_};
 ghost use Rattle.fund.specs.Limits.{most-rates, most-members};
-ghost use Rattle.reader.specs.Read.{fileRead};
+ghost use Rattle.rows.specs.Read.{fileRead};
 ghost use Rattle.sheet_reader.specs.Rows.{RowEnd, NextIs, rowStep, RowStepped, rowsFrom};
 
 // The next row, or that there is none.
@@ -66,13 +66,13 @@ fn step_of(row: SheetRow, rated: usize, enrolled: usize, least: u64, lives: u64)
     match row {
         SheetRow::NotTaken => RowStep::Stopped(Refusal::Cell, place),
         SheetRow::Rate(r) => {
-            if reader::rate_in_range(rated, least, r) {
+            if rows::rate_in_range(rated, least, r) {
                 return RowStep::Rate(r);
             }
             RowStep::Stopped(Refusal::Range, line)
         }
         SheetRow::Member(m) => {
-            if reader::member_in_range(enrolled, lives, m) {
+            if rows::member_in_range(enrolled, lives, m) {
                 return RowStep::Member(m);
             }
             RowStep::Stopped(Refusal::Range, line)
@@ -101,7 +101,7 @@ fn row_step(
 pub(crate) fn read_rows(fund: Fund, rates: &[u8], members: &[u8]) -> FileRead
     ensures { λ r. ⌜ r ≡ fileRead (rowsFrom (now (rates .entry)) (now (members .entry)) fund [] []) ⌝ }
 {
-    let blank = reader::without_rows(Refusal::Form, 0);
+    let blank = rows::without_rows(Refusal::Form, 0);
     let mut rate_rows = blank.rates;
     let mut member_rows = blank.members;
     let mut rated: usize = 0;
@@ -133,7 +133,7 @@ pub(crate) fn read_rows(fund: Fund, rates: &[u8], members: &[u8]) -> FileRead
                 };
             }
             RowStep::Stopped(why, place) => {
-                return reader::without_rows(why, place);
+                return rows::without_rows(why, place);
             }
         }
     }
