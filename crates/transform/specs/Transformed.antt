@@ -3,6 +3,7 @@ use mathlib.Core.Path.{_≡_}
 use mathlib.Core.List.{List, []}
 use Prim.Native.Nat.{ℕ}
 use lib.IntN.{ℤ}
+use lib.ListN.{length}
 use Rattle.fund.specs.declared.Fund.{Fund}
 use Rattle.fund.specs.declared.Life.{Life}
 use Rattle.fund.specs.declared.ModelPoint.{ModelPoint}
@@ -14,6 +15,9 @@ use Rattle.fund.specs.Answer.{Answer, refused, accepted}
 use Rattle.totals.specs.Totals.{TotalsFor}
 use Rattle.totals.specs.Tests.{Tested}
 use Rattle.transform.specs.declared.points.Transformed.{Transformed}
+
+abbrev pub lengthsOf : List ℤ → List ℕ → ℕ → ℕ → ℕ → Lengths
+lengthsOf d h nf nr ns = record { D = length d; H = length h; f = nf; R = nr; F = ns }
 
 -- The answer for a verdict: a refusal hands back no line here.
 abbrev pub outcome : Fund → List Life → Lengths → Verdict → Answer

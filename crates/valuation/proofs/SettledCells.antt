@@ -53,11 +53,11 @@ use Rattle.totals.specs.declared.Totals.{Totals}
 use Rattle.totals.specs.Inside.{HeaderIn}
 use Rattle.totals.specs.Table.{Members, members-of, most-mean}
 use Rattle.totals.specs.Totals.{startLambda, LivesTotals}
-use Rattle.transform.specs.Transformed.{outcome}
+use Rattle.transform.specs.Transformed.{lengthsOf, outcome}
 use Rattle.valuation.specs.Premium.{Cells, StopLossIs, levels}
 use Rattle.valuation.specs.Sums.{SumsFit}
 use Rattle.valuation.specs.Valued.{leftValued}
-use Rattle.valuation.specs.Steps.{lengthsOf, ReadyFor, Ready, RecursionLeft, RecursedFor, refusalOf, centimesIn, ValuedAnswer, SettledFor, AnsweredFor}
+use Rattle.valuation.specs.Steps.{ReadyFor, Ready, RecursionLeft, RecursedFor, refusalOf, centimesIn, ValuedAnswer, SettledFor, AnsweredFor}
 use Rattle.valuation.proofs.OwnLimits.{answerOf, narrow-of, FundFits, recursion-is}
 
 -- a mean that the cap does not change

@@ -20,10 +20,7 @@ use Rattle.recursion.specs.Recursion as Rec
 use Rattle.tariff.specs.declared.Gross.{Gross}
 use Rattle.tariff.specs.declared.Gross.the-variants.{Centimes, Outside}
 use Rattle.totals.specs.declared.Totals.{Totals}
-use Rattle.transform.specs.Transformed.{outcome, TransformedFor}
-
-abbrev pub lengthsOf : List ℤ → List ℕ → ℕ → ℕ → ℕ → Lengths
-lengthsOf d h nf nr ns = record { D = length d; H = length h; f = nf; R = nr; F = ns }
+use Rattle.transform.specs.Transformed.{lengthsOf, outcome, TransformedFor}
 
 -- totals that have passed 7, 8 and 9, and the transform, of the first `count` model points of a table
 abbrev pub ReadyFor : Fund → ℕ → List ModelPoint → Totals → List ℤ → List ℕ → ℕ → ℕ → ℕ → Type 0

@@ -1,7 +1,7 @@
 -- The slices are cleared; where the tests pass, the first lines are lent to fill them.
 use borrow.Author.Needs.{needs}
-use lib.ListN.{length}
 use Rattle.fund.specs.Refusals.{Lengths}
+use Rattle.transform.specs.Transformed.{lengthsOf}
 use Rattle.transform.proofs.FilledTransform.{refused-transform, table-fits, filled-transform}
 use Rattle.transform.proofs.transformed.Statement.{statement}
 use Rattle.transform.proofs.transformed.Tie as tie
@@ -9,8 +9,8 @@ use Rattle.transform.proofs.transformed.Tie as tie
 abbrev tests : tie.After-clear → tie.After-tested-totals
 tests z = z .before .before .before .before .before
 
-abbrev lengths : tie.Start → Lengths
-lengths s = record { D = length (s .args .transform .now); H = length (s .args .h .now); f = s .args .f; R = s .args .r; F = s .args .sums }
+abbrev slices : tie.Start → Lengths
+slices s = lengthsOf (s .args .transform .now) (s .args .h .now) (s .args .f) (s .args .r) (s .args .sums)
 
 returns : tie.Need-returns
 returns c =
@@ -18,7 +18,7 @@ returns c =
     let z = m .before .before .before in
     let o = tests z .before in
     let s = o .before .before in
-    refused-transform (s .args .fund) (s .args .n) _ _ (o .first-totals .ensures) (lengths s) _ _ (z .before .before .before .clear-signed .ensures) (z .clear .ensures)
+    refused-transform (s .args .fund) (s .args .n) _ _ (o .first-totals .ensures) (slices s) _ _ (z .before .before .before .clear-signed .ensures) (z .clear .ensures)
     _ (tests z .tested-totals .ensures) (m .match .keys2)
 
 fill-first-requires : tie.Need-fill-first-requires
@@ -27,7 +27,7 @@ fill-first-requires c κs =
     let z = told .before .before .before .before in
     let o = tests z .before in
     let s = o .before .before in
-    table-fits (s .args .fund) (s .args .n) _ _ (o .first-totals .ensures) (lengths s) _ _ (z .before .before .before .clear-signed .ensures) (z .clear .ensures)
+    table-fits (s .args .fund) (s .args .n) _ _ (o .first-totals .ensures) (slices s) _ _ (z .before .before .before .clear-signed .ensures) (z .clear .ensures)
     _ (tests z .tested-totals .ensures) (told .enum-told .given .1)
 
 returns-2 : tie.Need-returns-2
@@ -37,7 +37,7 @@ returns-2 c =
     let z = told .before .before .before .before in
     let o = tests z .before in
     let s = o .before .before in
-    filled-transform (s .args .fund) (s .args .n) _ _ (o .first-totals .ensures) (lengths s) _ _ (z .before .before .before .clear-signed .ensures) (z .clear .ensures)
+    filled-transform (s .args .fund) (s .args .n) _ _ (o .first-totals .ensures) (slices s) _ _ (z .before .before .before .clear-signed .ensures) (z .clear .ensures)
     _ (tests z .tested-totals .ensures) (told .enum-told .given .1) _ _ (fill .fill-first .ensures)
 
 pub transformed-spec : {M : Type 1} → statement M
