@@ -1,12 +1,13 @@
 -- The ranges and the refusals 7, 8 and 9, from the totals: what is left where one of them refuses (left-judged), and where none does (left-answered).
 use mathlib.Core.Path.{_≡_, refl, sym, _∙_, ap}
-use mathlib.Core.Bool.{Bool, true, false, true≢false}
+use mathlib.Core.Bool.{Bool, true, false}
 use mathlib.Core.List.{List, [], _∷_}
 use Prim.Native.Nat.{ℕ, min, _+_}
 use native.Mathlib.Omega.{arith}
 use borrow.Author.Tests.{lt-ltb, le-ltb, ltb-true, ltb-false}
 use lib.Dec.{ltb}
-use lib.IntN.{ℤ}
+use lib.IntN.{ℤ, pos}
+use lib.ListN.{replicate}
 use types.Run.{OneOf}
 use denote.Enum.Declared as Declared
 use Rattle.fund.specs.declared.Fund.{Fund}
@@ -23,6 +24,7 @@ use Rattle.fund.specs.Transform.{load, truncation}
 use Rattle.fund.specs.Refusals.{Lengths, short, refuse, at0, valued, first, wide}
 use Rattle.fund.specs.Answer.{Answer, noFigures, refused, fundCells}
 use Rattle.laws.specs.Answer.{no-line}
+use Rattle.laws.specs.Tells.{tells-as, tells-same}
 use Rattle.totals.specs.declared.Totals.{Totals}
 use Rattle.totals.specs.Inside.{inside}
 use Rattle.totals.specs.Totals.{TotalsFor}
@@ -31,15 +33,15 @@ use Rattle.totals.proofs.InsideTells.{inside-tells}
 use Rattle.totals.proofs.TestedTotals.{tested-range}
 use Rattle.transform.specs.Transformed.{outcome}
 use Rattle.valuation.specs.declared.Valued.{Valued}
-use Rattle.valuation.specs.Valued.{leftValued, Zeros, verdictOf, valuation}
+use Rattle.valuation.specs.Valued.{leftValued, verdictOf, valuation}
 use Rattle.valuation.specs.Steps.{ValuedAnswer}
 
 -- ---- a refusal
 -- zeros in all slices and figures
-pub left-zeros : (v : Valued) (w : Verdict) (n : Lengths) (d : List ℤ) (h : List ℕ) (f : List ℤ) (r : List ℕ) (s : List ℤ) → Zeros n d h f r s → v ≡ record { verdict = w; figures = noFigures } →
-    leftValued v d h f r s ≡ refused [] n w
+pub left-zeros : (v : Valued) (w : Verdict) (n : Lengths) (d : List ℤ) (h : List ℕ) (f : List ℤ) (r : List ℕ) (s : List ℤ) → v ≡ record { verdict = w; figures = noFigures } →
+    (d ≡ replicate (n .D) (pos 0)) × (h ≡ replicate (n .H) 0) → (f ≡ replicate (n .f) (pos 0)) × (r ≡ replicate (n .R) 0) → s ≡ replicate (n .F) (pos 0) → leftValued v d h f r s ≡ refused [] n w
 unfolding refused
-left-zeros v w n d h f r s z k = rw (k, z .d-zero, z .h-zero, z .f-zero, z .r-zero, z .s-zero, no-line w)
+left-zeros v w n d h f r s e dh fr z = rw (e, dh .0, dh .1, fr .0, fr .1, z, no-line w)
 
 abbrev chain : Bool → Bool → Bool → Verdict → Verdict
 chain a b c after = refuse refusal.Load (at0 a) (refuse refusal.Order (at0 b) (refuse refusal.Short (at0 c) after))
@@ -65,15 +67,7 @@ module _ (fund : Fund) (count : ℕ) (ps : List ModelPoint) (t : Totals) (for : 
   ms = copies ps
 
   tests : t .inside ≡ inside fund count ps
-  tests = go (t .inside) (inside fund count ps) refl refl
-    where
-      go : (a b : Bool) → t .inside ≡ a → inside fund count ps ≡ b → a ≡ b
-      go true true e f = refl
-      go false false e f = refl
-      go true false e f = let h = for .tells .yes e in absurd (true≢false (sym (inside-tells fund count ps .no (h .0, (h .2, h .1))) ∙ f))
-      go false true e f =
-          let h = inside-tells fund count ps .yes f in
-          absurd (true≢false (sym (for .tells .no (h .0, h .1 .1, h .1 .0)) ∙ e))
+  tests = tells-same (t .inside) (inside fund count ps) (tells-as (for .tells) (λ h. (h .0, (h .2, h .1))) (λ h. (h .0, h .1 .1, h .1 .0))) (inside-tells fund count ps)
 
   -- the verdict where the ranges are kept
   pub verdict-inside : t .inside ≡ true → verdictOf fund count ps n ≡ valued fund ms n (fundCells fund ms)

@@ -1,9 +1,8 @@
 -- What the valuation of a fund's model points answers and leaves: the refusals 7 to 10 or the fund's figures, with the five result slices.
-use mathlib.Core.Path.{_≡_}
 use mathlib.Core.List.{List}
 use Prim.Native.Nat.{ℕ}
-use lib.IntN.{ℤ, pos}
-use lib.ListN.{length, replicate}
+use lib.IntN.{ℤ}
+use lib.ListN.{length}
 use Rattle.fund.specs.declared.Fund.{Fund}
 use Rattle.fund.specs.declared.ModelPoint.{ModelPoint}
 use Rattle.fund.specs.declared.Refusal.the-variants.{Range}
@@ -31,11 +30,3 @@ valuation fund count ps n = outcome fund (copies ps) n (verdictOf fund count ps 
 
 abbrev pub lengths : List ℤ → List ℕ → List ℤ → List ℕ → List ℤ → Lengths
 lengths d h f r s = record { D = length d; H = length h; f = length f; R = length r; F = length s }
-
--- All cells are zero.
-pub record Zeros (n : Lengths) (d : List ℤ) (h : List ℕ) (f : List ℤ) (r : List ℕ) (s : List ℤ) : Type 0 where
-  pub d-zero : d ≡ replicate (n .D) (pos 0)
-  pub h-zero : h ≡ replicate (n .H) 0
-  pub f-zero : f ≡ replicate (n .f) (pos 0)
-  pub r-zero : r ≡ replicate (n .R) 0
-  pub s-zero : s ≡ replicate (n .F) (pos 0)

@@ -16,7 +16,7 @@ ghost use mathlib.Core.List.{[]};
 ghost use lib.IntN.{pos};
 ghost use lib.ListN.{length, replicate, take};
 ghost use Rattle.fund.specs.Answer.{noFigures, refused};
-ghost use Rattle.valuation.specs.Valued.{leftValued, lengths, Zeros, valuation};
+ghost use Rattle.valuation.specs.Valued.{leftValued, lengths, valuation};
 ghost use Rattle.valuation.specs.Steps.{Ready, refusalOf, centimesIn, RecursedFor, SettledFor, AnsweredFor};
 
 // What a valuation answers beside the result slices.
@@ -41,15 +41,6 @@ fn clear_transform(transform: &mut [i64], h: &mut [u64])
     whole::clear(h);
 }
 
-fn clear_all(transform: &mut [i64], h: &mut [u64], f: &mut [i64], r: &mut [u64], sums: &mut [i64])
-    ensures { λ _. ⌜ Zeros (lengths (now (transform .entry)) (now (h .entry)) (now (f .entry)) (now (r .entry)) (now (sums .entry)))
-        (now (transform .exit)) (now (h .exit)) (now (f .exit)) (now (r .exit)) (now (sums .exit)) ⌝ }
-{
-    clear_transform(transform, h);
-    clear_transform(f, r);
-    whole::clear_signed(sums);
-}
-
 // A refusal with zeros in all slices; it hands back no line here.
 pub fn refuse(
     verdict: Verdict,
@@ -62,7 +53,9 @@ pub fn refuse(
     ensures { λ v. ⌜ leftValued v (now (transform .exit)) (now (h .exit)) (now (f .exit)) (now (r .exit)) (now (sums .exit)) ≡
         refused [] (lengths (now (transform .entry)) (now (h .entry)) (now (f .entry)) (now (r .entry)) (now (sums .entry))) verdict ⌝ }
 {
-    clear_all(transform, h, f, r, sums);
+    clear_transform(transform, h);
+    clear_transform(f, r);
+    whole::clear_signed(sums);
     refused(verdict)
 }
 

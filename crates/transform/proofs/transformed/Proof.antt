@@ -18,8 +18,8 @@ returns c =
     let z = m .before .before .before in
     let o = tests z .before in
     let s = o .before .before in
-    refused-transform (s .args .fund) (s .args .n) _ _ (o .first-totals .ensures) (slices s) _ _ (z .before .before .before .clear-signed .ensures) (z .clear .ensures)
-    _ (tests z .tested-totals .ensures) (m .match .keys2)
+    rw (z .before .before .before .clear-signed .ensures, z .clear .ensures)
+    (refused-transform (s .args .fund) (s .args .n) _ _ (o .first-totals .ensures) (slices s) _ (tests z .tested-totals .ensures) (m .match .keys2))
 
 fill-first-requires : tie.Need-fill-first-requires
 fill-first-requires c κs =
@@ -27,8 +27,8 @@ fill-first-requires c κs =
     let z = told .before .before .before .before in
     let o = tests z .before in
     let s = o .before .before in
-    table-fits (s .args .fund) (s .args .n) _ _ (o .first-totals .ensures) (slices s) _ _ (z .before .before .before .clear-signed .ensures) (z .clear .ensures)
-    _ (tests z .tested-totals .ensures) (told .enum-told .given .1)
+    rw (z .before .before .before .clear-signed .ensures, z .clear .ensures)
+    (table-fits (s .args .fund) (s .args .n) _ _ (o .first-totals .ensures) (slices s) _ (tests z .tested-totals .ensures) (told .enum-told .given .1))
 
 returns-2 : tie.Need-returns-2
 returns-2 c =
@@ -37,8 +37,8 @@ returns-2 c =
     let z = told .before .before .before .before in
     let o = tests z .before in
     let s = o .before .before in
-    filled-transform (s .args .fund) (s .args .n) _ _ (o .first-totals .ensures) (slices s) _ _ (z .before .before .before .clear-signed .ensures) (z .clear .ensures)
-    _ (tests z .tested-totals .ensures) (told .enum-told .given .1) _ _ (fill .fill-first .ensures)
+    filled-transform (s .args .fund) (s .args .n) _ _ (o .first-totals .ensures) (slices s) _ (tests z .tested-totals .ensures) (told .enum-told .given .1) _ _
+    (rw (z .before .before .before .clear-signed .ensures, z .clear .ensures) at (fill .fill-first .ensures))
 
 pub transformed-spec : {M : Type 1} → statement M
 transformed-spec =
