@@ -19,6 +19,12 @@ tells-no f = record { yes = λ e. absurd (true≢false (sym e)); no = λ q. absu
 pub tells-as : {P Q : Type 0} {r : Bool} → Tells r P → (P → Q) → (Q → P) → Tells r Q
 tells-as t f g = record { yes = λ e. f (t .yes e); no = λ q. t .no (g q) }
 
+-- two tests of one statement
+pub tells-same : {P : Type 0} (a b : Bool) → Tells a P → Tells b P → a ≡ b
+tells-same true b s t = sym (t .no (s .yes refl))
+tells-same false true s t = s .no (t .yes refl)
+tells-same false false s t = refl
+
 -- a test that failed
 pub tells-not : {P : Type 0} {r : Bool} → Tells r P → r ≡ false → P → ⊥
 tells-not t e p = true≢false (sym (t .no p) ∙ e)

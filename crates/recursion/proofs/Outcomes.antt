@@ -4,7 +4,7 @@ use mathlib.Core.Path.{_≡_, refl, sym, _∙_, ap, ap₂, subst}
 use mathlib.Core.Bool.{true}
 use mathlib.Core.Logic.{⊎-elim}
 use mathlib.Core.List.{List, [], _∷_, map}
-use Prim.Native.Nat.{ℕ, zero, suc, _+_, _-_, _<_}
+use Prim.Native.Nat.{ℕ, zero, suc, _+_, _<_}
 use native.Mathlib.Nat as N
 use native.Mathlib.Omega.{arith}
 use borrow.Author.Tests.{lt-ltb}
@@ -96,11 +96,6 @@ stopped-at at (suc n) (suc x) g a l h s =
 pub not-done : OneOf (1 ∷ 2 ∷ 3 ∷ 4 ∷ []) 0 → ⊥
 not-done o = ⊎-elim (λ e. omega arith) (λ o. ⊎-elim (λ e. omega arith) (λ o. ⊎-elim (λ e. omega arith) (λ e. omega arith) o) o) o
 
-pub drop-replicate : {A : Type 0} (k n : ℕ) (a : A) → drop k (replicate n a) ≡ replicate (n - k) a
-drop-replicate zero n a = ap (λ m. replicate m a) (let z : n ≡ n - 0 = omega arith in z)
-drop-replicate (suc k) zero a = ap (λ m. replicate m a) (let z : 0 ≡ 0 - suc k = omega arith in z)
-drop-replicate (suc k) (suc n) a = drop-replicate k n a ∙ ap (λ m. replicate m a) (let z : n - k ≡ suc n - suc k = omega arith in z)
-
 module _ (X : ℕ) (d : List ℤ) (h : List ℕ) (start : Cell) (nf nr : ℕ) where
   abbrev cell : ℕ → Cell
   cell = cellAt (entriesIn X d h) start
@@ -127,12 +122,12 @@ module _ (X : ℕ) (d : List ℤ) (h : List ℕ) (start : Cell) (nf nr : ℕ) wh
     module _ (f : List ℤ) (r : List ℕ) (s : CellsFilled X cell (replicate nf (pos 0)) f (replicate nr 0) r) where
       f-lent : f ≡ lent (pos 0) nf (map (λ (y : Cell). y .f) (cellsTo X d h start))
       f-lent =
-          lent-is (pos 0) nf X (λ k. cell k .f) f (s .f-are) (s .f-beyond ∙ drop-replicate (suc X) nf (pos 0))
+          lent-is (pos 0) nf X (λ k. cell k .f) f (s .f-are) (s .f-beyond)
           ∙ ap (lent (pos 0) nf) (sym (map-table (λ (y : Cell). y .f) (suc X) cell) ∙ ap (map (λ (y : Cell). y .f)) (sym are))
 
       r-lent : r ≡ lent 0 nr (map (λ (y : Cell). y .R) (cellsTo X d h start))
       r-lent =
-          lent-is 0 nr X (λ k. cell k .R) r (s .r-are) (s .r-beyond ∙ drop-replicate (suc X) nr 0)
+          lent-is 0 nr X (λ k. cell k .R) r (s .r-are) (s .r-beyond)
           ∙ ap (lent 0 nr) (sym (map-table (λ (y : Cell). y .R) (suc X) cell) ∙ ap (map (λ (y : Cell). y .R)) (sym are))
 
       done : leftCells Done f r ≡ recursion X d h start nf nr

@@ -1,4 +1,3 @@
-pub mod TableFilled
 mod WeighedCells
 pub mod ValuedInside
 mod RefusedTotals

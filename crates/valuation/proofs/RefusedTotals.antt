@@ -1,14 +1,13 @@
--- The ranges and the refusals 7, 8 and 9, from the totals: what is left where one of them refuses (left-refused), and what is known where none does
--- (fillable, ready, left-answered).
-use mathlib.Core.Path.{_≡_, refl, sym, _∙_, ap, subst}
-use mathlib.Core.Bool.{Bool, true, false, true≢false}
+-- The ranges and the refusals 7, 8 and 9, from the totals: what is left where one of them refuses (left-judged), and where none does (left-answered).
+use mathlib.Core.Path.{_≡_, refl, sym, _∙_, ap}
+use mathlib.Core.Bool.{Bool, true, false}
 use mathlib.Core.List.{List, [], _∷_}
-use Prim.Native.Nat.{ℕ, min, _+_, _<_, _≤_}
+use Prim.Native.Nat.{ℕ, min, _+_}
 use native.Mathlib.Omega.{arith}
 use borrow.Author.Tests.{lt-ltb, le-ltb, ltb-true, ltb-false}
 use lib.Dec.{ltb}
 use lib.IntN.{ℤ, pos}
-use lib.ListN.{length, getD, replicate, length-replicate, getD-replicate}
+use lib.ListN.{replicate}
 use types.Run.{OneOf}
 use denote.Enum.Declared as Declared
 use Rattle.fund.specs.declared.Fund.{Fund}
@@ -19,31 +18,30 @@ use Rattle.fund.specs.declared.Refusal.the-variants as refusal
 use Rattle.fund.specs.declared.Verdict.{Verdict}
 use Rattle.fund.specs.declared.Verdict.the-variants.{Accepted, Refused}
 use Rattle.fund.proofs.Verdict as Ver
-use Rattle.fund.specs.Limits.{most-members, most-load, most-truncation}
+use Rattle.fund.specs.Limits.{most-load, most-truncation}
 use Rattle.fund.specs.Folding.{copies}
 use Rattle.fund.specs.Transform.{load, truncation}
 use Rattle.fund.specs.Refusals.{Lengths, short, refuse, at0, valued, first, wide}
-use Rattle.fund.specs.Answer.{Answer, noFigures, refused, fundTerms, fundCells}
+use Rattle.fund.specs.Answer.{Answer, noFigures, refused, fundCells}
 use Rattle.laws.specs.Answer.{no-line}
-use Rattle.laws.specs.Accepted.{Long, long-of}
+use Rattle.laws.specs.Tells.{tells-as, tells-same}
 use Rattle.totals.specs.declared.Totals.{Totals}
-use Rattle.totals.specs.Table.{members-of}
 use Rattle.totals.specs.Inside.{inside}
 use Rattle.totals.specs.Totals.{TotalsFor}
-use Rattle.totals.specs.Tests.{testedOf, PassedTests, Tested}
-use Rattle.totals.proofs.TestedTotals.{tested-range}
-use Rattle.valuation.specs.Filling.{TableFits, TableAdded}
-use Rattle.valuation.specs.declared.Valued.{Valued}
-use Rattle.valuation.specs.Valued.{leftValued, outcome, Zeros, verdictOf, valuation}
-use Rattle.valuation.specs.Steps.{Fillable, TransformFilled, ReadyFor, ValuedAnswer}
+use Rattle.totals.specs.Tests.{testedOf, Tested}
 use Rattle.totals.proofs.InsideTells.{inside-tells}
+use Rattle.totals.proofs.TestedTotals.{tested-range}
+use Rattle.transform.specs.Transformed.{outcome}
+use Rattle.valuation.specs.declared.Valued.{Valued}
+use Rattle.valuation.specs.Valued.{leftValued, verdictOf, valuation}
+use Rattle.valuation.specs.Steps.{ValuedAnswer}
 
 -- ---- a refusal
 -- zeros in all slices and figures
-pub left-zeros : (v : Valued) (w : Verdict) (n : Lengths) (d : List ℤ) (h : List ℕ) (f : List ℤ) (r : List ℕ) (s : List ℤ) → Zeros n d h f r s → v ≡ record { verdict = w; figures = noFigures } →
-    leftValued v d h f r s ≡ refused [] n w
+pub left-zeros : (v : Valued) (w : Verdict) (n : Lengths) (d : List ℤ) (h : List ℕ) (f : List ℤ) (r : List ℕ) (s : List ℤ) → v ≡ record { verdict = w; figures = noFigures } →
+    (d ≡ replicate (n .D) (pos 0)) × (h ≡ replicate (n .H) 0) → (f ≡ replicate (n .f) (pos 0)) × (r ≡ replicate (n .R) 0) → s ≡ replicate (n .F) (pos 0) → leftValued v d h f r s ≡ refused [] n w
 unfolding refused
-left-zeros v w n d h f r s z k = rw (k, z .d-zero, z .h-zero, z .f-zero, z .r-zero, z .s-zero, no-line w)
+left-zeros v w n d h f r s e dh fr z = rw (e, dh .0, dh .1, fr .0, fr .1, z, no-line w)
 
 abbrev chain : Bool → Bool → Bool → Verdict → Verdict
 chain a b c after = refuse refusal.Load (at0 a) (refuse refusal.Order (at0 b) (refuse refusal.Short (at0 c) after))
@@ -69,15 +67,7 @@ module _ (fund : Fund) (count : ℕ) (ps : List ModelPoint) (t : Totals) (for : 
   ms = copies ps
 
   tests : t .inside ≡ inside fund count ps
-  tests = go (t .inside) (inside fund count ps) refl refl
-    where
-      go : (a b : Bool) → t .inside ≡ a → inside fund count ps ≡ b → a ≡ b
-      go true true e f = refl
-      go false false e f = refl
-      go true false e f = let h = for .tells .yes e in absurd (true≢false (sym (inside-tells fund count ps .no (h .0, (h .2, h .1))) ∙ f))
-      go false true e f =
-          let h = inside-tells fund count ps .yes f in
-          absurd (true≢false (sym (for .tells .no (h .0, h .1 .1, h .1 .0)) ∙ e))
+  tests = tells-same (t .inside) (inside fund count ps) (tells-as (for .tells) (λ h. (h .0, (h .2, h .1))) (λ h. (h .0, h .1 .1, h .1 .0))) (inside-tells fund count ps)
 
   -- the verdict where the ranges are kept
   pub verdict-inside : t .inside ≡ true → verdictOf fund count ps n ≡ valued fund ms n (fundCells fund ms)
@@ -110,62 +100,13 @@ module _ (fund : Fund) (count : ℕ) (ps : List ModelPoint) (t : Totals) (for : 
   unfolding valuation
   left-refused a why place k e = k ∙ ap (outcome fund ms n) (sym (refused-verdict why place e))
 
-  -- ---- no refusal so far
-  module _ (p : PassedTests fund t n) where
-    long : Long n (fund .horizon)
-    long = long-of n (fund .horizon) (p .long)
-
-    pub fillable : (count ≤ most-members) × Fillable fund ps (n .D) (n .H)
-    fillable =
-        let h = for .tells .yes (p .inside-is) in
-        let s = for .sums (p .inside-is) in
-        (h .0, record { points = h .1; header = h .2; load-within = omega (arith, s .load-is, p .load-within); d-long = long .d-long; h-long = long .h-long })
-
-    pub ready : (d : List ℤ) (h : List ℕ) → n ≡ record { D = length d; H = length h; f = n .f; R = n .R; F = n .F } → TransformFilled fund ms (n .D) (n .H) d h → ReadyFor fund ms t d h (n .f) (n .R) (n .F)
-    ready d h e filled =
-        let i = for .tells .yes (p .inside-is) in
-        record {
-          members = members-of ps (i .1);
-          header = i .2;
-          sums = for .sums (p .inside-is);
-          passed = subst (PassedTests fund t) e p;
-          filled = subst (λ (m : Lengths). TransformFilled fund ms (m .D) (m .H) d h) e filled;
-        }
-
-    pub left-answered : (a : Answer) → ValuedAnswer fund ms n a → a ≡ valuation fund count ps n
-    unfolding valuation
-    left-answered a s = s ∙ ap (outcome fund ms n) (sym (verdict-inside (p .inside-is)))
+  -- no refusal so far
+  pub left-answered : t .inside ≡ true → (a : Answer) → ValuedAnswer fund ms n a → a ≡ valuation fund count ps n
+  unfolding valuation
+  left-answered i a s = s ∙ ap (outcome fund ms n) (sym (verdict-inside i))
 
 -- a verdict that is not `Accepted`, with its zeros
 pub left-judged : (fund : Fund) (count : ℕ) (ps : List ModelPoint) (t : Totals) → TotalsFor fund count ps t → (n : Lengths) (a : Answer) (w : Verdict) → OneOf (1 ∷ []) (Declared.tagOf Ver.the-type w) →
     Tested fund t n w → a ≡ refused [] n w → a ≡ valuation fund count ps n
 left-judged fund count ps t for n a Accepted o s k = absurd (let e : _≡_ {A = ℕ} 0 1 = o in omega arith)
 left-judged fund count ps t for n a (Refused why place) o s k = left-refused fund count ps t for n a why place k s
-
--- ---- the transform
-zero-at : {A : Type 0} (a : A) (n k : ℕ) (s : List A) → s ≡ replicate n a → k < n → getD s k a ≡ a
-zero-at a n k s e l = ap (λ t. getD t k a) e ∙ getD-replicate n k a a l
-
-module _ (fund : Fund) (ps : List ModelPoint) (nd nh : ℕ) where
-  pub table-fits : Fillable fund ps nd nh → (d : List ℤ) (h : List ℕ) → d ≡ replicate nd (pos 0) → h ≡ replicate nh 0 →
-      TableFits ps (record { horizon = fund .horizon; order = fund .order; frequency = fund .frequency }) d h
-  table-fits k d h d-is h-is =
-      record {
-        points = k .points;
-        order = k .header .order;
-        frequency = k .header .frequency;
-        load-within = k .load-within;
-        cleared =
-            record {
-              horizon = k .header .horizon;
-              d-long = subst (λ m. fund .horizon < m) (sym (ap length d-is ∙ length-replicate nd (pos 0))) (k .d-long);
-              h-long = subst (λ m. fund .horizon < m) (sym (ap length h-is ∙ length-replicate nh 0)) (k .h-long);
-              d-zero = λ j g. zero-at (pos 0) nd j d d-is (let l = k .d-long in omega arith);
-              h-zero = λ j g. zero-at 0 nh j h h-is (let l = k .h-long in omega arith);
-            };
-      }
-
-  pub transform-filled : (d : List ℤ) (h : List ℕ) → d ≡ replicate nd (pos 0) → h ≡ replicate nh 0 → (d′ : List ℤ) (h′ : List ℕ) →
-      TableAdded ps (record { horizon = fund .horizon; order = fund .order; frequency = fund .frequency }) d h d′ h′ → TransformFilled fund (copies ps) nd nh d′ h′
-  unfolding fundTerms
-  transform-filled d h d-is h-is d′ h′ a = record { d-is = rw (← d-is) (a .d-is); h-is = rw (← h-is) (a .h-is) }

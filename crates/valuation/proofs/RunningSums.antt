@@ -1,18 +1,15 @@
--- The running sums in their slice: one more cell (sums-more), how large a sum is (sum-size), and a slice of zeros with its front filled
--- (fronted).
+-- The running sums in their slice: one more cell (sums-more), and how large a sum is (sum-size).
 use mathlib.Core.Path.{_≡_, refl, sym, _∙_, ap, ap₂}
 use mathlib.Core.List.{List, [], _∷_, _++_, append-assoc}
-use Prim.Native.Nat.{ℕ, zero, suc, _-_, _<_, _≤_}
+use Prim.Native.Nat.{ℕ, zero, suc, _<_, _≤_}
 use native.Mathlib.Omega.{arith}
 use lib.IntN.{ℤ, pos, natAbs, _+ℤ_}
-use lib.ListN.{length, getD, set, drop, replicate, length-append, length-drop}
+use lib.ListN.{length, getD, set, drop, length-append, length-drop}
 use lib.Seq.{drop-cons, set-at}
 use Rattle.fund.specs.Base.{sumℤ, table}
 use Rattle.fund.specs.Quantile.{runningSum}
-use Rattle.fund.specs.Answer.{lent}
 use Rattle.laws.specs.Tables.{length-table}
 use Rattle.widths.specs.Signed.{natAbs-add}
-use Rattle.recursion.proofs.Outcomes.{drop-replicate}
 use Rattle.valuation.specs.Premium.{levels}
 
 -- f(0) + .. + f(n-1)
@@ -49,8 +46,3 @@ sums-more f x before sums sum l e s =
 
 pub length-summed : (f : List ℤ) (x : ℕ) (before : List ℤ) → x ≤ length before → length (summed f x before) ≡ length before
 length-summed f x before l = omega (arith, length-append (table x (runningSum f)) (drop x before), length-table x (runningSum f), length-drop x before)
-
--- a slice that was zero, with its front filled
-pub fronted : {A : Type 0} (blank : A) (n k : ℕ) (g : ℕ → A) (t : List A) → t ≡ table k g ++ drop k (replicate n blank) → t ≡ lent blank n (table k g)
-unfolding lent
-fronted blank n k g t h = h ∙ ap (λ u. table k g ++ u) (drop-replicate k n blank ∙ ap (λ m. replicate (n - m) blank) (sym (length-table k g)))

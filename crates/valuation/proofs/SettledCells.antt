@@ -14,18 +14,20 @@ use Rattle.algebra.specs.NatSum.{sumN-ext}
 use Rattle.fund.specs.declared.Fund.{Fund}
 use Rattle.fund.specs.declared.Frequencies.{Frequencies}
 use Rattle.fund.specs.declared.Life.{Life}
+use Rattle.fund.specs.declared.ModelPoint.{ModelPoint}
 use Rattle.fund.specs.declared.Refusal.the-variants as refusal
 use Rattle.fund.specs.declared.Verdict.the-variants.{Accepted, Refused}
 use Rattle.fund.specs.Base.{table}
 use Rattle.fund.specs.Limits.{most-bound, most-load}
-use Rattle.fund.specs.Transform.{D, H, lambda, load, mean, truncation}
+use Rattle.fund.specs.Folding.{copies}
+use Rattle.fund.specs.Transform.{lambda, load, mean, truncation}
 use Rattle.fund.specs.Recursion.{Cell, start, startBound}
 use Rattle.fund.specs.Premium.{premium, within}
 use Rattle.fund.specs.Tariff.{gross}
 use Rattle.fund.specs.Refusals.{Lengths, first, wide, refuse, valued}
 use Rattle.fund.specs.Quantile.{runningSum}
 use Rattle.fund.specs.Answer.{Answer, part, noFigures, fundTerms, fundStart, fundCells, fundTruncation, fundMean, fundPremium, fundWithin, fundFigures, lent, refused, accepted}
-use Rattle.laws.specs.Accepted.{All, all-map, all-table, first-none, Long, long-of}
+use Rattle.laws.specs.Accepted.{all-map, all-table, first-none, Long, long-of}
 use Rattle.laws.specs.Slices.{table-ext}
 use Rattle.laws.specs.Valued.{valued-rest}
 use Rattle.laws.specs.Answer.{fundCell, fundCells-are, f-cell, R-cell}
@@ -48,13 +50,14 @@ use Rattle.valuation.specs.declared.premium.StopLoss.{StopLoss}
 use Rattle.tariff.specs.Gross.{grossOf}
 use Rattle.tariff.proofs.GrossAnswers.{gross-inside}
 use Rattle.totals.specs.declared.Totals.{Totals}
-use Rattle.totals.specs.Table.{Members, most-mean}
-use Rattle.totals.specs.Totals.{startLambda}
+use Rattle.totals.specs.Inside.{HeaderIn}
+use Rattle.totals.specs.Table.{Members, members-of, most-mean}
+use Rattle.totals.specs.Totals.{startLambda, LivesTotals}
+use Rattle.transform.specs.Transformed.{lengthsOf, outcome}
 use Rattle.valuation.specs.Premium.{Cells, StopLossIs, levels}
 use Rattle.valuation.specs.Sums.{SumsFit}
-use Rattle.valuation.specs.Valued.{leftValued, outcome}
+use Rattle.valuation.specs.Valued.{leftValued}
 use Rattle.valuation.specs.Steps.{ReadyFor, Ready, RecursionLeft, RecursedFor, refusalOf, centimesIn, ValuedAnswer, SettledFor, AnsweredFor}
-use Rattle.valuation.proofs.RunningSums.{fronted}
 use Rattle.valuation.proofs.OwnLimits.{answerOf, narrow-of, FundFits, recursion-is}
 
 -- a mean that the cap does not change
@@ -79,35 +82,47 @@ answer-of (recursed.Outside k) = 1
 answer-of (recursed.Wide x) = 1
 answer-of (recursed.Large x) = 1
 
-module _ (fund : Fund) (ms : List Life) (t : Totals) (d : List ℤ) (h : List ℕ) (f : List ℤ) (r : List ℕ) (ns : ℕ) (k : ReadyFor fund ms t d h (length f) (length r) ns) where
+module _ (fund : Fund) (count : ℕ) (ps : List ModelPoint) (t : Totals) (d : List ℤ) (h : List ℕ) (f : List ℤ) (r : List ℕ) (ns : ℕ) (k : ReadyFor fund count ps t d h (length f) (length r) ns) where
+  abbrev ms : List Life
+  ms = copies ps
+
   abbrev X : ℕ
   X = fund .horizon
 
   abbrev n : Lengths
-  n = record { D = length d; H = length h; f = length f; R = length r; F = ns }
+  n = lengthsOf d h (length f) (length r) ns
+
+  header : HeaderIn fund
+  header = k .totals-are .tells .yes (k .verdict-is .inside-is) .2
+
+  members : Members ms
+  members = members-of ps (k .totals-are .tells .yes (k .verdict-is .inside-is) .1)
+
+  sums : LivesTotals fund ms t
+  sums = k .totals-are .sums (k .verdict-is .inside-is)
 
   within-load : load (fund .frequency) ms ≤ most-load
-  within-load = omega (arith, k .sums .load-is, k .passed .load-within)
+  within-load = omega (arith, sums .load-is, k .verdict-is .load-within)
 
   figure-is : t .truncation ≡ fundTruncation fund ms
   unfolding fundTruncation
-  figure-is = omega (arith, k .sums .truncation-is, k .passed .truncation-within)
+  figure-is = omega (arith, sums .truncation-is, k .verdict-is .truncation-within)
 
   long : Long n X
-  long = long-of n X (k .passed .long)
+  long = long-of n X (k .verdict-is .long)
 
   fits : FundFits fund ms
   unfolding fundTruncation
   fits =
       record {
-        members = k .members;
-        header = k .header;
+        members = members;
+        header = header;
         priceable =
             record {
-              limited = all-map (λ m r. r .limited) ms (k .members .in-range);
-              folded = all-map (λ m r. record { q-folded = r .no-death; i-folded = r .no-disability }) ms (k .members .in-range);
+              limited = all-map (λ m r. r .limited) ms (members .in-range);
+              folded = all-map (λ m r. record { q-folded = r .no-death; i-folded = r .no-disability }) ms (members .in-range);
               load-within = within-load;
-              truncation-within = omega (arith, figure-is, k .passed .truncation-within);
+              truncation-within = omega (arith, figure-is, k .verdict-is .truncation-within);
             };
       }
 
@@ -118,20 +133,21 @@ module _ (fund : Fund) (ms : List Life) (t : Totals) (d : List ℤ) (h : List �
 
   start-is : record { f = t .cell; R = t .bound } ≡ fundStart fund ms
   unfolding fundStart
-  start-is = ap₂ (λ x z. record { f = x; R = z }) (k .sums .cell-is ∙ ap (λ l. start l ms) lambda-is) (k .sums .bound-is ∙ ap (λ l. startBound l ms) lambda-is)
+  start-is = ap₂ (λ x z. record { f = x; R = z }) (sums .cell-is ∙ ap (λ l. start l ms) lambda-is) (sums .bound-is ∙ ap (λ l. startBound l ms) lambda-is)
 
   abbrev found : Option ℕ
   found = first wide 0 (fundCells fund ms)
 
   rest : valued fund ms n (fundCells fund ms) ≡ refuse refusal.Wide found Accepted
   unfolding fundTruncation
-  rest = valued-rest fund ms n (fundCells fund ms) within-load (omega (arith, figure-is, k .passed .truncation-within)) (k .passed .long)
+  rest = valued-rest fund ms n (fundCells fund ms) within-load (omega (arith, figure-is, k .verdict-is .truncation-within)) (k .verdict-is .long)
 
   leaves-is : (a : Recursed) → RecursionLeft fund t a d h f r → Rec.leftCells a f r ≡ leaves (fundCells fund ms) (length f) (length r) (answerOf found)
+  unfolding accepted lent
   leaves-is a e =
       e
       ∙ ap (λ y. Rec.recursion X d h y (length f) (length r)) start-is
-      ∙ recursion-is fund ms fits d h _ _ (k .filled .d-is) (k .filled .h-is) (omega (arith, ap (λ (y : Cell). y .R) start-is, k .sums .bound-within)) (length f) (length r) (long .f-long) (long .r-long)
+      ∙ recursion-is fund ms fits d h _ _ (k .d-is) (k .h-is) (omega (arith, ap (λ (y : Cell). y .R) start-is, sums .bound-within)) (length f) (length r) (long .f-long) (long .r-long)
 
   -- ---- a wide cell
   pub answers-wide : (a : Recursed) → OneOf (1 ∷ 2 ∷ 3 ∷ 4 ∷ []) (Declared.tagOf R.the-type a) → RecursionLeft fund t a d h f r → (v : Valued) (d′ : List ℤ) (h′ : List ℕ) (s′ : List ℤ) →
@@ -194,14 +210,14 @@ module _ (fund : Fund) (ms : List Life) (t : Totals) (d : List ℤ) (h : List �
         omega (
           arith,
           sumN-ext (suc m) (λ x. natAbs (getD f x (pos 0))) (λ x. natAbs (fundCell fund ms x .f)) (λ x k. ap natAbs (f-at x (omega arith))),
-          f-sum-small X (fund .order) (fund .frequency) ms (k .header .order) (fits .priceable) (k .header .horizon) m (omega arith) (λ k b. s .narrow k (omega arith)),
+          f-sum-small X (fund .order) (fund .frequency) ms (header .order) (fits .priceable) (header .horizon) m (omega arith) (λ k b. s .narrow k (omega arith)),
         )
 
     pub below-deductible : Cells (fund .deductible) f r
     below-deductible =
-        let m = k .header .deductible in
+        let m = header .deductible in
         record {
-          few = let b = k .header .horizon in omega arith;
+          few = let b = header .horizon in omega arith;
           f-long = omega (arith, long .f-long);
           r-long = omega (arith, long .r-long);
           levels-within = levels-within (fund .deductible) m;
@@ -209,22 +225,16 @@ module _ (fund : Fund) (ms : List Life) (t : Totals) (d : List ℤ) (h : List �
         }
 
     pub sums-fit : SumsFit X f ns
-    sums-fit = record { horizon = k .header .horizon; f-long = long .f-long; sums-long = long .sums-long; levels-within = levels-within (suc X) (omega arith) }
+    sums-fit = record { horizon = header .horizon; f-long = long .f-long; sums-long = long .sums-long; levels-within = levels-within (suc X) (omega arith) }
 
     -- the figures and the slices
     pub answers-accepted : (pr : ℤ) (p : StopLoss) (g : ℕ) (s′ : List ℤ) → StopLossIs (fund .deductible) (t .mean) (t .truncation) f r p → pr ≡ p .premium → g ≡ centimesIn (grossOf fund (p .premium) (p .within)) → s′ ≡ lent (pos 0) ns (table (suc X) (runningSum f)) →
         ValuedAnswer fund ms n (leftValued (record { verdict = Accepted; figures = record { truncation = t .truncation; mean = t .mean; premium = pr; within = p .within; gross = g } }) d h f r s′)
     unfolding accepted fundFigures fundMean fundPremium fundWithin
-    answers-accepted pr p g s′ priced pr-is gross-is sums-is = same-answer d-lent h-lent (s .f-is) (s .r-is) s-lent figure-is m-is pr-of p-of g-of ∙ ap (outcome fund ms n) (sym (s .accepts))
+    answers-accepted pr p g s′ priced pr-is gross-is sums-is = same-answer (k .d-is) (k .h-is) (s .f-is) (s .r-is) s-lent figure-is m-is pr-of p-of g-of ∙ ap (outcome fund ms n) (sym (s .accepts))
       where
         m-is : t .mean ≡ mean (fund .frequency) ms
-        m-is = mean-is ms (k .members) (fund .frequency) (t .mean) within-load (k .sums .mean-is)
-
-        d-lent : d ≡ lent (pos 0) (length d) (table (suc X) (D (fundTerms fund ms)))
-        d-lent = fronted (pos 0) (length d) (suc X) (D (fundTerms fund ms)) d (k .filled .d-is)
-
-        h-lent : h ≡ lent 0 (length h) (table (suc X) (H (fundTerms fund ms)))
-        h-lent = fronted 0 (length h) (suc X) (H (fundTerms fund ms)) h (k .filled .h-is)
+        m-is = mean-is ms (members) (fund .frequency) (t .mean) within-load (sums .mean-is)
 
         s-lent : s′ ≡ lent (pos 0) ns (table (suc X) (runningSum (fundFs fund ms)))
         s-lent =
@@ -233,15 +243,15 @@ module _ (fund : Fund) (ms : List Life) (t : Totals) (d : List ℤ) (h : List �
             ∙ ap (lent (pos 0) ns) (running-lent (length f) (fundFs fund ms) X (let w = length-fs fund ms in omega arith))
 
         pr-of : pr ≡ premium (fund .deductible) (mean (fund .frequency) ms) (fundCells fund ms)
-        pr-of = pr-is ∙ priced .premium-is (suc X) (k .header .deductible) ∙ ap₂ (premium (fund .deductible)) m-is cells-in
+        pr-of = pr-is ∙ priced .premium-is (suc X) (header .deductible) ∙ ap₂ (premium (fund .deductible)) m-is cells-in
 
         p-of : p .within ≡ within (fund .deductible) (fundTruncation fund ms) (fundCells fund ms)
-        p-of = priced .within-is (suc X) (k .header .deductible) ∙ ap₂ (within (fund .deductible)) figure-is cells-in
+        p-of = priced .within-is (suc X) (header .deductible) ∙ ap₂ (within (fund .deductible)) figure-is cells-in
 
         g-of : g ≡ gross (fund .deductible) (fund .worth) (fundPremium fund ms) (fundWithin fund ms)
         g-of =
             gross-is
-            ∙ ap centimesIn (gross-inside fund (p .premium) (p .within) (k .header .worth-least) (k .header .worth-most))
+            ∙ ap centimesIn (gross-inside fund (p .premium) (p .within) (header .worth-least) (header .worth-most))
             ∙ ap₂ (gross (fund .deductible) (fund .worth)) (sym pr-is ∙ pr-of) p-of
 
 -- ---- slices whose lengths are those of others
@@ -250,4 +260,4 @@ module _ (fund : Fund) (t : Totals) (a : Recursed) (d : List ℤ) (h : List ℕ)
   recursed-for k e = record { ready = rw (ef, er) k; left-is = rw (ef, er) e }
 
   pub answered-for : (answer : Answer) → SettledFor fund t d h f r ns answer → AnsweredFor fund t d h nf nr ns answer
-  answered-for answer s ms k = rw (ef, er) at (s ms (rw (ef, er) k))
+  answered-for answer s count ps k = rw (ef, er) at (s count ps (rw (ef, er) k))

@@ -11,7 +11,8 @@ use Rattle.fund.specs.Answer.{fundCells}
 use Rattle.totals.specs.Table.{Points}
 use Rattle.totals.specs.Inside.{HeaderIn}
 use Rattle.totals.proofs.InsideTells.{inside-tells}
-use Rattle.valuation.specs.Valued.{outcome, verdictOf, valuation}
+use Rattle.transform.specs.Transformed.{outcome}
+use Rattle.valuation.specs.Valued.{verdictOf, valuation}
 
 pub valuation-inside : (fund : Fund) (count : ℕ) (ps : List ModelPoint) (n : Lengths) → count ≤ most-members → HeaderIn fund → Points ps →
     valuation fund count ps n ≡ outcome fund (copies ps) n (valued fund (copies ps) n (fundCells fund (copies ps)))

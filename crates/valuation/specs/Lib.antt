@@ -1,4 +1,3 @@
-pub mod Filling
 pub mod Premium
 pub mod Sums
 pub mod Valued

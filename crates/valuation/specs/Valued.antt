@@ -1,30 +1,24 @@
 -- What the valuation of a fund's model points answers and leaves: the refusals 7 to 10 or the fund's figures, with the five result slices.
-use mathlib.Core.Path.{_≡_}
-use mathlib.Core.List.{List, []}
+use mathlib.Core.List.{List}
 use Prim.Native.Nat.{ℕ}
-use lib.IntN.{ℤ, pos}
-use lib.ListN.{length, replicate}
+use lib.IntN.{ℤ}
+use lib.ListN.{length}
 use Rattle.fund.specs.declared.Fund.{Fund}
-use Rattle.fund.specs.declared.Life.{Life}
 use Rattle.fund.specs.declared.ModelPoint.{ModelPoint}
 use Rattle.fund.specs.declared.Refusal.the-variants.{Range}
 use Rattle.fund.specs.declared.Verdict.{Verdict}
-use Rattle.fund.specs.declared.Verdict.the-variants.{Accepted, Refused}
+use Rattle.fund.specs.declared.Verdict.the-variants.{Refused}
 use Rattle.fund.specs.Base.{if_then_else_}
 use Rattle.fund.specs.Folding.{copies}
 use Rattle.fund.specs.Refusals.{Lengths, valued}
-use Rattle.fund.specs.Answer.{empty, Answer, refused, accepted, fundCells}
+use Rattle.fund.specs.Answer.{empty, Answer, fundCells}
 use Rattle.valuation.specs.declared.Valued.{Valued}
 use Rattle.totals.specs.Inside.{inside}
+use Rattle.transform.specs.Transformed.{outcome}
 
 -- The answer that a call leaves: what it returns, and the slices.
 abbrev pub leftValued : Valued → List ℤ → List ℕ → List ℤ → List ℕ → List ℤ → Answer
 leftValued v d h f r s = record { verdict = v .verdict; part = empty; figures = v .figures; D = d; H = h; f = f; R = r; F = s }
-
--- The answer for a verdict: a refusal hands back no line here.
-abbrev pub outcome : Fund → List Life → Lengths → Verdict → Answer
-outcome fund ms n Accepted = accepted fund ms n
-outcome fund ms n (Refused why place) = refused [] n (Refused why place)
 
 -- A header or model points that no file can give, or that have not passed 4 and 6 (a deductible above X + 1, a life that is half: these are asked before, where the lines are
 -- known), or a count above the table, break a limit (2) on no line; else 7 to 10, of the lives.
@@ -36,11 +30,3 @@ valuation fund count ps n = outcome fund (copies ps) n (verdictOf fund count ps 
 
 abbrev pub lengths : List ℤ → List ℕ → List ℤ → List ℕ → List ℤ → Lengths
 lengths d h f r s = record { D = length d; H = length h; f = length f; R = length r; F = length s }
-
--- All cells are zero.
-pub record Zeros (n : Lengths) (d : List ℤ) (h : List ℕ) (f : List ℤ) (r : List ℕ) (s : List ℤ) : Type 0 where
-  pub d-zero : d ≡ replicate (n .D) (pos 0)
-  pub h-zero : h ≡ replicate (n .H) 0
-  pub f-zero : f ≡ replicate (n .f) (pos 0)
-  pub r-zero : r ≡ replicate (n .R) 0
-  pub s-zero : s ≡ replicate (n .F) (pos 0)

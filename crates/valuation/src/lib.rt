@@ -1,9 +1,7 @@
 // The valuation of a fund: from its model points to the transform, the start, the recursion, the premium and their bounds, or the first of
 // the refusals 7 to 10.
-mod points;
 mod premium;
 mod sums;
-mod transform;
 
 use fund::Figures;
 use fund::Fund;
@@ -13,17 +11,13 @@ use fund::Verdict;
 use recursion::Recursed;
 use tariff::Gross;
 use totals::Totals;
-use transform::Filling;
 ghost use mathlib.Core.Path.{_≡_};
 ghost use mathlib.Core.List.{[]};
-ghost use Prim.Native.Nat.{_≤_};
 ghost use lib.IntN.{pos};
 ghost use lib.ListN.{length, replicate, take};
 ghost use Rattle.fund.specs.Answer.{noFigures, refused};
-ghost use Rattle.fund.specs.Folding.{copies};
-ghost use Rattle.fund.specs.Limits.{most-members};
-ghost use Rattle.valuation.specs.Valued.{leftValued, lengths, Zeros, valuation};
-ghost use Rattle.valuation.specs.Steps.{Ready, refusalOf, centimesIn, RecursedFor, SettledFor, AnsweredFor, Fillable, TransformFilled};
+ghost use Rattle.valuation.specs.Valued.{leftValued, lengths, valuation};
+ghost use Rattle.valuation.specs.Steps.{Ready, refusalOf, centimesIn, RecursedFor, SettledFor, AnsweredFor};
 
 // What a valuation answers beside the result slices.
 pub struct Valued {
@@ -47,15 +41,6 @@ fn clear_transform(transform: &mut [i64], h: &mut [u64])
     whole::clear(h);
 }
 
-fn clear_all(transform: &mut [i64], h: &mut [u64], f: &mut [i64], r: &mut [u64], sums: &mut [i64])
-    ensures { λ _. ⌜ Zeros (lengths (now (transform .entry)) (now (h .entry)) (now (f .entry)) (now (r .entry)) (now (sums .entry)))
-        (now (transform .exit)) (now (h .exit)) (now (f .exit)) (now (r .exit)) (now (sums .exit)) ⌝ }
-{
-    clear_transform(transform, h);
-    clear_transform(f, r);
-    whole::clear_signed(sums);
-}
-
 // A refusal with zeros in all slices; it hands back no line here.
 pub fn refuse(
     verdict: Verdict,
@@ -68,7 +53,9 @@ pub fn refuse(
     ensures { λ v. ⌜ leftValued v (now (transform .exit)) (now (h .exit)) (now (f .exit)) (now (r .exit)) (now (sums .exit)) ≡
         refused [] (lengths (now (transform .entry)) (now (h .entry)) (now (f .entry)) (now (r .entry)) (now (sums .entry))) verdict ⌝ }
 {
-    clear_all(transform, h, f, r, sums);
+    clear_transform(transform, h);
+    clear_transform(f, r);
+    whole::clear_signed(sums);
     refused(verdict)
 }
 
@@ -156,27 +143,6 @@ fn recursed(
     settled(fund, t, answer, transform, h, &f[..], &r[..], sums)
 }
 
-// D and H of the first n model points, and zeros beyond the horizon.
-fn first_transform(
-    fund: Fund,
-    points: [ModelPoint; Fund::MEMBER_ROWS],
-    n: usize,
-    transform: &mut [i64],
-    h: &mut [u64],
-)
-    requires { ⌜ (n ≤ most-members) × Fillable fund (take n points) (length (now transform)) (length (now h)) ⌝ }
-    ensures { λ _. ⌜ TransformFilled fund (copies (take n points)) (length (now (transform .entry))) (length (now (h .entry))) (now (transform .exit)) (now (h .exit)) ⌝ }
-{
-    clear_transform(transform, h);
-    let frequency = fund.frequency;
-    let filling = Filling {
-        horizon: fund.horizon,
-        order: fund.order,
-        frequency,
-    };
-    points::fill_first(points, n, filling, transform, h);
-}
-
 // The valuation of the first n model points of a table, into five result slices.
 pub fn value(
     fund: Fund,
@@ -191,19 +157,11 @@ pub fn value(
     ensures { λ v. ⌜ leftValued v (now (transform .exit)) (now (h .exit)) (now (f .exit)) (now (r .exit)) (now (sums .exit)) ≡
         valuation fund n (take n points) (lengths (now (transform .entry)) (now (h .entry)) (now (f .entry)) (now (r .entry)) (now (sums .entry))) ⌝ }
 {
-    let t = totals::first_totals(fund, points, n);
-    let verdict = totals::tested_totals(
-        fund,
-        t,
-        transform.len(),
-        h.len(),
-        f.len(),
-        r.len(),
-        sums.len(),
-    );
+    let known = transform::transformed(fund, points, n, f.len(), r.len(), sums.len(), transform, h);
+    let verdict = known.verdict;
     let Verdict::Accepted = verdict else {
         return refuse(verdict, transform, h, f, r, sums);
     };
-    first_transform(fund, points, n, transform, h);
-    recursed(fund, t, transform, h, f, r, sums)
+    let totals = known.totals;
+    recursed(fund, totals, transform, h, f, r, sums)
 }

@@ -12,32 +12,32 @@ use Rattle.valuation.proofs.settled.Statement.{statement}
 use Rattle.valuation.proofs.settled.Tie as tie
 
 returns : tie.Need-returns
-returns c ms k =
+returns c count ps k =
     let s-clear = c .before .before .before in
     let t-clear = s-clear .before .before .before .before .before in
     let m = t-clear .before .before .before in
     let s = m .before .before .before in
     let a = s .args in
-    answers-wide (a .fund) ms (a .t) (a .transform .now) (a .h .now) (a .f .now) (a .r .now) (length (a .sums .now)) k (a .answer) (m .match .keys2) (s .pre .left-is) _ _ _ _
+    answers-wide (a .fund) count ps (a .t) (a .transform .now) (a .h .now) (a .f .now) (a .r .now) (length (a .sums .now)) k (a .answer) (m .match .keys2) (s .pre .left-is) _ _ _ _
     (c .refused .ensures ∙ ap (λ v. record { verdict = v; figures = noFigures }) (c .before .refusal .ensures)) (t-clear .clear-transform .ensures .0) (t-clear .clear-transform .ensures .1) (s-clear .clear-signed .ensures)
 
 -- the cells stand, for every table of which this is known
-standing : (c : tie.After-enum-told) (ms : _) →
+standing : (c : tie.After-enum-told) (count : _) (ps : _) →
     let s = c .before .before .before .before in
     let a = s .args in
-    (k : ReadyFor (a .fund) ms (a .t) (a .transform .now) (a .h .now) (length (a .f .now)) (length (a .r .now)) (length (a .sums .now))) →
-    Stands (a .fund) ms (a .t) (a .transform .now) (a .h .now) (a .f .now) (a .r .now) (length (a .sums .now)) k
-standing c ms k =
+    (k : ReadyFor (a .fund) count ps (a .t) (a .transform .now) (a .h .now) (length (a .f .now)) (length (a .r .now)) (length (a .sums .now))) →
+    Stands (a .fund) count ps (a .t) (a .transform .now) (a .h .now) (a .f .now) (a .r .now) (length (a .sums .now)) k
+standing c count ps k =
     let s = c .before .before .before .before in
     let a = s .args in
-    stands (a .fund) ms (a .t) (a .transform .now) (a .h .now) (a .f .now) (a .r .now) (length (a .sums .now)) k (a .answer) (c .enum-told .given .1) (s .pre .left-is)
+    stands (a .fund) count ps (a .t) (a .transform .now) (a .h .now) (a .f .now) (a .r .now) (length (a .sums .now)) k (a .answer) (c .enum-told .given .1) (s .pre .left-is)
 
 running-sums-requires : tie.Need-running-sums-requires
 running-sums-requires c κs =
     let s = c .before .before .before .before .before in
     let a = s .args in
     let k = s .pre .ready .ready in
-    sums-fit (a .fund) (s .pre .ready .ms) (a .t) (a .transform .now) (a .h .now) (a .f .now) (a .r .now) (length (a .sums .now)) k (standing (c .before) _ k)
+    sums-fit (a .fund) (s .pre .ready .count) (s .pre .ready .ps) (a .t) (a .transform .now) (a .h .now) (a .f .now) (a .r .now) (length (a .sums .now)) k (standing (c .before) _ _ k)
 
 premium-requires : tie.Need-premium-requires
 premium-requires c κs =
@@ -45,10 +45,10 @@ premium-requires c κs =
     let s = told .before .before .before .before in
     let a = s .args in
     let k = s .pre .ready .ready in
-    (below-deductible (a .fund) (s .pre .ready .ms) (a .t) (a .transform .now) (a .h .now) (a .f .now) (a .r .now) (length (a .sums .now)) k (standing told _ k), (omega (arith, k .sums .mean-is), k .passed .truncation-within))
+    (below-deductible (a .fund) (s .pre .ready .count) (s .pre .ready .ps) (a .t) (a .transform .now) (a .h .now) (a .f .now) (a .r .now) (length (a .sums .now)) k (standing told _ _ k), (omega (arith, k .totals-are .sums (k .verdict-is .inside-is) .mean-is), k .verdict-is .truncation-within))
 
 returns-2 : tie.Need-returns-2
-returns-2 c ms k =
+returns-2 c count ps k =
     let gross = c .before .before in
     let price = gross .before .before in
     let summed = price .before .before in
@@ -56,7 +56,7 @@ returns-2 c ms k =
     let s = told .before .before .before .before in
     let a = s .args in
     let same = toZ-ofZ (sfits-of {w = w64} (price .premium .ok .1 .1 .0 .1)) in
-    answers-accepted (a .fund) ms (a .t) (a .transform .now) (a .h .now) (a .f .now) (a .r .now) (length (a .sums .now)) k (standing told ms k) _ (price .premium .result) _ _ (price .premium .ensures)
+    answers-accepted (a .fund) count ps (a .t) (a .transform .now) (a .h .now) (a .f .now) (a .r .now) (length (a .sums .now)) k (standing told count ps k) _ (price .premium .result) _ _ (price .premium .ensures)
     same
     (c .before .centimes-of .ensures ∙ ap centimesIn (rw same at (gross .gross-premium .ensures)))
     (summed .running-sums .ensures)

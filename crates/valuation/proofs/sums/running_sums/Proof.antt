@@ -1,7 +1,7 @@
 -- The slice is cleared, then its front is filled.
 use borrow.Author.Needs.{needs}
 use lib.IntN.{pos}
-use Rattle.valuation.proofs.RunningSums.{fronted}
+use Rattle.laws.specs.Slices.{fronted}
 use Rattle.valuation.proofs.sums.running_sums.Statement.{statement}
 use Rattle.valuation.proofs.sums.running_sums.Tie as tie
 

@@ -1,0 +1,2 @@
+mod TableFilled
+mod FilledTransform

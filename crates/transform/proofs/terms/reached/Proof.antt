@@ -1,0 +1,13 @@
+-- The rate's test decides.
+use borrow.Author.Tests.{lt-ltb, le-ltb}
+use Rattle.transform.proofs.terms.reached.Statement.{statement}
+use Rattle.transform.proofs.terms.reached.Tie as tie
+
+returns : tie.Need-returns
+returns c = rw (lt-ltb _ _ (c .if1 .taken))
+
+returns-2 : tie.Need-returns-2
+returns-2 c = rw (le-ltb _ _ (c .if1 .left))
+
+pub reached-spec : {M : Type 1} → statement M
+reached-spec = tie.close (tie.spec returns returns-2)
