@@ -1,7 +1,6 @@
 pub mod PointElement
 mod PointSums
 mod Caps
-mod Terms
 mod StartProduct
 mod TableTotals
 mod TableCalls

@@ -13,10 +13,10 @@ use Rattle.fund.specs.Base.{total}
 use Rattle.fund.specs.Folding.{copies}
 use Rattle.fund.specs.Limits.{most-load, most-truncation, most-members, most-lives}
 use Rattle.fund.specs.Transform.{lambda, load, truncation, mean}
-use Rattle.fund.specs.Recursion.{multiplied, alternating, start, startBound}
-use Rattle.totals.specs.declared.start.Product.{Product}
+use Rattle.fund.specs.Recursion.{multiplied, start, startBound}
+use Rattle.totals.specs.declared.product.Product.{Product}
 use Rattle.totals.specs.Table.{PointIn, Points, Members, most-lambda, most-mean}
-use Rattle.totals.specs.Start.{Multiplied}
+use Rattle.totals.specs.Product.{Multiplied}
 use Rattle.laws.specs.Accepted.{All}
 use Rattle.laws.specs.Copies.{livesOf}
 use Rattle.laws.specs.Ranges.{FrequenciesOk}
@@ -27,10 +27,10 @@ use Rattle.widths.specs.PartBounds.{lambda-le}
 use Rattle.widths.specs.Sums.{total-bound}
 use Rattle.laws.specs.Tells.{Tells}
 use Rattle.totals.specs.Inside.{HeaderIn}
-use Rattle.totals.proofs.Terms.{c-sum}
 use Rattle.totals.specs.declared.Totals.{Totals}
-use Rattle.totals.specs.declared.StartSum.{StartSum}
-use Rattle.totals.specs.Totals.{noTotals, startLambda, StartSums, StartedWith, LivesTotals, TableTotals, TotalsFor}
+use Rattle.start.specs.declared.StartSum.{StartSum}
+use Rattle.start.specs.Terms.{StartSums}
+use Rattle.totals.specs.Totals.{noTotals, startLambda, StartedWith, LivesTotals, TableTotals, TotalsFor}
 
 pub lambda-most : (ms : List Life) (a : Frequencies) → Members ms → FrequenciesOk a → lambda a ms ≤ most-lambda
 unfolding lambda
@@ -39,7 +39,7 @@ lambda-most ms a n k = omega (arith, total-bound InRange (lambdaPart a) most-wei
 module _ (fund : Fund) (ms : List Life) (lam all figure m : ℕ) (l : StartSum) (p : Product) (r : Totals) (lam-is : lam ≡ lambda (fund .frequency) ms) (all-is : all ≡ lam + total singleLoad ms)
     (figure-is : figure ≡ min (truncation (fund .order) ms) (most-truncation + 1)) (m-is : m ≡ min (mean (fund .frequency) ms) most-mean) (sums-of : StartSums lam l) (product : Multiplied ms (l .size) p) (made : StartedWith all figure m l p r) where
   cell-is : r .cell ≡ start (startLambda fund ms) ms
-  unfolding start alternating
+  unfolding start
   cell-is =
       made .cell-is
       ∙ sym (product .size-is .product (l .negative))
@@ -51,7 +51,7 @@ module _ (fund : Fund) (ms : List Life) (lam all figure m : ℕ) (l : StartSum) 
   bound-is = made .bound-is ∙ ap₂ _+_ (sums-of .is .bound-is) (sym (product .count)) ∙ ap (λ k. startBound (min k most-load) ms) lam-is
 
   bound-within : r .bound ≤ 691 + length ms
-  bound-within = omega (arith, made .bound-is, sums-of .is .bound-is, c-sum (min lam most-load) (omega arith), product .count-within)
+  bound-within = omega (arith, made .bound-is, sums-of .bound-within, product .count-within)
 
   load-is : r .load ≡ load (fund .frequency) ms
   unfolding load
@@ -60,7 +60,7 @@ module _ (fund : Fund) (ms : List Life) (lam all figure m : ℕ) (l : StartSum) 
   pub sums-up : LivesTotals fund ms r
   sums-up = record { inside-is = made .inside-is; load-is = load-is; truncation-is = made .truncation-is ∙ figure-is; mean-is = made .mean-is ∙ m-is; cell-is = cell-is; bound-is = bound-is; bound-within = bound-within }
 
-pub made-asks : (ms : List Life) → Members ms → (lam : ℕ) (l : StartSum) → StartSums lam l → (p : Product) → Multiplied ms (l .size) p → (p .size ≤ 200000000000000000) × (l .bound ≤ 64000) × (p .singles ≤ 1000)
+pub made-asks : (ms : List Life) → Members ms → (lam : ℕ) (l : StartSum) → StartSums lam l → (p : Product) → Multiplied ms (l .size) p → (p .size ≤ 200000000000000000) × (l .bound ≤ 691) × (p .singles ≤ 1000)
 made-asks ms n lam l sums-of p product = (omega (arith, product .size-is .within, sums-of .size-within), sums-of .bound-within, omega (arith, product .count-within, n .few))
 
 -- ---- inside or not

@@ -1,5 +1,5 @@
 pub mod Table
-pub mod Start
+pub mod Product
 pub mod Inside
 pub mod Totals
 pub mod Tests

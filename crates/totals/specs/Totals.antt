@@ -2,25 +2,23 @@
 use mathlib.Core.Path.{_≡_}
 use mathlib.Core.Bool.{true, false}
 use mathlib.Core.List.{List}
-use Prim.Native.Nat.{ℕ, min, _+_, _*_, _≤_}
+use Prim.Native.Nat.{ℕ, min, _+_, _≤_}
 use lib.IntN.{pos}
 use lib.ListN.{length}
 use Rattle.whole.specs.Sign.{signed}
 use Rattle.fund.specs.declared.Fund.{Fund}
 use Rattle.fund.specs.declared.Life.{Life}
 use Rattle.fund.specs.declared.ModelPoint.{ModelPoint}
-use Rattle.fund.specs.Base.{sum, sumℤ, alternate}
 use Rattle.fund.specs.Folding.{copies}
 use Rattle.fund.specs.Limits.{most-load, most-truncation, most-members}
 use Rattle.fund.specs.Transform.{lambda, load, truncation, mean}
-use Rattle.fund.specs.Recursion.{t, c, start, startBound}
+use Rattle.fund.specs.Recursion.{start, startBound}
 use Rattle.laws.specs.Tells.{Tells}
-use Rattle.totals.specs.declared.start.Product.{Product}
+use Rattle.totals.specs.declared.product.Product.{Product}
 use Rattle.totals.specs.declared.Totals.{Totals}
-use Rattle.totals.specs.declared.StartSum.{StartSum}
+use Rattle.start.specs.declared.StartSum.{StartSum}
 use Rattle.totals.specs.Table.{Points, most-mean}
 use Rattle.totals.specs.Inside.{HeaderIn}
-use Rattle.totals.specs.Start.{most-t}
 
 -- The totals of what is outside its ranges.
 abbrev pub noTotals : Totals
@@ -29,15 +27,6 @@ noTotals = record { inside = false; load = 0; truncation = 0; mean = 0; cell = p
 -- The lambda of the start, up to the largest load: a fund with more is refused.
 abbrev pub startLambda : Fund → List Life → ℕ
 startLambda fund ms = min (lambda (fund .frequency) ms) most-load
-
-pub record StartSumIs (lam : ℕ) (l : StartSum) : Type 0 where
-  pub sum-is : signed (l .negative) (l .size) ≡ sumℤ 64 (λ k. alternate k (pos (t lam k)))
-  pub bound-is : l .bound ≡ sum 64 (c lam)
-
-pub record StartSums (lam : ℕ) (l : StartSum) : Type 0 where
-  pub size-within : l .size ≤ 200 * most-t
-  pub bound-within : l .bound ≤ 64000
-  pub is : StartSumIs (min lam most-load) l
 
 pub record StartedWith (all figure m : ℕ) (l : StartSum) (p : Product) (r : Totals) : Type 0 where
   pub inside-is : r .inside ≡ true

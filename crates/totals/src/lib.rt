@@ -1,12 +1,13 @@
 // What the first lines of a table add up to: the load, the truncation figure, the mean, and the start; and the refusals that these decide.
 mod figures;
 mod inside;
-mod start;
+mod product;
 mod tests;
 
 use fund::Fund;
 use fund::ModelPoint;
-use start::Product;
+use product::Product;
+use start::StartSum;
 pub use tests::tested_totals;
 use whole::Signed;
 ghost use mathlib.Core.Path.{_≡_};
@@ -16,8 +17,8 @@ ghost use Rattle.fund.specs.Folding.{copies};
 ghost use Rattle.fund.specs.Limits.{most-members, most-lives};
 ghost use Rattle.totals.specs.Table.{Points};
 ghost use Rattle.totals.specs.Inside.{HeaderIn};
-ghost use Rattle.totals.specs.Start.{most-t};
-ghost use Rattle.totals.specs.Totals.{noTotals, StartSums, StartedWith, LivesTotals, TableTotals, TotalsFor};
+ghost use Rattle.start.specs.Terms.{most-t};
+ghost use Rattle.totals.specs.Totals.{noTotals, StartedWith, LivesTotals, TableTotals, TotalsFor};
 
 // The least number of lives in all that is out of range.
 const TOO_MANY_LIVES: u64 = Fund::MOST_LIVES + 1;
@@ -30,13 +31,6 @@ pub struct Totals {
     pub mean: u64,
     pub cell: i64,
     pub bound: u64,
-}
-
-// The sum that f(0) starts from, and the sum of its bounds.
-struct StartSum {
-    negative: bool,
-    size: u64,
-    bound: u64,
 }
 
 fn outside() -> Totals
@@ -52,22 +46,9 @@ fn outside() -> Totals
     }
 }
 
-// The sums of t and c, of a lambda up to the largest load: a fund with more is refused.
-fn first_sum(lambda: u64) -> StartSum
-    ensures { λ r. ⌜ StartSums lambda r ⌝ }
-{
-    let sums = start::terms(whole::least(lambda, Fund::MOST_LOAD));
-    let sum = whole::difference(sums.plus, sums.minus);
-    StartSum {
-        negative: sum.negative,
-        size: sum.size,
-        bound: sums.bound,
-    }
-}
-
 // The totals with f(0) and R(0).
 fn with_start(load: u64, truncation: u64, mean: u64, first: StartSum, product: Product) -> Totals
-    requires { ⌜ (product .size ≤ 200 * most-t) × (first .bound ≤ 64000) × (product .singles ≤ most-lives) ⌝ }
+    requires { ⌜ (product .size ≤ 200 * most-t) × (first .bound ≤ 691) × (product .singles ≤ most-lives) ⌝ }
     ensures { λ r. ⌜ StartedWith load truncation mean first product r ⌝ }
 {
     let cell = whole::as_i64(Signed {
@@ -93,8 +74,8 @@ fn lives_totals(fund: Fund, points: &[ModelPoint]) -> Totals
     let load = figures::load(points, lambda);
     let truncation = figures::truncation(points, fund.order);
     let mean = figures::mean(points, fund.frequency);
-    let first = first_sum(lambda);
-    let product = start::multiplied(points, first.size);
+    let first = start::sums(lambda);
+    let product = product::multiplied(points, first.size);
     with_start(load, truncation, mean, first, product)
 }
 

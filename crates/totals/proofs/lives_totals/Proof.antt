@@ -42,11 +42,11 @@ use Rattle.fund.proofs.Frequencies as F
 use Rattle.fund.proofs.Frequencies.Laws as F′
 use Rattle.widths.specs.Parts.{singleLoad}
 use Rattle.totals.specs.Table.{Points, members-of, most-mean}
-use Rattle.totals.specs.Start.{Multiplied}
+use Rattle.totals.specs.Product.{Multiplied}
 use Rattle.walks.specs.FreedLocals.{frees-cell}
 use Rattle.walks.specs.Walks.{Stated, tokens, passed, Walk, starts, calls-for, ends, cell}
-use Rattle.totals.proofs.start.Product as P
-use Rattle.totals.proofs.start.Product.Laws as P′
+use Rattle.totals.proofs.product.Product as P
+use Rattle.totals.proofs.product.Product.Laws as P′
 use Rattle.totals.proofs.figures.lambda as lambda-def
 use Rattle.totals.proofs.figures.lambda.Met as lambda-thm
 use Rattle.totals.proofs.figures.load as load-def
@@ -55,18 +55,19 @@ use Rattle.totals.proofs.figures.truncation as truncation-def
 use Rattle.totals.proofs.figures.truncation.Met as truncation-thm
 use Rattle.totals.proofs.figures.mean as mean-def
 use Rattle.totals.proofs.figures.mean.Met as mean-thm
-use Rattle.totals.proofs.start.multiplied as multiplied-def
-use Rattle.totals.proofs.start.multiplied.Met as multiplied-thm
+use Rattle.totals.proofs.product.multiplied as multiplied-def
+use Rattle.totals.proofs.product.multiplied.Met as multiplied-thm
 use Rattle.totals.specs.Inside.{HeaderIn}
-use Rattle.totals.specs.Totals.{StartSums, StartedWith}
+use Rattle.start.specs.Terms.{StartSums}
+use Rattle.totals.specs.Totals.{StartedWith}
 use Rattle.totals.proofs.TableCalls.{calls-walk}
 use Rattle.totals.proofs.TableTotals.{lambda-most, made-asks, sums-up}
 use Rattle.totals.proofs.Totals as T
 use Rattle.totals.proofs.Totals.Laws as T′
-use Rattle.totals.proofs.StartSum as D
-use Rattle.totals.proofs.StartSum.Laws as D′
-use Rattle.totals.proofs.first_sum as first-sums
-use Rattle.totals.proofs.first_sum.Met as first-sums-thm
+use Rattle.start.proofs.StartSum as D
+use Rattle.start.proofs.StartSum.Laws as D′
+use Rattle.start.proofs.sums as first-sums
+use Rattle.start.proofs.sums.Met as first-sums-thm
 use Rattle.totals.proofs.with_start as made
 use Rattle.totals.proofs.with_start.Met as made-thm
 use Rattle.totals.proofs.lives_totals.Key.{name as #summed}

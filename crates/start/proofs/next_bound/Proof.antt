@@ -3,9 +3,9 @@ use mathlib.Core.Path.{sym, ap, _∙_}
 use Prim.Native.Nat.{_+_}
 use native.Mathlib.Omega.{arith}
 use borrow.Author.Needs.{needs}
-use Rattle.totals.proofs.Terms.{next-none, next-some, next-within, product-within}
-use Rattle.totals.proofs.start.next_bound.Statement.{statement}
-use Rattle.totals.proofs.start.next_bound.Tie as tie
+use Rattle.start.proofs.TermBounds.{next-none, next-some, next-within, product-within}
+use Rattle.start.proofs.next_bound.Statement.{statement}
+use Rattle.start.proofs.next_bound.Tie as tie
 
 returns : tie.Need-returns
 returns c =

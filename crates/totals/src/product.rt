@@ -1,62 +1,17 @@
-// The start of document 01's recursion: the sums of t and c, and the product with p of each group 1 member.
+// The start of document 01's recursion: the product with p of each group 1 member.
 use fund::Fund;
 use fund::Life;
 use fund::ModelPoint;
-use rounding::UNIT;
-use whole::Sums;
 ghost use mathlib.Core.Path.{_≡_};
 ghost use mathlib.Core.Bool.{true};
-ghost use Prim.Native.Nat.{_*_, _^_, _<_, _≤_};
+ghost use Prim.Native.Nat.{_*_, _≤_};
 ghost use lib.ListN.{replicate};
 ghost use Rattle.fund.specs.Folding.{copies, claim, stay, single};
-ghost use Rattle.fund.specs.Limits.{most-load, most-rate, most-lives};
+ghost use Rattle.fund.specs.Limits.{most-rate, most-lives};
 ghost use Rattle.rounding.specs.Rounding.{near};
 ghost use Rattle.totals.specs.Table.{PointIn, Points};
-ghost use Rattle.totals.specs.Start.{most-t, most-c, nextC, TermsTo, SizeWith, Times, Multiplied};
-
-// The alternating sum of t(n) and the sum of c(n), n to 63.
-pub(crate) fn terms(lambda: u64) -> Sums
-    requires { ⌜ lambda ≤ most-load ⌝ }
-    ensures { λ r. ⌜ TermsTo lambda 64 r ⌝ }
-{
-    let mut s = Sums {
-        plus: 0,
-        minus: 0,
-        bound: 0,
-    };
-    let mut t = UNIT;
-    let mut c: u64 = 0;
-    let mut n: u64 = 0;
-    while n < 64 {
-        s = whole::with_part(s, n % 2 == 1, t, c);
-        n += 1;
-        t = next_term(t, lambda, n);
-        c = next_bound(c, lambda, n);
-    }
-    s
-}
-
-// t(n) from t(n-1): all are 0 from the first that is.
-fn next_term(t: u64, lambda: u64, n: u64) -> u64
-    requires { ⌜ (t ≤ most-t) × (lambda ≤ most-load) × (0 < n) ⌝ }
-    ensures { λ r. ⌜ r ≡ near (t * lambda) (n * 10 ^ 12) ⌝ }
-{
-    if t == 0 {
-        return 0;
-    }
-    rounding::nearest_per_units(t, lambda, n)
-}
-
-// c(n) from c(n-1): all are 0 if lambda is. The product is at most 1,000 times the largest load, so it is a word.
-fn next_bound(c: u64, lambda: u64, n: u64) -> u64
-    requires { ⌜ (c ≤ most-c) × (lambda ≤ most-load) × (0 < n) × (n ≤ 64) ⌝ }
-    ensures { λ r. ⌜ r ≡ nextC lambda c n ⌝ }
-{
-    if lambda == 0 {
-        return 0;
-    }
-    whole::up(c * lambda, n * UNIT) + 1
-}
+ghost use Rattle.start.specs.Terms.{most-t};
+ghost use Rattle.totals.specs.Product.{SizeWith, Times, Multiplied};
 
 // The magnitude of the product so far, and how many group 1 members are in it.
 pub(crate) struct Product {

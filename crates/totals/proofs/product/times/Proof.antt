@@ -8,8 +8,8 @@ use Rattle.rounding.specs.Word.{word}
 use Rattle.rounding.proofs.Word.{near-rounds, per-million-is}
 use Rattle.fund.specs.Folding.{stay}
 use Rattle.fund.specs.Limits.{most-rate}
-use Rattle.totals.proofs.start.times.Statement.{statement}
-use Rattle.totals.proofs.start.times.Tie as tie
+use Rattle.totals.proofs.product.times.Statement.{statement}
+use Rattle.totals.proofs.product.times.Tie as tie
 
 returns : tie.Need-returns
 returns c =

@@ -19,7 +19,7 @@ use Rattle.fund.specs.Recursion.{t, c}
 use Rattle.whole.specs.declared.Sums.{Sums}
 use Rattle.whole.specs.Sign.{signed}
 use Rattle.whole.specs.Sums.{WithPart}
-use Rattle.totals.specs.Start.{most-t, most-c, nextC, TermsTo}
+use Rattle.start.specs.Terms.{most-t, most-c, nextC, TermsTo}
 
 -- ---- bounds
 -- the first n values of a sequence are at most b, as one test

@@ -1,4 +1,4 @@
--- `totals::start::multiplied`: a walk that multiplies by p of each group 1 member. What is multiplied so far, multiplied on by the lives of the
+-- `totals::product::multiplied`: a walk that multiplies by p of each group 1 member. What is multiplied so far, multiplied on by the lives of the
 -- lines to come, is the whole product.
 use mathlib.Core.Path.{_≡_, refl, sym, _∙_, ap}
 use mathlib.Core.Bool.{Bool, true, false, true≢false}
@@ -26,21 +26,22 @@ use Rattle.widths.specs.Lives.{InRange}
 use Rattle.widths.specs.PartBounds.{by-group}
 use Rattle.widths.specs.Sums.{total-bound}
 use Rattle.whole.specs.Sign.{signed}
-use Rattle.totals.specs.declared.start.Product.{Product}
+use Rattle.totals.specs.declared.product.Product.{Product}
 use Rattle.totals.specs.Table.{PointIn, Points, members-of}
-use Rattle.totals.specs.Start.{most-t, countOne, Times, Multiplied}
+use Rattle.start.specs.Terms.{most-t}
+use Rattle.totals.specs.Product.{countOne, Times, Multiplied}
 use Rattle.walks.specs.WalkForm.{wordTy, Says, Extra, First, Facts}
 use Rattle.walks.specs.WalkTable.{meets}
 use Rattle.totals.proofs.PointElement.{point}
 use Rattle.totals.proofs.PointSums.{u64-local}
 use Rattle.totals.proofs.StartProduct.{multiplied-append}
-use Rattle.totals.proofs.start.Product as P
-use Rattle.totals.proofs.start.Product.Laws as P′
-use Rattle.totals.proofs.start.product_step.Symbol.{name as #step}
-use Rattle.totals.proofs.start.product_step.Met as step-thm
-use Rattle.totals.proofs.start.multiplied.Key.{name as #multiplied}
-use Rattle.totals.proofs.start.multiplied.Statement.{statement}
-use Rattle.totals.proofs.start.multiplied.Code as code
+use Rattle.totals.proofs.product.Product as P
+use Rattle.totals.proofs.product.Product.Laws as P′
+use Rattle.totals.proofs.product.product_step.Symbol.{name as #step}
+use Rattle.totals.proofs.product.product_step.Met as step-thm
+use Rattle.totals.proofs.product.multiplied.Key.{name as #multiplied}
+use Rattle.totals.proofs.product.multiplied.Statement.{statement}
+use Rattle.totals.proofs.product.multiplied.Code as code
 
 product-local : Extra P.the-row P′.mir
 product-local = record {

@@ -7,8 +7,8 @@ use borrow.Author.Needs.{needs}
 use Rattle.rounding.specs.Rounding.{near}
 use Rattle.rounding.proofs.Laws.{near-zero}
 use Rattle.rounding.proofs.Word.{near-rounds, per-units-is}
-use Rattle.totals.proofs.start.next_term.Statement.{statement}
-use Rattle.totals.proofs.start.next_term.Tie as tie
+use Rattle.start.proofs.next_term.Statement.{statement}
+use Rattle.start.proofs.next_term.Tie as tie
 
 returns : tie.Need-returns
 returns c =

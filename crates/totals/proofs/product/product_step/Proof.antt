@@ -9,11 +9,11 @@ use lib.ListN.{replicate}
 use Rattle.whole.specs.Sign.{signed}
 use Rattle.fund.specs.declared.ModelPoint.{ModelPoint}
 use Rattle.fund.specs.Folding.{single}
-use Rattle.totals.specs.declared.start.Product.{Product}
-use Rattle.totals.specs.Start.{SizeWith, Times}
+use Rattle.totals.specs.declared.product.Product.{Product}
+use Rattle.totals.specs.Product.{SizeWith, Times}
 use Rattle.totals.proofs.StartProduct.{times-none}
-use Rattle.totals.proofs.start.product_step.Statement.{statement}
-use Rattle.totals.proofs.start.product_step.Tie as tie
+use Rattle.totals.proofs.product.product_step.Statement.{statement}
+use Rattle.totals.proofs.product.product_step.Tie as tie
 
 single-times : (p : ModelPoint) (before r : Product) → single (p .life) ≡ true → SizeWith (replicate (p .lives) (p .life)) (before .size) (r .size) → r .singles ≡ before .singles + p .lives → Times p before r
 single-times p before r e z c = record { size-is = z; count-is = rw (e, N.mul-one) c }

@@ -6,13 +6,13 @@ use native.Mathlib.Numerals.{add-one}
 use native.Mathlib.Omega.{arith}
 use Rattle.rounding.specs.Rounding.{near}
 use Rattle.fund.specs.Recursion as R
-use Rattle.totals.specs.Start.{most-t, most-c, nextC, TermsTo}
+use Rattle.start.specs.Terms.{most-t, most-c, nextC, TermsTo}
 use borrow.Author.Needs.{needs}
 use Rattle.whole.specs.Sums.{PartFits}
 use Rattle.whole.proofs.Signs.{with-part-is}
-use Rattle.totals.proofs.Terms.{t-first, t-next, t-within, c-first, c-next, c-within, terms-none, terms-more}
-use Rattle.totals.proofs.start.terms.Statement.{statement}
-use Rattle.totals.proofs.start.terms.Tie as tie
+use Rattle.start.proofs.TermBounds.{t-first, t-next, t-within, c-first, c-next, c-within, terms-none, terms-more}
+use Rattle.start.proofs.terms.Statement.{statement}
+use Rattle.start.proofs.terms.Tie as tie
 
 abbrev Inv-loop : tie.InvT-loop
 Inv-loop lambda s₀ t₀ c₀ n₀ s t c n = (n ≤ 64) × (t ≡ R.t lambda n) × (c ≡ R.c lambda n) × TermsTo lambda n s

@@ -8,8 +8,8 @@ use lib.ListN.{replicate}
 use Rattle.fund.specs.Recursion.{multiplied}
 use Rattle.whole.specs.Sign.{signed}
 use Rattle.totals.proofs.StartProduct.{times-one, no-larger}
-use Rattle.totals.proofs.start.repeated.Statement.{statement}
-use Rattle.totals.proofs.start.repeated.Tie as tie
+use Rattle.totals.proofs.product.repeated.Statement.{statement}
+use Rattle.totals.proofs.product.repeated.Tie as tie
 
 abbrev Inv-loop : tie.InvT-loop
 Inv-loop size m lives product₀ left₀ product left = (product ≤ size) × ((s : Bool) → multiplied (signed s product) (replicate left m) ≡ multiplied (signed s size) (replicate lives m))
