@@ -2,10 +2,8 @@
 use fund::Figures;
 use fund::Fund;
 use fund::Limits;
-use fund::Member;
 use fund::ModelPoint;
 use fund::Quantile;
-use fund::Rate;
 use fund::Verdict;
 use matching::Matched;
 use reader::Part;
@@ -29,7 +27,7 @@ ghost use Rattle.spelling.specs.Text.{before, behindIf, NumbersOf};
 ghost use Rattle.spelling.specs.Level.{levelIn};
 ghost use Rattle.rows.specs.Read.{fileRead};
 ghost use Rattle.reader.specs.Part.{Spans};
-ghost use Rattle.matching.specs.Matching.{matchedTables};
+ghost use Rattle.matching.specs.Matching.{matchedRows};
 ghost use Rattle.recursion.specs.Recursion.{leftCells, recursion};
 ghost use Rattle.recursion_limits.specs.Tests.{tested};
 ghost use Rattle.tariff.specs.Gross.{grossOf};
@@ -90,16 +88,10 @@ pub fn claimed_part(file: &[u8], verdict: Verdict) -> Part
 }
 
 // Refusals 3 to 6, or the model points.
-pub fn claimed_match(
-    fund: Fund,
-    rates: [Rate; Fund::RATE_ROWS],
-    rated: usize,
-    members: [Member; Fund::MEMBER_ROWS],
-    enrolled: usize,
-) -> Matched
-    ensures { λ r. ⌜ r ≡ matchedTables fund rates rated members enrolled ⌝ }
+pub fn claimed_match(found: FileRead) -> Matched
+    ensures { λ r. ⌜ r ≡ matchedRows found ⌝ }
 {
-    matching::matched(fund, rates, rated, members, enrolled)
+    matching::matched(found)
 }
 
 // The load, the truncation figure, the mean and the start of the first n model points, or that something is outside its ranges.

@@ -18,6 +18,7 @@ use Rattle.fund.specs.Folding.{points}
 use Rattle.fund.specs.Refusals.{matched}
 use Rattle.fund.specs.Answer.{lent}
 use Rattle.laws.specs.Rows.{blankPoint}
+use Rattle.rows.specs.declared.FileRead.{FileRead}
 use Rattle.matching.specs.declared.table.Matched.{Matched}
 
 -- A table that begins with the given points and is blank behind them.
@@ -43,3 +44,7 @@ matchedTables fund rates rated members enrolled =
     if leb rated most-rates && leb enrolled most-members
     then matching (fileOf fund rates rated members enrolled)
     else withPoints [] (Refused Range 0)
+
+-- What was read, matched.
+abbrev pub matchedRows : FileRead → Matched
+matchedRows found = matchedTables (found .fund) (found .rates) (found .rated) (found .members) (found .enrolled)

@@ -4,14 +4,13 @@ mod points;
 mod table;
 
 use fund::Fund;
-use fund::Member;
-use fund::Rate;
 use fund::Refusal;
+use rows::FileRead;
 pub use table::Matched;
 ghost use mathlib.Core.Path.{_≡_};
 ghost use Prim.Native.Nat.{suc};
 ghost use lib.Dec.{ltb};
-ghost use Rattle.matching.specs.Matching.{matchedTables};
+ghost use Rattle.matching.specs.Matching.{matchedRows};
 
 // 4: the deductible is above X + 1, which is not formed, as it may not fit.
 fn is_above(deductible: u64, horizon: u64) -> bool
@@ -23,22 +22,17 @@ fn is_above(deductible: u64, horizon: u64) -> bool
     1 < deductible - horizon
 }
 
-// The first `rated` rows of one table and the first `enrolled` of the other, with the header.
-pub fn matched(
-    fund: Fund,
-    rates: [Rate; Fund::RATE_ROWS],
-    rated: usize,
-    members: [Member; Fund::MEMBER_ROWS],
-    enrolled: usize,
-) -> Matched
-    ensures { λ r. ⌜ r ≡ matchedTables fund rates rated members enrolled ⌝ }
+// What was read, matched: the first `rated` rows of one table and the first `enrolled` of the other, with the header.
+pub fn matched(found: FileRead) -> Matched
+    ensures { λ r. ⌜ r ≡ matchedRows found ⌝ }
 {
-    if Fund::RATE_ROWS < rated {
+    if Fund::RATE_ROWS < found.rated {
         return table::without_points(Refusal::Range, 0);
     }
-    if Fund::MEMBER_ROWS < enrolled {
+    if Fund::MEMBER_ROWS < found.enrolled {
         return table::without_points(Refusal::Range, 0);
     }
+    let fund = found.fund;
     if fund.rates != fund.members {
         return table::without_points(Refusal::Edition, 0);
     }
@@ -46,6 +40,6 @@ pub fn matched(
         return table::without_points(Refusal::Deductible, 0);
     }
     // the header lines and the rate lines stand before the first member
-    let line = Fund::HEADER_LINES as u64 + rated as u64 + 1;
-    points::by_member(rates, rated, members, enrolled, line)
+    let line = Fund::HEADER_LINES as u64 + found.rated as u64 + 1;
+    points::by_member(found, line)
 }

@@ -9,6 +9,7 @@ use fund::ModelPoint;
 use fund::Rate;
 use fund::Refusal;
 use fund::Verdict;
+use rows::FileRead;
 ghost use mathlib.Core.Path.{_≡_};
 ghost use mathlib.Core.Option.{some};
 ghost use Prim.Native.Nat.{_+_, _^_, _≤_, _<_};
@@ -44,25 +45,19 @@ fn folded(r: Rate, m: Member) -> Life
 // 5, then 6, each over all members, or the model points. The first j rows are not above the member k's age: the last of these is in force where the
 // row j is above it, or there is none. `line` is the line of the first member, and `half_at` the place of the first line of 6, 0 while
 // there is none.
-pub(crate) fn by_member(
-    rates: [Rate; Fund::RATE_ROWS],
-    rated: usize,
-    members: [Member; Fund::MEMBER_ROWS],
-    enrolled: usize,
-    line: u64,
-) -> Matched
-    requires { ⌜ (rated ≤ most-rates) × (enrolled ≤ most-members) × (0 < line) × (line + enrolled < 2 ^ 64) ⌝ }
-    ensures { λ r. ⌜ r ≡ byMember (take rated rates) (take enrolled members) line ⌝ }
+pub(crate) fn by_member(found: FileRead, line: u64) -> Matched
+    requires { ⌜ (found .rated ≤ most-rates) × (found .enrolled ≤ most-members) × (0 < line) × (line + found .enrolled < 2 ^ 64) ⌝ }
+    ensures { λ r. ⌜ r ≡ byMember (take (found .rated) (found .rates)) (take (found .enrolled) (found .members)) line ⌝ }
 {
     let none = table::no_point();
     let mut points = [none; Fund::MEMBER_ROWS];
     let mut half_at: u64 = 0;
     let mut k: usize = 0;
     let mut j: usize = 0;
-    while k < enrolled {
-        let m = members[k];
-        if j < rated {
-            let next = rates[j];
+    while k < found.enrolled {
+        let m = found.members[k];
+        if j < found.rated {
+            let next = found.rates[j];
             if next.age <= m.age {
                 j += 1;
                 continue;
@@ -71,7 +66,7 @@ pub(crate) fn by_member(
         if j == 0 {
             return table::without_points(Refusal::Unmatched, line + k as u64);
         }
-        let r = rates[j - 1];
+        let r = found.rates[j - 1];
         let life = folded(r, m);
         half_at = half::first_place(half_at, life, line + k as u64);
         points[k] = ModelPoint {

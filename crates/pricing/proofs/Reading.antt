@@ -22,7 +22,7 @@ use Rattle.laws.specs.Rows.{blankRate, blankMember, blankPoint, rows-back}
 use Rattle.rows.specs.declared.FileRead.{FileRead}
 use Rattle.rows.specs.Read.{rateTable, memberTable, fileRead}
 use Rattle.matching.specs.declared.table.Matched.{Matched}
-use Rattle.matching.specs.Matching.{pointTable, withPoints, matching, matchedTables}
+use Rattle.matching.specs.Matching.{pointTable, withPoints, matching, matchedTables, matchedRows}
 use Rattle.pricing.specs.Priced.{MatchedFund}
 
 -- ---- what was read
@@ -59,7 +59,7 @@ module _ (r : Reading) (found : FileRead) (e : found ≡ fileRead r) where
         rows-back blankMember most-members (fund .members),
       )
 
-  matched-fund : ((fund : FundFile) → r ≡ read fund → FundOk fund) → (m : Matched) → m ≡ matchedTables (found .fund) (found .rates) (found .rated) (found .members) (found .enrolled) → found .verdict ≡ Accepted → (x : Reading) → r ≡ x → MatchedFund r (found .fund) m (found .enrolled)
+  matched-fund : ((fund : FundFile) → r ≡ read fund → FundOk fund) → (m : Matched) → m ≡ matchedRows found → found .verdict ≡ Accepted → (x : Reading) → r ≡ x → MatchedFund r (found .fund) m (found .enrolled)
   unfolding fileRead
   matched-fund inside m k v (read fund) z =
       let w : found ≡ fileRead (read fund) = e ∙ ap fileRead z in
@@ -68,7 +68,7 @@ module _ (r : Reading) (found : FileRead) (e : found ≡ fileRead r) where
         is = z;
         ok = inside fund z;
         header = ap (λ (x : FileRead). x .fund) w;
-        matched = k ∙ ap (λ (x : FileRead). matchedTables (x .fund) (x .rates) (x .rated) (x .members) (x .enrolled)) w ∙ tables-back fund (inside fund z);
+        matched = k ∙ ap matchedRows w ∙ tables-back fund (inside fund z);
         members = ap (λ (x : FileRead). x .enrolled) w;
       }
   matched-fund inside m k v (stopped why place) z =
@@ -77,7 +77,7 @@ module _ (r : Reading) (found : FileRead) (e : found ≡ fileRead r) where
       let n : _≡_ {A = ℕ} 0 1 = cc in
       absurd (omega arith)
 
-  pub read-matched : ((fund : FundFile) → r ≡ read fund → FundOk fund) → (m : Matched) → m ≡ matchedTables (found .fund) (found .rates) (found .rated) (found .members) (found .enrolled) → found .verdict ≡ Accepted → MatchedFund r (found .fund) m (found .enrolled)
+  pub read-matched : ((fund : FundFile) → r ≡ read fund → FundOk fund) → (m : Matched) → m ≡ matchedRows found → found .verdict ≡ Accepted → MatchedFund r (found .fund) m (found .enrolled)
   read-matched inside m k v = matched-fund inside m k v r refl
 
 -- ---- what 3 to 6 answered

@@ -21,7 +21,7 @@ use Rattle.fund.specs.Listing.{horizonIn}
 use Rattle.fund.specs.Distance.{WithinBounds, AverageExcess, NeverBelow, QuantileWithin}
 use Rattle.laws.specs.Ranges.{FundOk}
 use Rattle.matching.specs.declared.table.Matched.{Matched}
-use Rattle.matching.specs.Matching.{matching, matchedTables}
+use Rattle.matching.specs.Matching.{matching, matchedRows}
 use Rattle.rows.specs.declared.FileRead.{FileRead}
 use Rattle.valuation.specs.declared.Valued.{Valued}
 use Rattle.valuation.specs.Valued.{valuation}
@@ -88,11 +88,8 @@ abbrev pub valuedOf : Fund → Matched → ℕ → Lengths → Answer
 valuedOf fund m enrolled n = valuedBy fund (m .points) enrolled n (m .verdict)
 
 -- Where reading stopped, its refusal; else what 3 to 6 and the valuation answer of the tables, with the line of the verdict.
-abbrev pub matchedOf : FileRead → Matched
-matchedOf found = matchedTables (found .fund) (found .rates) (found .rated) (found .members) (found .enrolled)
-
 abbrev pub readBy : List ℕ → FileRead → Lengths → Verdict → Answer
-readBy text found n Accepted = lined text (valuedOf (found .fund) (matchedOf found) (found .enrolled) n)
+readBy text found n Accepted = lined text (valuedOf (found .fund) (matchedRows found) (found .enrolled) n)
 readBy text found n (Refused why place) = refused text n (Refused why place)
 
 abbrev pub readAnswer : List ℕ → FileRead → Lengths → Answer

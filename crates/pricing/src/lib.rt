@@ -12,7 +12,7 @@ ghost use Rattle.fund.specs.Reading.{reading};
 ghost use Rattle.fund.specs.Quantile.{quantileOf};
 ghost use Rattle.fund.specs.Sheets.{sheetReading};
 ghost use Rattle.valuation.specs.Valued.{leftValued, lengths};
-ghost use Rattle.pricing.specs.Priced.{leftPriced, horizonWith, Told, matchedOf, valuedOf, Prices, PricesRead, lineOf};
+ghost use Rattle.pricing.specs.Priced.{leftPriced, horizonWith, Told, valuedOf, Prices, PricesRead, lineOf};
 
 // What a call answers beside the result slices: the verdict, where the part of the host's bytes that goes with it starts and
 // ends, the horizon of a fund that is accepted, the figures, and the answer at the level.
@@ -62,15 +62,6 @@ fn told(file: &[u8], level: u64, horizon: u64, value: Valued, sums: &[i64]) -> P
         figures,
         quantile,
     }
-}
-
-// The rows that were read, matched. They are copied here alone, so that their room is free again for the valuation.
-fn matched_rows(found: FileRead) -> Matched
-    ensures { λ m. ⌜ m ≡ matchedOf found ⌝ }
-{
-    let rates = found.rates;
-    let members = found.members;
-    matching::matched(found.fund, rates, found.rated, members, found.enrolled)
 }
 
 // Where 3 to 6 stop, their refusal, and else the valuation of the model points.
@@ -125,7 +116,7 @@ pub fn price_read(
         Verdict::Accepted => {
             let fund = found.fund;
             let enrolled = found.enrolled;
-            let matched = matched_rows(found);
+            let matched = matching::matched(found);
             let value = valued(fund, matched, enrolled, transform, h, f, r, sums);
             told(text, level, fund.horizon, value, &sums[..])
         }

@@ -26,7 +26,7 @@ returns-2 c =
     let a = told .before .before .before .before .before .args in
     let n = lengths (a .transform .now) (a .h .now) (a .f .now) (a .r .now) (a .sums .now) in
     tells-read (a .text .now) (a .found) (a .level) n _ (done .valued .result) _ _ _ _ _ _ (c .told2 .ensures)
-    (ap (lined (a .text .now)) (done .valued .ensures ∙ ap (λ x. valuedOf (a .found .fund) x (a .found .enrolled) n) (m .matched-rows .ensures)) ∙ sym (ap (readBy (a .text .now) (a .found) n) (told .enum-told .given .1)))
+    (ap (lined (a .text .now)) (done .valued .ensures ∙ ap (λ x. valuedOf (a .found .fund) x (a .found .enrolled) n) (m .matched .ensures)) ∙ sym (ap (readBy (a .text .now) (a .found) n) (told .enum-told .given .1)))
     refl
 
 pub price-read-spec : {M : Type 1} → statement M

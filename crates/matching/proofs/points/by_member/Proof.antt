@@ -1,9 +1,11 @@
 -- `matching::points::by_member`: one law for each way through the loop. A turn takes a member, or a rate row that is not above its age.
+use mathlib.Core.Path.{_≡_, sym, _∙_}
 use mathlib.Core.Logic.{⊎-elim}
 use Prim.Native.Nat.{suc, _+_, _-_, _*_}
 use native.Mathlib.Omega.{arith}
 use borrow.Author.Needs.{needs}
-use Rattle.fund.specs.Limits.{most-rates}
+use lib.ListN.{length, length-map}
+use Rattle.fund.specs.Limits.{most-rates, most-members}
 use Rattle.fund.specs.Answer.{lent}
 use Rattle.matching.specs.Matching.{pointTable}
 use Rattle.matching.proofs.PointsSoFar.{PointsSoFar, start, points-long, next-rate, no-rate, its-rate, half-found, all-points}
@@ -11,16 +13,20 @@ use Rattle.matching.proofs.points.by_member.Statement.{statement}
 use Rattle.matching.proofs.points.by_member.Tie as tie
 
 abbrev Inv-loop : tie.InvT-loop
-Inv-loop rated enrolled line rates members points₀ half-at₀ k₀ j₀ points half-at k j = PointsSoFar rates rated members enrolled line points half-at k j
+Inv-loop line found points₀ half-at₀ k₀ j₀ points half-at k j = PointsSoFar (found .rates) (found .rated) (found .members) (found .enrolled) line points half-at k j
 
 abbrev μ-loop : tie.MeasureT-loop
-μ-loop rated enrolled line rates members points₀ half-at₀ k₀ j₀ points half-at k j = (enrolled - k) * suc most-rates + (rated - j)
+μ-loop line found points₀ half-at₀ k₀ j₀ points half-at k j = (found .enrolled - k) * suc most-rates + (found .rated - j)
 
 loop-holds : tie.Need-loop-holds Inv-loop μ-loop
 unfolding pointTable lent
 loop-holds c =
-    let a = c .before .args in
-    rw (c .no-point .ensures) (start (a .t1) (a .rated) (a .t3) (a .enrolled) (a .line) (omega arith) (omega arith) (omega arith))
+    let s = c .before in
+    let found = s .args .t1 in
+    let rates-long : length (found .rates) ≡ most-rates = sym (length-map (found .rates) _) ∙ s .good .0 .1 .1 .1 .1 .0 .1 .0 .1 in
+    let members-long : length (found .members) ≡ most-members = sym (length-map (found .members) _) ∙ s .good .0 .1 .1 .1 .1 .1 .1 .0 .1 .0 .1 in
+    rw (c .no-point .ensures)
+    (start (found .rates) (found .rated) (found .members) (found .enrolled) (s .args .line) (omega (arith, rates-long)) (omega (arith, members-long)) members-long)
 
 loop-again : tie.Need-loop-again Inv-loop μ-loop
 loop-again c = next-rate (c .before .before .before .before .before .before .before .loop .inv) (omega arith) (omega arith) (omega arith)
