@@ -4,15 +4,15 @@ use fund::Rate;
 use fund::Refusal;
 use fund::SheetRow;
 use fund_printing::Asked;
+use lines::Header;
 use pricing::Priced;
-use reader::Header;
 use rows::FileRead;
 ghost use mathlib.Core.Path.{_≡_};
 ghost use Rattle.fund.specs.Reading.{stopped, between};
 ghost use Rattle.fund.specs.SheetCells.{rateRowOf, memberRowOf};
 ghost use Rattle.fund.specs.Sheets.{sheetReading};
 ghost use Rattle.valuation.specs.Valued.{lengths};
-ghost use Rattle.reader.specs.Header.{HeaderRead};
+ghost use Rattle.lines.specs.Header.{HeaderRead};
 ghost use Rattle.rows.specs.Rows.{rateFits, memberFits};
 ghost use Rattle.rows.specs.Read.{fileRead};
 ghost use Rattle.claims.specs.Demands.{Demands};
@@ -104,7 +104,7 @@ pub fn claimed_read_sheets(header: &[u8], rates: &[u8], members: &[u8]) -> FileR
 pub fn claimed_header(text: &[u8]) -> Header
     ensures { λ h. ⌜ HeaderRead (now (text .entry)) h ⌝ }
 {
-    reader::read_header(text)
+    lines::read_header(text)
 }
 
 // A refusal without rows.

@@ -5,8 +5,9 @@ use fund::Limits;
 use fund::ModelPoint;
 use fund::Quantile;
 use fund::Verdict;
+use lines::Part;
+use lines::Row;
 use matching::Matched;
-use reader::Part;
 use recursion::Recursed;
 use rows::FileRead;
 use spelling::Argument;
@@ -26,7 +27,8 @@ ghost use Rattle.fund.specs.Answer.{part, refused};
 ghost use Rattle.spelling.specs.Text.{before, behindIf, NumbersOf};
 ghost use Rattle.spelling.specs.Level.{levelIn};
 ghost use Rattle.rows.specs.Read.{fileRead};
-ghost use Rattle.reader.specs.Part.{Spans};
+ghost use Rattle.lines.specs.Row.{RowIs};
+ghost use Rattle.lines.specs.Part.{Spans};
 ghost use Rattle.matching.specs.Matching.{matchedRows};
 ghost use Rattle.recursion.specs.Recursion.{leftCells, recursion};
 ghost use Rattle.recursion_limits.specs.Tests.{tested};
@@ -80,11 +82,18 @@ pub fn claimed_read(file: &[u8]) -> FileRead
     reader::read(file)
 }
 
+// What a line behind the header says, and where the next one starts.
+pub fn claimed_row(file: &[u8], at: usize) -> Row
+    ensures { λ r. ⌜ RowIs (now (file .entry)) at r ⌝ }
+{
+    lines::row_at(file, at)
+}
+
 // The line of a verdict.
 pub fn claimed_part(file: &[u8], verdict: Verdict) -> Part
     ensures { λ r. ⌜ Spans (now (file .entry)) (part (now (file .entry)) verdict) r ⌝ }
 {
-    reader::part_of(file, verdict)
+    lines::part_of(file, verdict)
 }
 
 // Refusals 3 to 6, or the model points.

@@ -51,7 +51,7 @@ fn told(file: &[u8], level: u64, horizon: u64, value: Valued, sums: &[i64]) -> P
 {
     let verdict = value.verdict;
     let figures = value.figures;
-    let line = reader::part_of(file, verdict);
+    let line = lines::part_of(file, verdict);
     let horizon = horizon_of(verdict, horizon);
     let quantile = quantile_of(verdict, level, horizon, sums);
     Priced {

@@ -8,8 +8,8 @@ use fund::Verdict;
 use rows::FileRead;
 ghost use mathlib.Core.Path.{_≡_};
 ghost use Rattle.fund.specs.Reading.{reading};
-ghost use Rattle.reader.specs.declared.header.Header.the-variants.{Whole};
-ghost use Rattle.reader.specs.Header.{HeaderRead};
+ghost use Rattle.lines.specs.declared.header.Header.the-variants.{Whole};
+ghost use Rattle.lines.specs.Header.{HeaderRead};
 ghost use Rattle.rows.specs.Read.{fileRead};
 
 // Every row from `start` on, behind the header.

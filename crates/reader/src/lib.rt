@@ -1,14 +1,8 @@
 // From the bytes of a fund file to its header, rate rows and member rows, or the refusal and its line.
 mod body;
-mod header;
-mod line;
-mod part;
 mod row;
 
-pub use header::Header;
-pub use header::read_header;
-pub use part::Part;
-pub use part::part_of;
+use lines::Header;
 use rows::FileRead;
 ghost use mathlib.Core.Path.{_≡_};
 ghost use Rattle.fund.specs.Reading.{reading};
@@ -18,7 +12,7 @@ ghost use Rattle.rows.specs.Read.{fileRead};
 pub fn read(file: &[u8]) -> FileRead
     ensures { λ r. ⌜ r ≡ fileRead (reading (now (file .entry))) ⌝ }
 {
-    match header::read_header(file) {
+    match lines::read_header(file) {
         Header::Whole(fund, at) => body::read_rows(file, fund, at),
         Header::Stopped(why, place) => rows::without_rows(why, place),
     }

@@ -1,5 +1,6 @@
 -- Where reading the rows stands, of a file or of sheets: the tables hold the rows that are read, and the reading is what is left behind them.
 use mathlib.Core.Path.{_≡_, refl, sym, ap, _∙_}
+use mathlib.Core.Bool.{true}
 use mathlib.Core.List.{List, [], _∷_, _++_}
 use Prim.Native.Nat.{ℕ, _+_, _≤_, _<_}
 use native.Mathlib.Numerals.{add-one}
@@ -10,15 +11,15 @@ use Rattle.fund.specs.declared.Rate.{Rate}
 use Rattle.fund.specs.declared.Member.{Member}
 use Rattle.fund.specs.declared.Refusal.{Refusal}
 use Rattle.fund.specs.declared.Verdict.the-variants.{Accepted}
-use Rattle.fund.specs.Limits.{most-rates, most-members}
+use Rattle.fund.specs.Limits.{most-rates, most-age, most-members, most-lives}
 use Rattle.fund.specs.Base.{total}
 use Rattle.fund.specs.Reading.{Reading, read, stopped, livesInAll}
-use Rattle.laws.specs.Ranges.{lives-more}
+use Rattle.laws.specs.Ranges.{rate-ok, lives-more, member-ok}
 use Rattle.laws.specs.Rows.{blankRate, blankMember, rows-length, rows-put}
 use Rattle.rows.specs.declared.FileRead.{FileRead}
 use Rattle.rows.specs.Read.{rateTable, memberTable, fileRead}
-use Rattle.rows.specs.Rows.{leastAge, Counted, Behind, Leads}
-use Rattle.rows.proofs.Rows.{least-last}
+use Rattle.rows.specs.Rows.{leastAge, rateFits, memberFits, Counted, Behind, Leads}
+use Rattle.rows.proofs.Rows.{least-last, rate-fits, member-fits}
 
 pub record RowsSoFar (whole : Reading) (left : Behind) (rates : List Rate) (members : List Member) (rated enrolled least lives : ℕ) : Type 0 where
   pub rs : List Rate
@@ -53,14 +54,26 @@ module _ (whole : Reading) (left : Behind) (rates : List Rate) (members : List M
   unfolding memberTable
   members-long = ap length (s .members-are) ∙ rows-length blankMember most-members (s .ms) (omega (arith, s .counted .enrolled-is, s .few-members))
 
+  -- A row that fits has its place in the table.
+  pub rate-room : (r : Rate) → rateFits rated least r ≡ true → (rated < most-rates) × (r .age ≤ most-age)
+  rate-room r f =
+      let h = rate-ok (s .rs) r (rate-fits (s .rs) (s .ms) _ _ _ _ (s .counted) r ∙ f) in
+      (omega (arith, h .0, s .counted .rated-is), h .1 .1 .age)
+
+  pub member-room : (m : Member) → memberFits enrolled lives m ≡ true → (enrolled < most-members) × (lives + m .lives ≤ most-lives)
+  member-room m f =
+      let h = member-ok (s .ms) m (member-fits (s .rs) (s .ms) _ _ _ _ (s .counted) m ∙ f) in
+      (omega (arith, h .0, s .counted .enrolled-is), omega (arith, h .1 .0, s .counted .lives-are))
+
   after : (to : Behind) → Leads rated enrolled least lives left to → whole ≡ to (s .rs) (s .ms)
   after to w = s .same ∙ w (s .rs) (s .ms) (s .counted)
 
-  pub rate-taken : (next : Behind) (r : Rate) → rated < most-rates → Leads rated enrolled least lives left (λ rs ms. next (rs ++ (r ∷ [])) ms) →
+  pub rate-taken : (next : Behind) (r : Rate) → rateFits rated least r ≡ true → Leads rated enrolled least lives left (λ rs ms. next (rs ++ (r ∷ [])) ms) →
       RowsSoFar whole next (set rates rated r) members (rated + 1) enrolled (r .age + 1) lives
   unfolding rateTable
-  rate-taken next r few w =
+  rate-taken next r f w =
       let n = s .counted in
+      let few = rate-room r f .0 in
       record {
         rs = s .rs ++ (r ∷ []);
         ms = s .ms;
@@ -78,11 +91,12 @@ module _ (whole : Reading) (left : Behind) (rates : List Rate) (members : List M
         same = after _ w;
       }
 
-  pub member-taken : (next : Behind) (m : Member) → enrolled < most-members → Leads rated enrolled least lives left (λ rs ms. next rs (ms ++ (m ∷ []))) →
+  pub member-taken : (next : Behind) (m : Member) → memberFits enrolled lives m ≡ true → Leads rated enrolled least lives left (λ rs ms. next rs (ms ++ (m ∷ []))) →
       RowsSoFar whole next rates (set members enrolled m) rated (enrolled + 1) least (lives + m .lives)
   unfolding memberTable
-  member-taken next m few w =
+  member-taken next m f w =
       let n = s .counted in
+      let few = member-room m f .0 in
       record {
         rs = s .rs;
         ms = s .ms ++ (m ∷ []);

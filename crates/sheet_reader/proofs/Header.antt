@@ -10,9 +10,9 @@ use Rattle.fund.specs.declared.Refusal.the-variants.{Form}
 use Rattle.fund.specs.Lines.{linesFrom}
 use Rattle.fund.specs.Reading.{stopped, headerLines}
 use Rattle.fund.specs.Sheets.{sheetRows, readSheetRows, readSheets, sheetReading}
-use Rattle.reader.specs.declared.header.Header.the-variants.{Whole, Stopped}
-use Rattle.reader.specs.Header.{HeaderRead}
-use Rattle.reader.proofs.Lines.{line-left}
+use Rattle.lines.specs.declared.header.Header.the-variants.{Whole, Stopped}
+use Rattle.lines.specs.Header.{HeaderRead}
+use Rattle.lines.proofs.Lines.{line-left}
 use Rattle.sheet_reader.specs.Rows.{rowsLeft, rowsFrom}
 
 module _ (header rates members : List ℕ) where

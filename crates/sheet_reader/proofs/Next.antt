@@ -19,7 +19,7 @@ use Rattle.fund.specs.Sheets.{rowCount, rowAt, rowsOf, readSheetRows}
 use Rattle.laws.specs.Tables.{length-table, getD-table}
 use Rattle.laws.specs.TakenRows.{NoMember, NoRate, rate-row, member-row}
 use Rattle.rows.specs.Rows.{linePlace, rateFits, memberFits}
-use Rattle.rows.proofs.Rows.{rate-fits, member-fits, fits-rated, fits-enrolled}
+use Rattle.rows.proofs.Rows.{rate-fits, member-fits}
 use Rattle.sheet_reader.specs.declared.body.RowStep.the-variants.{Rate as RateNext, Member as MemberNext, End, Stopped}
 use Rattle.sheet_reader.specs.Rows.{RowEnd, rowsLeft, Rest, NextOf, rowsFrom, RowStepped, rowStep}
 
@@ -121,7 +121,7 @@ module _ (rates members : List ℕ) (rated enrolled least lives : ℕ) where
       go : (b : Bool) → rateFits rated least r ≡ b → RowStepped rates members rated enrolled least lives (elim b [ true ↦ RateNext r | false ↦ Stopped Range (length headerLines + (rated + enrolled + 1)) ])
       go true f =
           record {
-            takes = fits-rated rated least r f;
+            takes = f;
             same = λ fund rs ms n.
                 let l : length (rs ++ (r ∷ [])) ≡ suc rated = omega (arith, length-append rs (r ∷ []), n .rated-is) in
                 let z : suc (linePlace rated enrolled) ≡ linePlace (suc rated) enrolled = omega arith in
@@ -139,7 +139,7 @@ module _ (rates members : List ℕ) (rated enrolled least lives : ℕ) where
       go : (b : Bool) → memberFits enrolled lives m ≡ b → RowStepped rates members rated enrolled least lives (elim b [ true ↦ MemberNext m | false ↦ Stopped Range (length headerLines + (rated + enrolled + 1)) ])
       go true f =
           record {
-            takes = fits-enrolled enrolled lives m f;
+            takes = f;
             same = λ fund rs ms n.
                 let l : length (ms ++ (m ∷ [])) ≡ suc enrolled = omega (arith, length-append ms (m ∷ []), n .enrolled-is) in
                 let z : suc (linePlace rated enrolled) ≡ linePlace rated (suc enrolled) = omega arith in

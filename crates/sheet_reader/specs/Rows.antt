@@ -5,12 +5,9 @@ use mathlib.Core.List.{List, [], _∷_, _++_, map}
 use Prim.Native.Nat.{ℕ, suc, _+_, _-_, _≤_, _<_}
 use lib.ListN.{length, drop}
 use Rattle.fund.specs.declared.Fund.{Fund}
-use Rattle.fund.specs.declared.Rate.{Rate}
-use Rattle.fund.specs.declared.Member.{Member}
 use Rattle.fund.specs.declared.Refusal.the-variants.{Range, Cell as CellRefusal}
 use Rattle.fund.specs.declared.SheetRow.{SheetRow}
 use Rattle.fund.specs.declared.SheetRow.the-variants.{Rate as RateRow, Member as MemberRow, NotTaken}
-use Rattle.fund.specs.Limits.{most-rates, most-age, most-members, most-lives}
 use Rattle.fund.specs.Reading.{read, stopped, headerLines}
 use Rattle.fund.specs.SheetCells.{rate-width, member-width, rateRowOf, memberRowOf}
 use Rattle.fund.specs.Sheets.{rowsOf, readSheetRows}
@@ -58,16 +55,16 @@ module _ (rates members : List ℕ) where
   afterRow fund End rs ms = read (record { header = fund; rates = rs; members = ms })
   afterRow fund (Stopped why place) rs ms = stopped why place
 
--- A row that is taken has its place in the table.
-abbrev pub Takes : ℕ → ℕ → ℕ → RowStep → Type 0
-Takes rated enrolled lives (RateNext r) = (rated < most-rates) × (r .age ≤ most-age)
-Takes rated enrolled lives (MemberNext m) = (enrolled < most-members) × (lives + m .lives ≤ most-lives)
-Takes rated enrolled lives End = Unit {0}
-Takes rated enrolled lives (Stopped why place) = Unit {0}
+-- A row fits behind those before it.
+abbrev pub Takes : ℕ → ℕ → ℕ → ℕ → RowStep → Type 0
+Takes rated enrolled least lives (RateNext r) = rateFits rated least r ≡ true
+Takes rated enrolled least lives (MemberNext m) = memberFits enrolled lives m ≡ true
+Takes rated enrolled least lives End = Unit {0}
+Takes rated enrolled least lives (Stopped why place) = Unit {0}
 
 -- The next row decides how the sheets are read, whatever rows of these counts and lives stand before it.
 pub record RowStepped (rates members : List ℕ) (rated enrolled least lives : ℕ) (step : RowStep) : Type 0 where
-  pub takes : Takes rated enrolled lives step
+  pub takes : Takes rated enrolled least lives step
   pub same : (fund : Fund) → Leads rated enrolled least lives (rowsFrom rates members fund) (afterRow rates members fund step)
 
 -- What a row gives behind so many others.

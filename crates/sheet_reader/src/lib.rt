@@ -3,7 +3,7 @@ mod body;
 
 use fund::Fund;
 use fund::Refusal;
-use reader::Header;
+use lines::Header;
 use rows::FileRead;
 ghost use mathlib.Core.Path.{_≡_};
 ghost use Rattle.fund.specs.Sheets.{sheetReading};
@@ -13,7 +13,7 @@ ghost use Rattle.rows.specs.Read.{fileRead};
 pub fn read(header: &[u8], rates: &[u8], members: &[u8]) -> FileRead
     ensures { λ r. ⌜ r ≡ fileRead (sheetReading (now (header .entry)) (now (rates .entry)) (now (members .entry))) ⌝ }
 {
-    match reader::read_header(header) {
+    match lines::read_header(header) {
         Header::Whole(fund, at) => {
             if at < header.len() {
                 return rows::without_rows(Refusal::Form, Fund::HEADER_LINES as u64 + 1);

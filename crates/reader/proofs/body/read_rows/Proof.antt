@@ -7,9 +7,9 @@ use borrow.Author.Needs.{needs}
 use lib.ListN.{length}
 use Rattle.fund.specs.Reading.{headerLines, fileRows, readRows, reading}
 use Rattle.fund.specs.Answer.{lent}
+use Rattle.lines.specs.Lines.{linesAt}
 use Rattle.rows.specs.Read.{rateTable, memberTable}
-use Rattle.rows.proofs.RowsSoFar.{RowsSoFar, start, rates-long, members-long, rate-taken, member-taken, at-end, at-stop}
-use Rattle.reader.specs.Lines.{linesAt}
+use Rattle.rows.proofs.RowsSoFar.{RowsSoFar, start, rates-long, members-long, rate-room, member-room, rate-taken, member-taken, at-end, at-stop}
 use Rattle.reader.specs.Rows.{rowsFrom}
 use Rattle.reader.proofs.body.read_rows.Statement.{statement}
 use Rattle.reader.proofs.body.read_rows.Tie as tie
@@ -37,7 +37,7 @@ array-set-from-rates : tie.Need-array-set-from-rates Inv-loop μ-loop
 array-set-from-rates c =
     let l = c .before .before .before .before .loop in
     let w = rw (c .before .r .given .1) at (c .before .before .before .row-step .ensures) in
-    omega (arith, w .takes .0 .few, rates-long _ _ _ _ _ _ _ _ (l .inv))
+    omega (arith, rate-room _ _ _ _ _ _ _ _ (l .inv) _ (w .takes .0), rates-long _ _ _ _ _ _ _ _ (l .inv))
 
 add-rated : tie.Need-add-rated Inv-loop μ-loop
 add-rated c = omega (arith, c .before .before .before .before .loop .inv .few-rates)
@@ -45,17 +45,17 @@ add-rated c = omega (arith, c .before .before .before .before .loop .inv .few-ra
 add-least : tie.Need-add-least Inv-loop μ-loop
 add-least c =
     let w = rw (c .before .before .r .given .1) at (c .before .before .before .before .row-step .ensures) in
-    omega (arith, w .takes .1)
+    omega (arith, rate-room _ _ _ _ _ _ _ _ (c .before .before .before .before .before .loop .inv) _ (w .takes .0))
 
 loop-less : tie.Need-loop-less Inv-loop μ-loop
 loop-less c =
     let w = rw (c .before .before .r .given .1) at (c .before .before .before .before .row-step .ensures) in
-    omega (arith, w .takes .0 .later, w .takes .0 .inside)
+    omega (arith, w .takes)
 
 loop-again : tie.Need-loop-again Inv-loop μ-loop
 loop-again c =
     let w = rw (c .before .before .r .given .1) at (c .before .before .before .before .row-step .ensures) in
-    rate-taken _ _ _ _ _ _ _ _ (c .before .before .before .before .before .loop .inv) _ _ (w .takes .0 .few) (w .same _)
+    rate-taken _ _ _ _ _ _ _ _ (c .before .before .before .before .before .loop .inv) _ _ (w .takes .0) (w .same _)
 
 mul-members : tie.Need-mul-members Inv-loop μ-loop
 mul-members c = omega (arith, c .before .before .before .before .loop .inv .few-members)
@@ -64,7 +64,7 @@ array-set-from-members : tie.Need-array-set-from-members Inv-loop μ-loop
 array-set-from-members c =
     let l = c .before .before .before .before .loop in
     let w = rw (c .before .m .given .1) at (c .before .before .before .row-step .ensures) in
-    omega (arith, w .takes .0 .few, members-long _ _ _ _ _ _ _ _ (l .inv))
+    omega (arith, member-room _ _ _ _ _ _ _ _ (l .inv) _ (w .takes .0), members-long _ _ _ _ _ _ _ _ (l .inv))
 
 add-enrolled : tie.Need-add-enrolled Inv-loop μ-loop
 add-enrolled c = omega (arith, c .before .before .before .before .loop .inv .few-members)
@@ -72,17 +72,17 @@ add-enrolled c = omega (arith, c .before .before .before .before .loop .inv .few
 add-lives : tie.Need-add-lives Inv-loop μ-loop
 add-lives c =
     let w = rw (c .before .before .m .given .1) at (c .before .before .before .before .row-step .ensures) in
-    omega (arith, w .takes .1)
+    omega (arith, member-room _ _ _ _ _ _ _ _ (c .before .before .before .before .before .loop .inv) _ (w .takes .0))
 
 loop-less-2 : tie.Need-loop-less-2 Inv-loop μ-loop
 loop-less-2 c =
     let w = rw (c .before .before .m .given .1) at (c .before .before .before .before .row-step .ensures) in
-    omega (arith, w .takes .0 .later, w .takes .0 .inside)
+    omega (arith, w .takes)
 
 loop-again-2 : tie.Need-loop-again-2 Inv-loop μ-loop
 loop-again-2 c =
     let w = rw (c .before .before .m .given .1) at (c .before .before .before .before .row-step .ensures) in
-    member-taken _ _ _ _ _ _ _ _ (c .before .before .before .before .before .loop .inv) _ _ (w .takes .0 .few) (w .same _)
+    member-taken _ _ _ _ _ _ _ _ (c .before .before .before .before .before .loop .inv) _ _ (w .takes .0) (w .same _)
 
 returns : tie.Need-returns Inv-loop μ-loop
 returns c =

@@ -6,7 +6,7 @@ use native.Mathlib.Omega.{arith}
 use borrow.Author.Needs.{needs}
 use Rattle.fund.specs.Limits.{most-rates, most-members}
 use Rattle.rows.specs.Read.{fileRead}
-use Rattle.rows.proofs.RowsSoFar.{RowsSoFar, start, rates-long, members-long, rate-taken, member-taken, at-end, at-stop}
+use Rattle.rows.proofs.RowsSoFar.{RowsSoFar, start, rates-long, members-long, rate-room, member-room, rate-taken, member-taken, at-end, at-stop}
 use Rattle.sheet_reader.specs.Rows.{rowsFrom}
 use Rattle.sheet_reader.proofs.body.read_rows.Statement.{statement}
 use Rattle.sheet_reader.proofs.body.read_rows.Tie as tie
@@ -31,7 +31,7 @@ array-set-from-rate-rows : tie.Need-array-set-from-rate-rows Inv-loop μ-loop
 array-set-from-rate-rows c =
     let l = c .before .before .before .before .loop in
     let w = rw (c .before .r .given .1) at (c .before .before .before .row-step .ensures) in
-    omega (arith, w .takes .0, rates-long _ _ _ _ _ _ _ _ (l .inv))
+    omega (arith, rate-room _ _ _ _ _ _ _ _ (l .inv) _ (w .takes), rates-long _ _ _ _ _ _ _ _ (l .inv))
 
 add-rated : tie.Need-add-rated Inv-loop μ-loop
 add-rated c = omega (arith, c .before .before .before .before .loop .inv .few-rates)
@@ -39,17 +39,17 @@ add-rated c = omega (arith, c .before .before .before .before .loop .inv .few-ra
 add-least : tie.Need-add-least Inv-loop μ-loop
 add-least c =
     let w = rw (c .before .before .r .given .1) at (c .before .before .before .before .row-step .ensures) in
-    omega (arith, w .takes .1)
+    omega (arith, rate-room _ _ _ _ _ _ _ _ (c .before .before .before .before .before .loop .inv) _ (w .takes))
 
 loop-less : tie.Need-loop-less Inv-loop μ-loop
 loop-less c =
     let w = rw (c .before .before .r .given .1) at (c .before .before .before .before .row-step .ensures) in
-    omega (arith, w .takes .0)
+    omega (arith, rate-room _ _ _ _ _ _ _ _ (c .before .before .before .before .before .loop .inv) _ (w .takes))
 
 loop-again : tie.Need-loop-again Inv-loop μ-loop
 loop-again c =
     let w = rw (c .before .before .r .given .1) at (c .before .before .before .before .row-step .ensures) in
-    rate-taken _ _ _ _ _ _ _ _ (c .before .before .before .before .before .loop .inv) _ _ (w .takes .0) (w .same _)
+    rate-taken _ _ _ _ _ _ _ _ (c .before .before .before .before .before .loop .inv) _ _ (w .takes) (w .same _)
 
 mul-member-rows : tie.Need-mul-member-rows Inv-loop μ-loop
 mul-member-rows c = omega (arith, c .before .before .before .before .loop .inv .few-members)
@@ -58,7 +58,7 @@ array-set-from-member-rows : tie.Need-array-set-from-member-rows Inv-loop μ-loo
 array-set-from-member-rows c =
     let l = c .before .before .before .before .loop in
     let w = rw (c .before .m .given .1) at (c .before .before .before .row-step .ensures) in
-    omega (arith, w .takes .0, members-long _ _ _ _ _ _ _ _ (l .inv))
+    omega (arith, member-room _ _ _ _ _ _ _ _ (l .inv) _ (w .takes), members-long _ _ _ _ _ _ _ _ (l .inv))
 
 add-enrolled : tie.Need-add-enrolled Inv-loop μ-loop
 add-enrolled c = omega (arith, c .before .before .before .before .loop .inv .few-members)
@@ -66,17 +66,17 @@ add-enrolled c = omega (arith, c .before .before .before .before .loop .inv .few
 add-lives : tie.Need-add-lives Inv-loop μ-loop
 add-lives c =
     let w = rw (c .before .before .m .given .1) at (c .before .before .before .before .row-step .ensures) in
-    omega (arith, w .takes .1)
+    omega (arith, member-room _ _ _ _ _ _ _ _ (c .before .before .before .before .before .loop .inv) _ (w .takes))
 
 loop-less-2 : tie.Need-loop-less-2 Inv-loop μ-loop
 loop-less-2 c =
     let w = rw (c .before .before .m .given .1) at (c .before .before .before .before .row-step .ensures) in
-    omega (arith, w .takes .0)
+    omega (arith, member-room _ _ _ _ _ _ _ _ (c .before .before .before .before .before .loop .inv) _ (w .takes))
 
 loop-again-2 : tie.Need-loop-again-2 Inv-loop μ-loop
 loop-again-2 c =
     let w = rw (c .before .before .m .given .1) at (c .before .before .before .before .row-step .ensures) in
-    member-taken _ _ _ _ _ _ _ _ (c .before .before .before .before .before .loop .inv) _ _ (w .takes .0) (w .same _)
+    member-taken _ _ _ _ _ _ _ _ (c .before .before .before .before .before .loop .inv) _ _ (w .takes) (w .same _)
 
 returns : tie.Need-returns Inv-loop μ-loop
 returns c =

@@ -1,0 +1,4 @@
+pub mod Lines
+pub mod Header
+pub mod Row
+pub mod Part
