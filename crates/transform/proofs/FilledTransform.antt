@@ -49,8 +49,7 @@ module _ (fund : Fund) (count : ℕ) (ps : List ModelPoint) (t : Totals) (for : 
     table-fits =
         let p : PassedTests fund t n = subst (Tested fund t n) e tested in
         let i = for .tells .yes (p .inside-is) in
-        let l = long-of n (fund .horizon) (p .long) in
-        (
+        let l = long-of n (fund .horizon) (p .long) in (
           i .0,
           record {
             points = i .1;

@@ -39,9 +39,9 @@ use Rattle.valuation.specs.Steps.{ValuedAnswer}
 -- ---- a refusal
 -- zeros in all slices and figures
 pub left-zeros : (v : Valued) (w : Verdict) (n : Lengths) (d : List ℤ) (h : List ℕ) (f : List ℤ) (r : List ℕ) (s : List ℤ) → v ≡ record { verdict = w; figures = noFigures } →
-    (d ≡ replicate (n .D) (pos 0)) × (h ≡ replicate (n .H) 0) → (f ≡ replicate (n .f) (pos 0)) × (r ≡ replicate (n .R) 0) → s ≡ replicate (n .F) (pos 0) → leftValued v d h f r s ≡ refused [] n w
+    (d ≡ replicate (n .D) (pos 0)) × (h ≡ replicate (n .H) 0) → (f ≡ replicate (n .f) (pos 0)) × (r ≡ replicate (n .R) 0) × (s ≡ replicate (n .F) (pos 0)) → leftValued v d h f r s ≡ refused [] n w
 unfolding refused
-left-zeros v w n d h f r s e dh fr z = rw (e, dh .0, dh .1, fr .0, fr .1, z, no-line w)
+left-zeros v w n d h f r s e dh frs = rw (e, dh .0, dh .1, frs .0, frs .1, frs .2, no-line w)
 
 abbrev chain : Bool → Bool → Bool → Verdict → Verdict
 chain a b c after = refuse refusal.Load (at0 a) (refuse refusal.Order (at0 b) (refuse refusal.Short (at0 c) after))
