@@ -17,7 +17,8 @@ use Rattle.laws.specs.Accepted.{refuse-accepted, at0-none}
 use Rattle.laws.specs.Ranges.{FundOk}
 use Rattle.totals.specs.Table.{Points}
 use Rattle.totals.specs.Inside.{HeaderIn}
-use Rattle.valuation.specs.Valued.{outcome, valuation}
+use Rattle.transform.specs.Transformed.{outcome}
+use Rattle.valuation.specs.Valued.{valuation}
 use Rattle.valuation.proofs.ValuedInside.{valuation-inside}
 use Rattle.pricing.specs.JoinedSteps.{points-in, answer-matched, answer-valued}
 use Rattle.pricing.specs.Priced.{lined}

@@ -167,7 +167,8 @@ pub fn value(
     let known = transform::transformed(fund, points, n, f.len(), r.len(), sums.len(), transform, h);
     let verdict = known.verdict;
     let Verdict::Accepted = verdict else {
-        return refuse(verdict, transform, h, f, r, sums);
+        clear_cells(f, r, sums);
+        return refused(verdict);
     };
     let totals = known.totals;
     recursed(fund, totals, transform, h, f, r, sums)
