@@ -14,12 +14,14 @@ use spelling::Argument;
 use spelling::Numbers;
 use tariff::Gross;
 use totals::Totals;
+use transform::Transformed;
 use valuation::Valued;
 ghost use mathlib.Core.Path.{_≡_};
 ghost use mathlib.Core.List.{[]};
 ghost use Prim.Native.Nat.{_+_};
 ghost use lib.ListN.{length, take, drop};
 ghost use Rattle.fund.specs.Limits.{limits};
+ghost use Rattle.fund.specs.Folding.{copies};
 ghost use Rattle.fund.specs.Spelling.{behind};
 ghost use Rattle.fund.specs.Reading.{reading};
 ghost use Rattle.fund.specs.Quantile.{quantile};
@@ -35,6 +37,7 @@ ghost use Rattle.recursion_limits.specs.Tests.{tested};
 ghost use Rattle.tariff.specs.Gross.{grossOf};
 ghost use Rattle.totals.specs.Totals.{TotalsFor};
 ghost use Rattle.totals.specs.Tests.{testedOf};
+ghost use Rattle.transform.specs.Transformed.{lengthsOf, outcome};
 ghost use Rattle.valuation.specs.Valued.{leftValued, lengths, valuation};
 ghost use Rattle.answer_text.specs.Shown.{shownAnswer, listingOf};
 ghost use Rattle.answer_text.specs.Level.{levelLineOf};
@@ -123,6 +126,25 @@ pub fn claimed_tests(
     ensures { λ v. ⌜ v ≡ testedOf fund t (record { D = transform; H = h; f = f; R = r; F = sums }) ⌝ }
 {
     totals::tested_totals(fund, t, transform, h, f, r, sums)
+}
+
+// Refusals 7, 8 and 9, or D and H of the first n model points; and their totals. f, r and sums are the lengths of the other three slices.
+pub fn claimed_transform(
+    fund: Fund,
+    points: [ModelPoint; Fund::MEMBER_ROWS],
+    n: usize,
+    f: usize,
+    r: usize,
+    sums: usize,
+    transform: &mut [i64],
+    h: &mut [u64],
+) -> Transformed
+    ensures { λ t. ⌜ TotalsFor fund n (take n points) (t .totals) ⌝ }
+    ensures { λ t. ⌜ t .verdict ≡ testedOf fund (t .totals) (lengthsOf (now (transform .entry)) (now (h .entry)) f r sums) ⌝ }
+    ensures { λ t. ⌜ now (transform .exit) ≡ outcome fund (copies (take n points)) (lengthsOf (now (transform .entry)) (now (h .entry)) f r sums) (t .verdict) .D ⌝ }
+    ensures { λ t. ⌜ now (h .exit) ≡ outcome fund (copies (take n points)) (lengthsOf (now (transform .entry)) (now (h .entry)) f r sums) (t .verdict) .H ⌝ }
+{
+    transform::transformed(fund, points, n, f, r, sums, transform, h)
 }
 
 // Refusals 7 to 10, or the figures and the cells.

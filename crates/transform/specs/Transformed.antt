@@ -1,4 +1,4 @@
--- What is known of the first model points of a table: their totals, the first of the refusals 7, 8 and 9, and what the slices of D and H hold.
+-- What is known of the first model points of a table: their totals, the first refusal that these decide, or none, and what the slices of D and H hold.
 use mathlib.Core.Path.{_≡_}
 use mathlib.Core.List.{List, []}
 use Prim.Native.Nat.{ℕ}
@@ -24,7 +24,7 @@ abbrev pub outcome : Fund → List Life → Lengths → Verdict → Answer
 outcome fund ms n Accepted = accepted fund ms n
 outcome fund ms n (Refused why place) = refused [] n (Refused why place)
 
--- `count` of a table, with lengths n of the five result slices; D and H are those of the verdict's answer: the lives' own up to the horizon and zeros beyond it, or zeros.
+-- The first `count` lines of a table, and five result slices of the lengths n. D and H are those of the verdict's answer: up to the horizon the lives' own and zeros beyond it, or zeros.
 pub record TransformedFor (fund : Fund) (count : ℕ) (ps : List ModelPoint) (n : Lengths) (t : Transformed) (d : List ℤ) (h : List ℕ) : Type 0 where
   pub totals-are : TotalsFor fund count ps (t .totals)
   pub verdict-is : Tested fund (t .totals) n (t .verdict)

@@ -10,7 +10,7 @@ ghost use lib.ListN.{take};
 ghost use Rattle.fund.specs.Limits.{most-members};
 ghost use Rattle.transform.specs.Filling.{TableFits, TableAdded};
 
-// The first of the refusals 7, 8 and 9, or none, and what the points add up to.
+// The first refusal of the totals, or none, and the totals.
 pub struct Transformed {
     pub verdict: Verdict,
     pub totals: Totals,

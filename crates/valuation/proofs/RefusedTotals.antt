@@ -28,10 +28,10 @@ use Rattle.laws.specs.Tells.{tells-as, tells-same}
 use Rattle.totals.specs.declared.Totals.{Totals}
 use Rattle.totals.specs.Inside.{inside}
 use Rattle.totals.specs.Totals.{TotalsFor}
-use Rattle.totals.specs.Tests.{testedOf, Tested}
+use Rattle.totals.specs.Tests.{testedOf}
 use Rattle.totals.proofs.InsideTells.{inside-tells}
 use Rattle.totals.proofs.TestedTotals.{tested-range}
-use Rattle.transform.specs.Transformed.{outcome}
+use Rattle.transform.specs.Transformed.{outcome, TransformedFor}
 use Rattle.valuation.specs.declared.Valued.{Valued}
 use Rattle.valuation.specs.Valued.{leftValued, verdictOf, valuation}
 use Rattle.valuation.specs.Steps.{ValuedAnswer}
@@ -39,9 +39,9 @@ use Rattle.valuation.specs.Steps.{ValuedAnswer}
 -- ---- a refusal
 -- zeros in all slices and figures
 pub left-zeros : (v : Valued) (w : Verdict) (n : Lengths) (d : List ℤ) (h : List ℕ) (f : List ℤ) (r : List ℕ) (s : List ℤ) → v ≡ record { verdict = w; figures = noFigures } →
-    (d ≡ replicate (n .D) (pos 0)) × (h ≡ replicate (n .H) 0) → (f ≡ replicate (n .f) (pos 0)) × (r ≡ replicate (n .R) 0) → s ≡ replicate (n .F) (pos 0) → leftValued v d h f r s ≡ refused [] n w
+    (d ≡ replicate (n .D) (pos 0)) × (h ≡ replicate (n .H) 0) → (f ≡ replicate (n .f) (pos 0)) × (r ≡ replicate (n .R) 0) × (s ≡ replicate (n .F) (pos 0)) → leftValued v d h f r s ≡ refused [] n w
 unfolding refused
-left-zeros v w n d h f r s e dh fr z = rw (e, dh .0, dh .1, fr .0, fr .1, z, no-line w)
+left-zeros v w n d h f r s e dh frs = rw (e, dh .0, dh .1, frs .0, frs .1, frs .2, no-line w)
 
 abbrev chain : Bool → Bool → Bool → Verdict → Verdict
 chain a b c after = refuse refusal.Load (at0 a) (refuse refusal.Order (at0 b) (refuse refusal.Short (at0 c) after))
@@ -105,8 +105,11 @@ module _ (fund : Fund) (count : ℕ) (ps : List ModelPoint) (t : Totals) (for : 
   unfolding valuation
   left-answered i a s = s ∙ ap (outcome fund ms n) (sym (verdict-inside i))
 
--- a verdict that is not `Accepted`, with its zeros
-pub left-judged : (fund : Fund) (count : ℕ) (ps : List ModelPoint) (t : Totals) → TotalsFor fund count ps t → (n : Lengths) (a : Answer) (w : Verdict) → OneOf (1 ∷ []) (Declared.tagOf Ver.the-type w) →
-    Tested fund t n w → a ≡ refused [] n w → a ≡ valuation fund count ps n
-left-judged fund count ps t for n a Accepted o s k = absurd (let e : _≡_ {A = ℕ} 0 1 = o in omega arith)
-left-judged fund count ps t for n a (Refused why place) o s k = left-refused fund count ps t for n a why place k s
+-- a verdict that is not `Accepted`, with the transform's zeros and the others
+pub left-judged : (fund : Fund) (count : ℕ) (ps : List ModelPoint) (n : Lengths) (t : Totals) (w : Verdict) (v : Valued) (d : List ℤ) (h : List ℕ) (f : List ℤ) (r : List ℕ) (s : List ℤ) →
+    OneOf (1 ∷ []) (Declared.tagOf Ver.the-type w) → TransformedFor fund count ps n (record { verdict = w; totals = t }) d h → v ≡ record { verdict = w; figures = noFigures } →
+    (f ≡ replicate (n .f) (pos 0)) × (r ≡ replicate (n .R) 0) × (s ≡ replicate (n .F) (pos 0)) → leftValued v d h f r s ≡ valuation fund count ps n
+unfolding refused
+left-judged fund count ps n t Accepted v d h f r s o k e frs = absurd (let e : _≡_ {A = ℕ} 0 1 = o in omega arith)
+left-judged fund count ps n t (Refused why place) v d h f r s o k e frs =
+    left-refused fund count ps t (k .totals-are) n _ why place (left-zeros v (Refused why place) n d h f r s e (k .d-is, k .h-is) frs) (k .verdict-is)

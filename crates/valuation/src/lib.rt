@@ -41,6 +41,14 @@ fn clear_transform(transform: &mut [i64], h: &mut [u64])
     whole::clear(h);
 }
 
+fn clear_cells(f: &mut [i64], r: &mut [u64], sums: &mut [i64])
+    ensures { λ _. ⌜ (now (f .exit) ≡ replicate (length (now (f .entry))) (pos 0)) × (now (r .exit) ≡ replicate (length (now (r .entry))) 0)
+        × (now (sums .exit) ≡ replicate (length (now (sums .entry))) (pos 0)) ⌝ }
+{
+    clear_transform(f, r);
+    whole::clear_signed(sums);
+}
+
 // A refusal with zeros in all slices; it hands back no line here.
 pub fn refuse(
     verdict: Verdict,
@@ -54,8 +62,7 @@ pub fn refuse(
         refused [] (lengths (now (transform .entry)) (now (h .entry)) (now (f .entry)) (now (r .entry)) (now (sums .entry))) verdict ⌝ }
 {
     clear_transform(transform, h);
-    clear_transform(f, r);
-    whole::clear_signed(sums);
+    clear_cells(f, r, sums);
     refused(verdict)
 }
 
@@ -160,7 +167,8 @@ pub fn value(
     let known = transform::transformed(fund, points, n, f.len(), r.len(), sums.len(), transform, h);
     let verdict = known.verdict;
     let Verdict::Accepted = verdict else {
-        return refuse(verdict, transform, h, f, r, sums);
+        clear_cells(f, r, sums);
+        return refused(verdict);
     };
     let totals = known.totals;
     recursed(fund, totals, transform, h, f, r, sums)

@@ -1,4 +1,4 @@
--- A refusal leaves zeros in all slices; else the recursion follows the transform.
+-- A refusal leaves zeros in all slices: the transform's are there, the others are cleared; else the recursion follows.
 use borrow.Author.Needs.{needs}
 use lib.ListN.{length, take}
 use Rattle.fund.specs.Refusals.{Lengths}
@@ -27,14 +27,12 @@ ready c =
 
 returns : tie.Need-returns
 returns c =
-    let z = c .before .before .before .before .before .before .before in
-    let m = z .before .before .before .before .before .before .before in
+    let cells = c .before .before .before .before .before in
+    let m = cells .before .before .before .before .before in
     let o = m .before .before .before .before in
     let s = entered o in
-    let k = o .transformed .kept .1 .1 .1 .1 .1 .1 in
-    let t = o .transformed .ensures in
-    left-judged (s .args .fund) (s .args .n) _ (o .transformed .result .totals) (t .totals-are) (slices s) _ (o .transformed .result .verdict) (m .match .keys2) (t .verdict-is)
-    (rw (k .0, k .1 .0) at (z .refuse .ensures))
+    left-judged (s .args .fund) (s .args .n) _ (slices s) (o .transformed .result .totals) (o .transformed .result .verdict) (c .refused .result) _ _ _ _ _ (m .match .keys2)
+    (o .transformed .ensures) (c .refused .ensures) (cells .clear-cells .ensures)
 
 recursed-requires : tie.Need-recursed-requires
 recursed-requires c κs = record { count = _; ps = _; ready = ready (c .before .before .before .before .before .before) }
@@ -53,6 +51,6 @@ returns-2 c =
 pub value-spec : {M : Type 1} → statement M
 value-spec =
     tie.close
-    (tie.spec (λ c κs. search needs) (λ c. search needs) (λ c. search needs) (λ c κs. search needs) (λ c. search needs) (λ c. search needs)
-    (λ c. search needs) (λ c. search needs) (λ c. search needs) returns recursed-requires (λ c. search needs) (λ c. search needs)
+    (tie.spec (λ c κs. search needs) (λ c. search needs) (λ c. search needs) (λ c κs. search needs) (λ c κs. search needs) (λ c. search needs)
+    (λ c. search needs) (λ c. search needs) (λ c. search needs) (λ c. search needs) returns recursed-requires (λ c. search needs) (λ c. search needs)
     (λ c. search needs) (λ c. search needs) (λ c. search needs) returns-2)
