@@ -5,7 +5,7 @@
 --     frees-room       a cell that holds none
 --     frees-cells      the cells of the first locals at once, with values vs: entry n is the first one's, the next entry says that it dies, and the next local's are the two before
 -- Assumes `Given`.
-use mathlib.Core.Path.{_≡_, ap, subst}
+use mathlib.Core.Path.{_≡_, sym, ap, subst}
 use Prim.Native.Nat.{ℕ, _-_}
 use native.Mathlib.Omega.{arith}
 use mathlib.Core.List.{List, [], _∷_}
@@ -18,7 +18,7 @@ use base.Logic.{ent, sep, via, monoL, monoR, assoc′}
 use base.Fml.{fat, froom, fdies, ftrue}
 use prog.Wp.{Heap, Env}
 use ghost.Atoms.{Atoms}
-use types.Kit.{Given, Item, Goal, Step, step, _$_, Seq, aim, ‵, ⋆, mean, nth, del, pull, allocs, frees}
+use types.Kit.{Given, Item, Goal, Step, step, _$_, move, Seq, aim, ‵, ⋆, mean, nth, del, pull, allocs, frees}
 use types.Run.{alloc1, alloc0}
 
 module _ {M : Type 1} (𝓤 : URA M) (H : Heap 𝓤) (A : Atoms 𝓤) (Γ : List (Item 𝓤)) where
@@ -29,6 +29,10 @@ module _ {M : Type 1} (𝓤 : URA M) (H : Heap 𝓤) (A : Atoms 𝓤) (Γ : List
       → ent 𝓤 (sep 𝓤 (H .room τ b 0) (⋆ 𝓤 H A Γ)) (aim 𝓤 H (frees ((τ, b) ∷ E) g))
   freed E g m τ b d s =
       via 𝓤 _ (monoR 𝓤 (H .room τ b 0) (pulled m (‵ (fdies τ b)) d)) (via 𝓤 _ (assoc′ 𝓤 (H .room τ b 0) (H .dies τ b) (⋆ 𝓤 H A (del 𝓤 H A m Γ))) (monoR 𝓤 (sep 𝓤 (H .room τ b 0) (H .dies τ b)) s))
+
+module _ {M : Type 1} {𝓤 : URA M} {H : Heap 𝓤} {A : Atoms 𝓤} {K : Type 0} {W : Given 𝓤 H A} {Γ : List (Item 𝓤)} {G : Goal 𝓤 H} where
+  pub pulls : K → (n : ℕ) {j : Item 𝓤} → nth 𝓤 H A n Γ ≡ j → Step K W (j ∷ del 𝓤 H A n Γ) G Γ G
+  pulls t n e = step (λ s. move t (n ∷ []) $ subst (λ (i : Item 𝓤). Seq K W (i ∷ del 𝓤 H A n Γ) G) (sym e) s)
 
 module _ {M : Type 1} {𝓤 : URA M} {H : Heap 𝓤} {A : Atoms 𝓤} {K : Type 0} {W : Given 𝓤 H A} {Γ : List (Item 𝓤)} {E : Env 𝓤 H} {g : Goal 𝓤 H} where
   pub frees-room : K → (n m : ℕ) {τ : Ty} {b : ℕ} → nth 𝓤 H A n Γ ≡ ‵ (froom τ b 0) → nth 𝓤 H A m (del 𝓤 H A n Γ) ≡ ‵ (fdies τ b)

@@ -3,10 +3,10 @@ pub mod Walks
 pub mod FreedLocals
 pub mod Plain
 pub mod Calls
+pub mod Element
 pub mod LentArray
 pub mod Reborrow
 pub mod Again
-pub mod Element
 pub mod WalkForm
 pub mod WalkTable
 pub mod TableCalls
