@@ -3,6 +3,5 @@ mod PointSums
 mod Caps
 mod StartProduct
 mod TableTotals
-pub mod FirstPoints
 pub mod InsideTells
 pub mod TestedTotals

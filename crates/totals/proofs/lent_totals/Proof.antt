@@ -2,13 +2,7 @@
 use mathlib.Core.Path.{refl}
 use Prim.Native.Nat.{ℕ, _≤_}
 use mathlib.Core.List.{List, [], _∷_}
-use base.Fml.{flft, ftrue}
-use denote.Array.{Array, array-vals, array-tells, array-lawful}
-use denote.Builtin.{u64}
-use denote.Plain.{uint-vals, uint-tells}
-use denote.Steps.{only}
 use denote.Struct.Laws as LL
-use denote.Triple.Clauses.{lasts}
 use Rattle.fund.specs.declared.Fund.{Fund}
 use Rattle.fund.specs.declared.ModelPoint.{ModelPoint}
 use Rattle.fund.specs.Limits.{most-members}
@@ -16,28 +10,20 @@ use Rattle.fund.proofs.ModelPoint as P
 use Rattle.fund.proofs.ModelPoint.Laws as P′
 use Rattle.fund.proofs.Fund as G
 use Rattle.fund.proofs.Fund.Laws as G′
-use Rattle.walks.specs.ByHand.{URA, fullShare, w64, Val, vint, ent, emp, id⊢, Model, Heap, WpFn, Atoms, sem, Fun, factI, Running, GhostRules, givenOf, tables, Given, ‵, _⊛_, _$_, _∵_, !, qed, move, drop, use1, split, join, fsplit, frame, done, look, init, and-then, no-more, returns, enter, params1, pass1, pass0, free0, Is, nothing, Clauses, Triple, entered, framed, needs}
+use Rattle.walks.specs.ByHand.{URA, fullShare, w64, Val, vint, ent, emp, id⊢, Model, Heap, WpFn, Atoms, sem, Fun, factI, Running, GhostRules, givenOf, tables, Given, ‵, _⊛_, _$_, _∵_, !, qed, move, drop, use1, split, join, fsplit, frame, done, look, init, and-then, no-more, returns, enter, params1, pass1, pass0, free0, Is, nothing, Clauses, Triple, entered, framed, needs, flft, ftrue, Array, array-vals, array-tells, array-lawful, u64, uint-vals, uint-tells, only, lasts}
 use Rattle.walks.specs.Calls.{ends-plain}
 use Rattle.walks.specs.FreedLocals.{allocates, frees-cells, frees-room}
 use Rattle.walks.specs.LentArray.{first, lends-array, takes-array}
-use Rattle.walks.specs.Plain.{Plain, word, declared}
+use Rattle.walks.specs.Plain.{word}
 use Rattle.walks.specs.TableCalls.{tableVal, calls-handed}
 use Rattle.walks.specs.Walks.{Stated, tokens, passed, Walk, starts, cell}
-use Rattle.totals.proofs.PointElement.{point, room}
-use Rattle.totals.proofs.Totals as T
-use Rattle.totals.proofs.Totals.Laws as T′
+use Rattle.totals.proofs.PointElement.{point, room, terms, totals}
 use Rattle.totals.proofs.table_totals as table
 use Rattle.totals.proofs.table_totals.Met as table-thm
 use Rattle.totals.proofs.lent_totals.Key.{name as #first}
 use Rattle.totals.proofs.lent_totals as lent
 use Rattle.totals.proofs.lent_totals.Statement as stated
 use Rattle.totals.proofs.lent_totals.Code as code
-
-abbrev terms : Plain G.the-row G′.mir
-terms = declared G.the-type G′.the-laws G′.the-plain
-
-abbrev totals : Plain T.the-row T′.mir
-totals = declared T.the-type T′.the-laws T′.the-plain
 
 module _ {M : Type 1} (𝓤 : URA M) (H : Heap 𝓤) (𝓜 : Model 𝓤 H) (𝓖 : GhostRules 𝓤 H) (𝓡 : Running 𝓤 H 𝓜) where
   abbrev A : Atoms 𝓤

@@ -1,7 +1,6 @@
 -- `totals::lives_totals`: the walks over the table, one after the other. A walk of its MIR by hand.
-use mathlib.Core.Path.{_≡_, refl}
+use mathlib.Core.Path.{refl}
 use mathlib.Core.List.{List, [], _∷_}
-use base.Logic.{via, emp∗}
 use lib.ListN.{drop}
 use denote.Struct.Laws as LL
 use Rattle.fund.specs.declared.Fund.{Fund}
@@ -15,7 +14,7 @@ use Rattle.start.proofs.StartSum as D
 use Rattle.start.proofs.StartSum.Laws as D′
 use Rattle.start.proofs.sums as first-sums
 use Rattle.start.proofs.sums.Met as first-sums-thm
-use Rattle.walks.specs.ByHand.{URA, w64, vint, emp, id⊢, Model, Heap, Atoms, factI, Running, GhostRules, givenOf, tables, Given, _$_, !, move, whole, sub, look-in, look, stop, fld, from, load, and-then, no-more, returns, free0, Clauses, framed}
+use Rattle.walks.specs.ByHand.{URA, via, emp∗, w64, vint, emp, id⊢, Model, Heap, Atoms, factI, Running, GhostRules, givenOf, tables, Given, _$_, !, move, whole, sub, look-in, look, stop, fld, from, load, and-then, no-more, returns, free0, Clauses, framed}
 use Rattle.walks.specs.Calls.{held, made, calls-plain, ends-plain}
 use Rattle.walks.specs.FreedLocals.{frees-cells}
 use Rattle.walks.specs.HandedTable.{HandedWalk, handed-meets}
@@ -24,11 +23,10 @@ use Rattle.walks.specs.TableCalls.{tableVal, calls-walk}
 use Rattle.walks.specs.Walks.{Stated, cell}
 use Rattle.totals.specs.Table.{Points, members-of}
 use Rattle.totals.specs.Inside.{HeaderIn}
-use Rattle.totals.proofs.PointElement.{point}
+use Rattle.totals.proofs.PointElement.{point, terms, totals}
 use Rattle.totals.proofs.TableTotals.{lambda-most, made-asks, sums-up}
 use Rattle.totals.proofs.product.Product as P
 use Rattle.totals.proofs.product.Product.Laws as P′
-use Rattle.totals.proofs.Totals as T
 use Rattle.totals.proofs.Totals.Laws as T′
 use Rattle.totals.proofs.figures.lambda as lambda-def
 use Rattle.totals.proofs.figures.lambda.Met as lambda-thm
@@ -51,9 +49,6 @@ use Rattle.totals.proofs.lives_totals.Code as code
 abbrev Asks : Fund → List ModelPoint → Type 0
 Asks fund ps = Points ps × HeaderIn fund
 
-abbrev terms : Plain G.the-row G′.mir
-terms = declared G.the-type G′.the-laws G′.the-plain
-
 abbrev frequencies : Plain F.the-row F′.mir
 frequencies = declared F.the-type F′.the-laws F′.the-plain
 
@@ -62,9 +57,6 @@ first = declared D.the-type D′.the-laws D′.the-plain
 
 abbrev product : Plain P.the-row P′.mir
 product = declared P.the-type P′.the-laws P′.the-plain
-
-abbrev totals : Plain T.the-row T′.mir
-totals = declared T.the-type T′.the-laws T′.the-plain
 
 module _ {M : Type 1} (𝓤 : URA M) (H : Heap 𝓤) (𝓜 : Model 𝓤 H) (𝓖 : GhostRules 𝓤 H) (𝓡 : Running 𝓤 H 𝓜) where
   abbrev A : Atoms 𝓤

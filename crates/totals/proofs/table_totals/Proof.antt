@@ -3,25 +3,16 @@ use mathlib.Core.Path.{_≡_, refl}
 use mathlib.Core.Bool.{Bool, true, false, not}
 use mathlib.Core.List.{List, [], _∷_}
 use lib.Dec.{T as Holds, lit<}
-use mir.Syntax.{Body, Local, tyBool, tyInt, place, copy, int, local, valueLocal, skip, seq, cond, return, call}
-use prog.Wp.{Env}
-use base.Logic.{via, emp∗}
-use types.Kit.{atRet}
-use types.Run.{first, branches, skips, exec, returns-within}
-use Rattle.fund.specs.declared.Fund.{Fund}
-use Rattle.fund.specs.declared.ModelPoint.{ModelPoint}
-use Rattle.fund.proofs.Fund as G
 use Rattle.fund.proofs.Fund.Laws as G′
-use Rattle.walks.specs.ByHand.{URA, w64, vint, emp, id⊢, Model, Heap, Atoms, factI, Running, GhostRules, givenOf, tables, Given, _$_, !, move, look, lit, and-then, no-more, returns, free0, Clauses, framed}
+use Rattle.walks.specs.ByHand.{URA, first, branches, skips, exec, returns-within, via, emp∗, w64, vint, emp, id⊢, Model, Heap, Atoms, factI, Running, GhostRules, givenOf, tables, Given, _$_, !, move, look, lit, and-then, no-more, returns, free0, Clauses, framed, Body, Local, tyBool, tyInt, place, copy, int, local, valueLocal, skip, seq, cond, return, call, Env, atRet}
 use Rattle.walks.specs.Calls.{held, made, calls-plain, ends-plain}
 use Rattle.walks.specs.FreedLocals.{Blocks, env, frees-cells}
 use Rattle.walks.specs.HandedTable.{handedLocals, HandedWalk, handed-meets}
-use Rattle.walks.specs.Plain.{Plain, word, flag, declared}
+use Rattle.walks.specs.Plain.{word, flag}
 use Rattle.walks.specs.TableCalls.{tableVal, calls-walk, calls-handed}
 use Rattle.walks.specs.Walks.{Stated, cell}
-use Rattle.totals.proofs.PointElement.{point}
+use Rattle.totals.proofs.PointElement.{point, terms, totals}
 use Rattle.totals.proofs.TableTotals.{inside, outside, totalled-inside, totalled-outside}
-use Rattle.totals.proofs.Totals as T
 use Rattle.totals.proofs.Totals.Laws as T′
 use Rattle.totals.proofs.inside.lives_in_all as lives-in-all
 use Rattle.totals.proofs.inside.lives_in_all.Symbol.{name as #lives-in-all}
@@ -55,12 +46,6 @@ body = seq (call #lives-in-all (copy (place 2 []) ∷ int w64 1001 ∷ []) (plac
 
 abbrev others : List Local
 others = local tyBool valueLocal ∷ local (tyInt w64) valueLocal ∷ local tyBool valueLocal ∷ []
-
-abbrev terms : Plain G.the-row G′.mir
-terms = declared G.the-type G′.the-laws G′.the-plain
-
-abbrev totals : Plain T.the-row T′.mir
-totals = declared T.the-type T′.the-laws T′.the-plain
 
 is-true : (r : Bool) → Holds r → r ≡ true
 is-true true h = refl
