@@ -3,7 +3,5 @@ mod PointSums
 mod Caps
 mod StartProduct
 mod TableTotals
-mod TableCalls
-pub mod FirstPoints
 pub mod InsideTells
 pub mod TestedTotals

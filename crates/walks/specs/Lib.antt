@@ -1,8 +1,13 @@
+pub mod ByHand
 pub mod Walks
 pub mod FreedLocals
-pub mod Reborrow
+pub mod Plain
+pub mod Calls
 pub mod Element
+pub mod LentArray
+pub mod Reborrow
+pub mod Again
 pub mod WalkForm
 pub mod WalkTable
-pub mod Again
-pub mod LentArray
+pub mod TableCalls
+pub mod HandedTable

@@ -32,7 +32,7 @@ use Rattle.totals.proofs.figures.load.Code as code
 abbrev given : RValue
 given = rvOpd (copy (place 2 []))
 
-from-lambda : First u64 u64 (u64-local .val) given
+from-lambda : First u64 u64 (u64-local .plain .val) given
 unfolding u64-local
 from-lambda = record { start = λ x. x; val = vint w64; is = λ x is. is; runs = λ W Γ E x o. of-opd ! o }
 

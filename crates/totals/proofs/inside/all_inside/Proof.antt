@@ -1,18 +1,19 @@
 -- `totals::inside::all_inside`: a walk that tells whether the header and the lines so far are in their ranges.
 use mathlib.Core.Path.{_≡_}
 use mathlib.Core.Bool.{Bool, true, false}
-use mathlib.Core.List.{List, [], _∷_}
+use mathlib.Core.List.{List, []}
 use mir.Syntax.{Rv as RValue, tyBool, copy, place, rvOpd}
 use mir.Val.{vbool}
 use base.Logic.{id⊢}
 use types.Kit.{ ! }
 use types.Run.{of-opd}
 use denote.Builtin.{bool}
-use denote.Plain.{bool-lawful, bool-makes, bool-copy, bool-tells}
+use denote.Plain.{bool-copy}
 use Rattle.fund.specs.declared.ModelPoint.{ModelPoint}
 use Rattle.laws.specs.Accepted.{All}
 use Rattle.laws.specs.Tells.{Tells}
 use Rattle.totals.specs.Table.{PointIn}
+use Rattle.walks.specs.Plain.{flag}
 use Rattle.walks.specs.WalkForm.{Says, Extra, First, Facts}
 use Rattle.walks.specs.WalkTable.{meets}
 use Rattle.totals.proofs.PointElement.{point}
@@ -24,11 +25,8 @@ use Rattle.totals.proofs.inside.all_inside.Code as code
 
 bool-local : Extra bool tyBool
 bool-local = record {
-  val = vbool;
-  tells = bool-tells;
-  typed = λ 𝓤 H A W x v is. bool-lawful 𝓤 H A W .typed x (v ∷ []) is .0;
+  plain = flag;
   copies = λ 𝓤 H A W. bool-copy 𝓤 H A W;
-  makes = λ 𝓤 H A W. bool-makes 𝓤 H A W;
   last = λ x. tt;
   silent = λ 𝓤 H A x. id⊢ 𝓤 _;
 }
@@ -36,7 +34,7 @@ bool-local = record {
 abbrev given : RValue
 given = rvOpd (copy (place 2 []))
 
-from-x : First bool bool (bool-local .val) given
+from-x : First bool bool (bool-local .plain .val) given
 unfolding bool-local
 from-x = record { start = λ x. x; val = vbool; is = λ x is. is; runs = λ W Γ E x o. of-opd ! o }
 

@@ -30,6 +30,7 @@ use Rattle.totals.specs.declared.product.Product.{Product}
 use Rattle.totals.specs.Table.{PointIn, Points, members-of}
 use Rattle.start.specs.Terms.{most-t}
 use Rattle.totals.specs.Product.{countOne, Times, Multiplied}
+use Rattle.walks.specs.Plain.{declared}
 use Rattle.walks.specs.WalkForm.{wordTy, Says, Extra, First, Facts}
 use Rattle.walks.specs.WalkTable.{meets}
 use Rattle.totals.proofs.PointElement.{point}
@@ -45,11 +46,8 @@ use Rattle.totals.proofs.product.multiplied.Code as code
 
 product-local : Extra P.the-row P′.mir
 product-local = record {
-  val = P′.lowered;
-  tells = LL.tells P.the-type P′.the-laws;
-  typed = λ 𝓤 H A W x v is. LL.lawful P.the-type P′.the-laws 𝓤 H A W .typed x (v ∷ []) is .0;
+  plain = declared P.the-type P′.the-laws P′.the-plain;
   copies = λ 𝓤 H A W. LL.copy P.the-type P′.the-copy 𝓤 H A W;
-  makes = λ 𝓤 H A W. LL.makes P.the-type P′.the-plain 𝓤 H A;
   last = λ x. tt;
   silent = λ 𝓤 H A x. id⊢ 𝓤 _;
 }
@@ -57,7 +55,7 @@ product-local = record {
 abbrev first-product : RValue
 first-product = aggregate (copy (place 2 []) ∷ int w64 0 ∷ [])
 
-from-size : First P.the-row u64 (u64-local .val) first-product
+from-size : First P.the-row u64 (u64-local .plain .val) first-product
 unfolding u64-local
 from-size = record {
   start = λ x. record { size = x; singles = 0 };
