@@ -6,7 +6,9 @@ use Rattle.claims.proofs.claimed_print.Statement.{statement}
 use Rattle.claims.proofs.claimed_print.Tie as tie
 
 returns : tie.Need-returns
-returns c = prints _ _ _ (read-ranges _) _ _ _ (c .before .before .print .ensures .0)
+returns c =
+    let p = c .before .before in
+    prints (p .before .before .before .before .args .asked) _ _ (read-ranges _) _ _ _ (p .print .ensures .0)
 
 pub claimed-print-spec : {M : Type 1} → statement M
 claimed-print-spec = tie.close (tie.spec (λ c κs. search needs) (λ c. search needs) returns)
