@@ -5,6 +5,7 @@ mod table;
 
 use fund::Fund;
 use fund::Refusal;
+use fund::Verdict;
 use rows::FileRead;
 pub use table::Matched;
 ghost use mathlib.Core.Path.{_≡_};
@@ -27,17 +28,17 @@ pub fn matched(found: FileRead) -> Matched
     ensures { λ r. ⌜ r ≡ matchedRows found ⌝ }
 {
     if Fund::RATE_ROWS < found.rated {
-        return table::without_points(Refusal::Range, 0);
+        return table::without_points(Verdict::Refused(Refusal::Range, 0));
     }
     if Fund::MEMBER_ROWS < found.enrolled {
-        return table::without_points(Refusal::Range, 0);
+        return table::without_points(Verdict::Refused(Refusal::Range, 0));
     }
     let fund = found.fund;
     if fund.rates != fund.members {
-        return table::without_points(Refusal::Edition, 0);
+        return table::without_points(Verdict::Refused(Refusal::Edition, 0));
     }
     if is_above(fund.deductible, fund.horizon) {
-        return table::without_points(Refusal::Deductible, 0);
+        return table::without_points(Verdict::Refused(Refusal::Deductible, 0));
     }
     // the header lines and the rate lines stand before the first member
     let line = Fund::HEADER_LINES as u64 + found.rated as u64 + 1;

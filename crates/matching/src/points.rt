@@ -49,8 +49,7 @@ pub(crate) fn by_member(found: FileRead, line: u64) -> Matched
     requires { ⌜ (found .rated ≤ most-rates) × (found .enrolled ≤ most-members) × (0 < line) × (line + found .enrolled < 2 ^ 64) ⌝ }
     ensures { λ r. ⌜ r ≡ byMember (take (found .rated) (found .rates)) (take (found .enrolled) (found .members)) line ⌝ }
 {
-    let none = table::no_point();
-    let mut points = [none; Fund::MEMBER_ROWS];
+    let mut matched = table::without_points(Verdict::Accepted);
     let mut half_at: u64 = 0;
     let mut k: usize = 0;
     let mut j: usize = 0;
@@ -64,12 +63,12 @@ pub(crate) fn by_member(found: FileRead, line: u64) -> Matched
             }
         }
         if j == 0 {
-            return table::without_points(Refusal::Unmatched, line + k as u64);
+            return table::without_points(Verdict::Refused(Refusal::Unmatched, line + k as u64));
         }
         let r = found.rates[j - 1];
         let life = folded(r, m);
         half_at = half::first_place(half_at, life, line + k as u64);
-        points[k] = ModelPoint {
+        matched.points[k] = ModelPoint {
             life,
             lives: m.lives,
         };
@@ -77,10 +76,7 @@ pub(crate) fn by_member(found: FileRead, line: u64) -> Matched
         j = 0;
     }
     if half_at != 0 {
-        return table::without_points(Refusal::Half, half_at);
+        return table::without_points(Verdict::Refused(Refusal::Half, half_at));
     }
-    Matched {
-        verdict: Verdict::Accepted,
-        points,
-    }
+    matched
 }

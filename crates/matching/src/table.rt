@@ -2,13 +2,10 @@
 use fund::Fund;
 use fund::Life;
 use fund::ModelPoint;
-use fund::Refusal;
 use fund::Verdict;
 ghost use mathlib.Core.Path.{_≡_};
 ghost use mathlib.Core.List.{[]};
-ghost use Rattle.fund.specs.declared.Verdict.the-variants.{Refused};
-ghost use Rattle.laws.specs.Rows.{blankPoint};
-ghost use Rattle.matching.specs.Matching.{withPoints};
+ghost use Rattle.matching.specs.Matching.{pointTable};
 
 // What pricing says of the rows by 3 to 6, and the table of the model points, in the members' order. The points behind these are
 // blank, and so are all points of a refusal.
@@ -17,10 +14,11 @@ pub struct Matched {
     pub points: [ModelPoint; Fund::MEMBER_ROWS],
 }
 
-pub(crate) fn no_point() -> ModelPoint
-    ensures { λ r. ⌜ r ≡ blankPoint ⌝ }
+// A verdict without points.
+pub(crate) fn without_points(verdict: Verdict) -> Matched
+    ensures { λ r. ⌜ r ≡ record { verdict = verdict; points = pointTable [] } ⌝ }
 {
-    ModelPoint {
+    let none = ModelPoint {
         life: Life {
             group: 0,
             q: 0,
@@ -29,16 +27,7 @@ pub(crate) fn no_point() -> ModelPoint
             e: 0,
         },
         lives: 0,
-    }
-}
-
-pub(crate) fn without_points(why: Refusal, place: u64) -> Matched
-    ensures { λ r. ⌜ r ≡ withPoints [] (Refused why place) ⌝ }
-{
-    let none = no_point();
+    };
     let points = [none; Fund::MEMBER_ROWS];
-    Matched {
-        verdict: Verdict::Refused(why, place),
-        points,
-    }
+    Matched { verdict, points }
 }

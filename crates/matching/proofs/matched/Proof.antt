@@ -7,22 +7,26 @@ use lib.ListN.{length, length-map}
 use lib.Seq.{length-take-le}
 use Rattle.fund.specs.Limits.{most-rates}
 use Rattle.fund.specs.Refusals.{firstMember}
+use Rattle.matching.specs.Matching.{withPoints}
 use Rattle.matching.proofs.MatchedRefusals.{beyond-rates, beyond-members, three, four, then-members}
 use Rattle.matching.proofs.matched.Statement.{statement}
 use Rattle.matching.proofs.matched.Tie as tie
 
 returns : tie.Need-returns
+unfolding withPoints
 returns c =
     let a = c .before .before .before .args in
     beyond-rates (a .found .fund) (a .found .rates) (a .found .rated) (a .found .members) (a .found .enrolled) _ (c .before .if1 .taken) (c .without-points .ensures)
 
 returns-2 : tie.Need-returns-2
+unfolding withPoints
 returns-2 c =
     let t = c .before .before .before in
     let a = t .before .before .args in
     beyond-members (a .found .fund) (a .found .rates) (a .found .rated) (a .found .members) (a .found .enrolled) _ (t .if1 .left) (c .before .if2 .taken) (c .without-points2 .ensures)
 
 returns-3 : tie.Need-returns-3
+unfolding withPoints
 returns-3 c =
     let t = c .before .before .before .before in
     let u = t .before .before in
@@ -30,6 +34,7 @@ returns-3 c =
     three (a .found .fund) (a .found .rates) (a .found .rated) (a .found .members) (a .found .enrolled) _ (u .if1 .left) (t .if2 .left) (c .before .if3 .taken) (c .without-points3 .ensures)
 
 returns-4 : tie.Need-returns-4
+unfolding withPoints
 returns-4 c =
     let e = c .before .before .before in
     let t = e .before .before .before in
