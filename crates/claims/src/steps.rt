@@ -12,16 +12,20 @@ use recursion::Recursed;
 use rows::FileRead;
 use spelling::Argument;
 use spelling::Numbers;
+use start::StartSum;
 use tariff::Gross;
 use totals::Totals;
 use transform::Transformed;
 use valuation::Valued;
 ghost use mathlib.Core.Path.{_≡_};
+ghost use mathlib.Core.Bool.{false};
 ghost use mathlib.Core.List.{[]};
-ghost use Prim.Native.Nat.{_+_};
+ghost use Prim.Native.Nat.{min, _+_};
 ghost use lib.ListN.{length, take, drop};
-ghost use Rattle.fund.specs.Limits.{limits};
+ghost use Rattle.fund.specs.Base.{sum};
+ghost use Rattle.fund.specs.Limits.{limits, most-load};
 ghost use Rattle.fund.specs.Folding.{copies};
+ghost use Rattle.fund.specs.Recursion.{alternating, c};
 ghost use Rattle.fund.specs.Spelling.{behind};
 ghost use Rattle.fund.specs.Reading.{reading};
 ghost use Rattle.fund.specs.Quantile.{quantile};
@@ -35,6 +39,7 @@ ghost use Rattle.matching.specs.Matching.{matchedRows};
 ghost use Rattle.recursion.specs.Recursion.{leftCells, recursion};
 ghost use Rattle.recursion_limits.specs.Tests.{tested};
 ghost use Rattle.tariff.specs.Gross.{grossOf};
+ghost use Rattle.whole.specs.Sign.{signed};
 ghost use Rattle.totals.specs.Totals.{TotalsFor};
 ghost use Rattle.totals.specs.Tests.{testedOf};
 ghost use Rattle.transform.specs.Transformed.{lengthsOf, outcome};
@@ -104,6 +109,13 @@ pub fn claimed_match(found: FileRead) -> Matched
     ensures { λ r. ⌜ r ≡ matchedRows found ⌝ }
 {
     matching::matched(found)
+}
+
+// The sums that f(0) and R(0) start from, of a lambda up to the largest load.
+pub fn claimed_start(lambda: u64) -> StartSum
+    ensures { λ r. ⌜ (signed (r .negative) (r .size) ≡ alternating (min lambda most-load)) × (r .size ≡ 0 → r .negative ≡ false) × (r .bound ≡ sum 64 (c (min lambda most-load))) ⌝ }
+{
+    start::sums(lambda)
 }
 
 // The load, the truncation figure, the mean and the start of the first n model points, or that something is outside its ranges.

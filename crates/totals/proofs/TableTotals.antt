@@ -60,8 +60,8 @@ module _ (fund : Fund) (ms : List Life) (lam all figure m : ℕ) (l : StartSum) 
   pub sums-up : LivesTotals fund ms r
   sums-up = record { inside-is = made .inside-is; load-is = load-is; truncation-is = made .truncation-is ∙ figure-is; mean-is = made .mean-is ∙ m-is; cell-is = cell-is; bound-is = bound-is; bound-within = bound-within }
 
-pub made-asks : (ms : List Life) → Members ms → (lam : ℕ) (l : StartSum) → StartSums lam l → (p : Product) → Multiplied ms (l .size) p → (p .size ≤ 200000000000000000) × (l .bound ≤ 691) × (p .singles ≤ 1000)
-made-asks ms n lam l sums-of p product = (omega (arith, product .size-is .within, sums-of .size-within), sums-of .bound-within, omega (arith, product .count-within, n .few))
+pub made-asks : (ms : List Life) → Members ms → (lam : ℕ) (l : StartSum) → StartSums lam l → (p : Product) → Multiplied ms (l .size) p → (p .size ≤ 200000000000000000) × (l .bound ≤ 64000) × (p .singles ≤ 1000)
+made-asks ms n lam l sums-of p product = (omega (arith, product .size-is .within, sums-of .size-within), omega (arith, sums-of .bound-within), omega (arith, product .count-within, n .few))
 
 -- ---- inside or not
 module _ (fund : Fund) (ps : List ModelPoint) (k : ℕ) (b r : Bool) (count : k ≡ min (livesOf ps) (most-lives + 1)) (header : Tells b ((k ≤ most-lives) × HeaderIn fund)) (lines : Tells r ((b ≡ true) × All PointIn ps)) where

@@ -48,7 +48,7 @@ fn outside() -> Totals
 
 // The totals with f(0) and R(0).
 fn with_start(load: u64, truncation: u64, mean: u64, first: StartSum, product: Product) -> Totals
-    requires { ⌜ (product .size ≤ 200 * most-t) × (first .bound ≤ 691) × (product .singles ≤ most-lives) ⌝ }
+    requires { ⌜ (product .size ≤ 200 * most-t) × (first .bound ≤ 64000) × (product .singles ≤ most-lives) ⌝ }
     ensures { λ r. ⌜ StartedWith load truncation mean first product r ⌝ }
 {
     let cell = whole::as_i64(Signed {

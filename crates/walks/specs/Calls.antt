@@ -1,6 +1,6 @@
 -- Calls whose result, plain data, goes to a local that holds nothing yet.
 --     calls-into       a call as of `calls-for`: n is the entry of the local's room
---     calls-plain      a call of a function to which plain data is passed only
+--     calls-plain      a call of a function to which plain data is passed only: `made` has what the `held` values own
 --     ends-plain       a walk ends at a result that is plain data
 -- Assumes `Given`.
 use mathlib.Core.Path.{_≡_, sym, ap, subst}

@@ -4,6 +4,8 @@
 --     frees-cell       a cell that holds a value
 --     frees-room       a cell that holds none
 --     frees-cells      the cells of the first locals at once, with values vs: entry n is the first one's, the next entry says that it dies, and the next local's are the two before
+-- At any place:
+--     pulls            entry n goes to the head
 -- Assumes `Given`.
 use mathlib.Core.Path.{_≡_, sym, ap, subst}
 use Prim.Native.Nat.{ℕ, _-_}

@@ -4,11 +4,6 @@ use mathlib.Core.Bool.{true, false, true≢false}
 use mathlib.Core.List.{List, []}
 use Prim.Native.Nat.{ℕ, _+_, _*_, _≤_, _<_, _^_}
 use native.Mathlib.Omega.{arith}
-use mir.Syntax.{Rv as RValue, w64, copy, place, rvOpd}
-use mir.Val.{vint}
-use types.Kit.{ ! }
-use types.Run.{of-opd}
-use denote.Builtin.{u64}
 use Rattle.fund.specs.declared.ModelPoint.{ModelPoint}
 use Rattle.fund.specs.Base.{total}
 use Rattle.fund.specs.Folding.{copies}
@@ -19,6 +14,7 @@ use Rattle.widths.specs.Parts.{singleLoad}
 use Rattle.widths.specs.PartBounds.{single-le}
 use Rattle.widths.specs.Sums.{total-bound}
 use Rattle.totals.specs.Table.{PointIn, Points, members-of, most-lambda}
+use Rattle.walks.specs.ByHand.{RValue, w64, copy, place, rvOpd, vint, !, of-opd, u64}
 use Rattle.walks.specs.WalkForm.{wordTy, Says, First, Facts}
 use Rattle.walks.specs.WalkTable.{meets}
 use Rattle.totals.proofs.PointElement.{point}

@@ -2,17 +2,12 @@
 use mathlib.Core.Path.{_≡_}
 use mathlib.Core.Bool.{Bool, true, false}
 use mathlib.Core.List.{List, []}
-use mir.Syntax.{Rv as RValue, tyBool, copy, place, rvOpd}
-use mir.Val.{vbool}
-use base.Logic.{id⊢}
-use types.Kit.{ ! }
-use types.Run.{of-opd}
-use denote.Builtin.{bool}
 use denote.Plain.{bool-copy}
 use Rattle.fund.specs.declared.ModelPoint.{ModelPoint}
 use Rattle.laws.specs.Accepted.{All}
 use Rattle.laws.specs.Tells.{Tells}
 use Rattle.totals.specs.Table.{PointIn}
+use Rattle.walks.specs.ByHand.{RValue, tyBool, copy, place, rvOpd, vbool, id⊢, !, of-opd, bool}
 use Rattle.walks.specs.Plain.{flag}
 use Rattle.walks.specs.WalkForm.{Says, Extra, First, Facts}
 use Rattle.walks.specs.WalkTable.{meets}

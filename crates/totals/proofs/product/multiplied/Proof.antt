@@ -8,12 +8,6 @@ use native.Mathlib.Nat as N
 use native.Mathlib.Omega.{arith}
 use lib.Dec.{lit<}
 use lib.ListN.{length, replicate}
-use mir.Syntax.{Rv as RValue, w64, copy, int, place, aggregate}
-use base.Logic.{id⊢}
-use types.Kit.{ ! }
-use types.Part.{agg}
-use types.Run.{lit, and-then, no-more}
-use denote.Builtin.{u64}
 use denote.Struct.Laws as LL
 use Rattle.fund.specs.declared.ModelPoint.{ModelPoint}
 use Rattle.fund.specs.Base.{total}
@@ -30,6 +24,7 @@ use Rattle.totals.specs.declared.product.Product.{Product}
 use Rattle.totals.specs.Table.{PointIn, Points, members-of}
 use Rattle.start.specs.Terms.{most-t}
 use Rattle.totals.specs.Product.{countOne, Times, Multiplied}
+use Rattle.walks.specs.ByHand.{RValue, w64, copy, int, place, aggregate, id⊢, !, agg, lit, and-then, no-more, u64}
 use Rattle.walks.specs.Plain.{declared}
 use Rattle.walks.specs.WalkForm.{wordTy, Says, Extra, First, Facts}
 use Rattle.walks.specs.WalkTable.{meets}

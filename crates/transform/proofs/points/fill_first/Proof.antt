@@ -1,25 +1,20 @@
--- `transform::points::fill_first`: the first model points of an array that is passed by value are lent to `fill_transform`, which is given the two slices. A walk of its
--- MIR by hand.
+-- `transform::points::fill_first`: the first model points of an array that is passed by value are lent to `fill_transform`, with the two slices. A walk of its MIR by hand.
 use mathlib.Core.Path.{_≡_, refl}
 use Prim.Native.Nat.{ℕ, _≤_}
 use mathlib.Core.List.{List, [], _∷_}
 use lib.IntN.{ℤ}
 use lib.ListN.{length, take}
 use denote.Builtin.{ArrayOf}
-use denote.Exit.{yes}
 use denote.Plain.{nothing-lawful}
-use denote.RattleType.{owns}
-use denote.Signature.{plain}
-use denote.Slice.{MutSlice, Room, finally, mut-slice-tells}
+use denote.Slice.{mut-slice-tells}
 use denote.Struct.Laws as LL
-use denote.Triple.Entry.{onEntry}
 use denote.Triple.Walked.{says, Stays, stay-dropped, gave-slice, walkOf, Walks, ends-at, walked, goes-dropped, goes-gave-slice, walk-meets}
 use Rattle.fund.specs.declared.ModelPoint.{ModelPoint}
 use Rattle.fund.specs.Limits.{most-members}
 use Rattle.fund.proofs.ModelPoint as P
 use Rattle.fund.proofs.ModelPoint.Laws as P′
 use Rattle.walks.specs.Again.{last-slice}
-use Rattle.walks.specs.ByHand.{URA, fullShare, named, w64, Val, vint, vunit, SProp, ent, emp, id⊢, Lft, Share, flft, ftrue, Model, Heap, WpFn, Atoms, WpFn-mono, Fun, factI, Running, GhostRules, givenOf, tables, tablesOf, Given, Item, ‵, ⋆, _⊛_, _$_, _∵_, !, qed, by, move, keep, drop, use0, use1, split, join, fsplit, fjoin, feqI, suffices, frame, done, look, init, stop, from, of-opd, unit-lit, and-then, no-more, assigns, land, returns, enter, params1, pass1, pass0, free0, Array, array-vals, array-tells, array-lawful, i64, u64, Is, uint-vals, uint-tells, RefT, sliceVal, slice-vals, nothing, only, Clauses, entered, framed, needs}
+use Rattle.walks.specs.ByHand.{URA, fullShare, named, w64, Val, vint, vunit, ent, emp, id⊢, Lft, Share, flft, ftrue, Model, Heap, WpFn, Atoms, WpFn-mono, Fun, factI, Running, GhostRules, givenOf, tables, tablesOf, Given, Item, ‵, ⋆, _⊛_, _$_, _∵_, !, qed, by, move, keep, drop, use0, use1, split, join, fsplit, fjoin, feqI, suffices, frame, done, look, init, stop, from, of-opd, unit-lit, and-then, no-more, assigns, land, returns, enter, params1, pass1, pass0, free0, Array, array-vals, array-tells, array-lawful, i64, u64, Is, uint-vals, uint-tells, RefT, sliceVal, slice-vals, nothing, only, Clauses, entered, framed, needs, yes, owns, plain, MutSlice, Room, finally, onEntry}
 use Rattle.walks.specs.FreedLocals.{allocates, frees-cells, frees-room}
 use Rattle.walks.specs.LentArray.{first, lends-array, takes-array}
 use Rattle.walks.specs.Plain.{Plain, word, declared}
@@ -52,9 +47,6 @@ module _ {M : Type 1} (𝓤 : URA M) (H : Heap 𝓤) (𝓜 : Model 𝓤 H) (𝓖
 
   abbrev c : Clauses 𝓤 lent.ended
   c = lent.clauses 𝓤 H A (𝓜 .mem) (𝓡 .run)
-
-  abbrev c-fill : Clauses 𝓤 fill.ended
-  c-fill = fill.clauses 𝓤 H A (𝓜 .mem) (𝓡 .run)
 
   abbrev Run : Fun 𝓤
   Run = WpFn 𝓤 H (tables 𝓤 H 𝓜 𝓡 code.env .C) (tables 𝓤 H 𝓜 𝓡 code.env .Λ) code.function
@@ -92,6 +84,7 @@ module _ {M : Type 1} (𝓤 : URA M) (H : Heap 𝓤) (𝓜 : Model 𝓤 H) (𝓖
         lends-array point 1000 k xs tt room (asks .0) (is-k .1) v is-xs (is-xs .1 .0 .1) 24 21 14 10 8 refl refl refl refl refl refl refl refl refl refl refl refl (λ ν γ.
         reborrows ! 20 9 7 refl refl refl refl refl refl refl refl (room₁ .0) $ reborrows ! 18 5 3 refl refl refl refl refl refl refl refl (room₂ .0) $
         -- `fill_transform`
+        let c-fill = fill.clauses 𝓤 H A (𝓜 .mem) (𝓡 .run) in
         let ps = first P.the-row 1000 k (bs .1 .1 .1 .1 .1 .1 .0) xs γ in
         let to : Stated W fill.ended c-fill .Ghost = (((ν ∷ [], (κ₁, (κ₂, tt))), (fullShare, (q₁, (q₂, tt))), tt, (ps, (x, (d, (h, tt)))), (sliceVal (ps .ptr) (length (ps .now)) ∷ [], (F′.lowered x ∷ [], (v₁ ∷ [], (v₂ ∷ [], tt))))), tt) in
         nothing ! $ move ! (31 ∷ 0 ∷ []) $ fjoin ! $ move ! (31 ∷ 0 ∷ []) $ fjoin ! $ use0 W (‵ (F.the-row .own x (F′.lowered x ∷ []))) (filling .makes 𝓤 H A W x _ is-x) $ fjoin ! $ move ! (2 ∷ 0 ∷ []) $ fjoin ! $
