@@ -1,2 +1,3 @@
 pub mod JoinedSteps
 pub mod Priced
+pub mod Source

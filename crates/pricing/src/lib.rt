@@ -13,6 +13,8 @@ ghost use Rattle.fund.specs.Quantile.{quantileOf};
 ghost use Rattle.fund.specs.Sheets.{sheetReading};
 ghost use Rattle.valuation.specs.Valued.{leftValued, lengths};
 ghost use Rattle.pricing.specs.Priced.{leftPriced, horizonWith, Told, valuedOf, Prices, PricesRead, lineOf};
+ghost use Rattle.pricing.specs.Source.{readingFrom};
+ghost use Rattle.rows.specs.Read.{fileRead};
 
 // What a call answers beside the result slices: the verdict, where the part of the host's bytes that goes with it starts and
 // ends, the horizon of a fund that is accepted, the figures, and the answer at the level.
@@ -23,6 +25,12 @@ pub struct Priced {
     pub horizon: u64,
     pub figures: Figures,
     pub quantile: Quantile,
+}
+
+// Where the rows of a fund stand: in its file, or in two sheets beside its header text.
+enum Source {
+    File,
+    Sheets,
 }
 
 // The horizon is told of a fund that is accepted.
@@ -123,6 +131,37 @@ pub fn price_read(
     }
 }
 
+// Reads the fund of a file, or of a header text and two sheets.
+fn read_from(source: Source, text: &[u8], rates: &[u8], members: &[u8]) -> FileRead
+    ensures { λ r. ⌜ r ≡ fileRead (readingFrom source (now (text .entry)) (now (rates .entry)) (now (members .entry))) ⌝ }
+{
+    match source {
+        Source::File => reader::read(text),
+        Source::Sheets => sheet_reader::read(text, rates, members),
+    }
+}
+
+// Prices the fund that is read so. Both calls come here, so that the rows are handed on in one place.
+fn price_from(
+    source: Source,
+    text: &[u8],
+    rates: &[u8],
+    members: &[u8],
+    level: u64,
+    transform: &mut [i64],
+    h: &mut [u64],
+    f: &mut [i64],
+    r: &mut [u64],
+    sums: &mut [i64],
+) -> Priced
+    ensures { λ p. ⌜ Prices (now (text .entry)) (readingFrom source (now (text .entry)) (now (rates .entry)) (now (members .entry))) level
+        (lengths (now (transform .entry)) (now (h .entry)) (now (f .entry)) (now (r .entry)) (now (sums .entry))) p
+        (leftPriced p (now (transform .exit)) (now (h .exit)) (now (f .exit)) (now (r .exit)) (now (sums .exit))) ⌝ }
+{
+    let found = read_from(source, text, rates, members);
+    price_read(text, found, level, transform, h, f, r, sums)
+}
+
 // Prices the fund of a file into five result slices, for D, H, f, R and F, and answers at a level.
 pub fn price(
     file: &[u8],
@@ -137,8 +176,18 @@ pub fn price(
         (lengths (now (transform .entry)) (now (h .entry)) (now (f .entry)) (now (r .entry)) (now (sums .entry))) p
         (leftPriced p (now (transform .exit)) (now (h .exit)) (now (f .exit)) (now (r .exit)) (now (sums .exit))) ⌝ }
 {
-    let found = reader::read(file);
-    price_read(file, found, level, transform, h, f, r, sums)
+    price_from(
+        Source::File,
+        file,
+        file,
+        file,
+        level,
+        transform,
+        h,
+        f,
+        r,
+        sums,
+    )
 }
 
 // The same of a header text and two sheets of binary64 cells, of rates and of members.
@@ -157,8 +206,18 @@ pub fn price_sheets(
         (lengths (now (transform .entry)) (now (h .entry)) (now (f .entry)) (now (r .entry)) (now (sums .entry))) p
         (leftPriced p (now (transform .exit)) (now (h .exit)) (now (f .exit)) (now (r .exit)) (now (sums .exit))) ⌝ }
 {
-    let found = sheet_reader::read(header, rates, members);
-    price_read(header, found, level, transform, h, f, r, sums)
+    price_from(
+        Source::Sheets,
+        header,
+        rates,
+        members,
+        level,
+        transform,
+        h,
+        f,
+        r,
+        sums,
+    )
 }
 
 // The line that the host is handed, a part of its own bytes.
