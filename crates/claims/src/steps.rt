@@ -1,7 +1,6 @@
 // The calls that the pricing call is made of, each a public call of its own: what it gives is its definition's, for every input.
 use fund::Figures;
 use fund::Fund;
-use fund::Limits;
 use fund::ModelPoint;
 use fund::Quantile;
 use fund::Verdict;
@@ -49,7 +48,7 @@ ghost use Rattle.answer_text.specs.Level.{levelLineOf};
 ghost use Rattle.writing.specs.Writing.{Written};
 
 // The named constants are the definitions' limits.
-pub fn claimed_limits() -> Limits
+pub fn claimed_limits() -> [u64; 31]
     ensures { λ r. ⌜ r ≡ limits ⌝ }
 {
     Fund::limits()

@@ -1,7 +1,7 @@
 -- "All limits above are named constants of the fund record's type." Here are their numbers, which the definitions use;
 -- `Fund::limits` shows that the constants are these.
+use mathlib.Core.List.{List, [], _∷_}
 use Prim.Native.Nat.{ℕ}
-use Rattle.fund.specs.declared.Limits.{Limits}
 
 -- "Numbers are decimal, [..] of one to seven digits."
 abbrev pub most-digits : ℕ
@@ -106,38 +106,10 @@ third-loading = 1900
 abbrev pub fourth-loading : ℕ
 fourth-loading = 2100
 
-abbrev pub limits : Limits
+-- All of them, in their order.
+abbrev pub limits : List ℕ
 limits =
-    record {
-      «most_digits» = most-digits;
-      «least_edition» = least-edition;
-      «most_edition» = most-edition;
-      «most_horizon» = most-horizon;
-      «least_order» = least-order;
-      «most_order» = most-order;
-      «most_frequency» = most-frequency;
-      «most_deductible» = most-deductible;
-      «least_worth» = least-worth;
-      «most_worth» = most-worth;
-      «most_rates» = most-rates;
-      «most_age» = most-age;
-      «most_rate» = most-rate;
-      «most_members» = most-members;
-      «least_group» = least-group;
-      «most_group» = most-group;
-      «most_amount» = most-amount;
-      «least_lives» = least-lives;
-      «most_lives» = most-lives;
-      half = half-rate;
-      «most_load» = most-load;
-      «most_truncation» = most-truncation;
-      «most_bound» = most-bound;
-      «most_level» = most-level;
-      «second_step» = second-step;
-      «third_step» = third-step;
-      «fourth_step» = fourth-step;
-      «first_loading» = first-loading;
-      «second_loading» = second-loading;
-      «third_loading» = third-loading;
-      «fourth_loading» = fourth-loading;
-    }
+    most-digits ∷ least-edition ∷ most-edition ∷ most-horizon ∷ least-order ∷ most-order ∷ most-frequency ∷ most-deductible ∷ least-worth ∷
+    most-worth ∷ most-rates ∷ most-age ∷ most-rate ∷ most-members ∷ least-group ∷ most-group ∷ most-amount ∷ least-lives ∷ most-lives ∷ half-rate ∷
+    most-load ∷ most-truncation ∷ most-bound ∷ most-level ∷ second-step ∷ third-step ∷ fourth-step ∷ first-loading ∷ second-loading ∷ third-loading ∷
+    fourth-loading ∷ []

@@ -126,41 +126,6 @@ pub struct Figures {
     pub gross: u64,
 }
 
-// Every limit of document 01 and of the requests after it, by name.
-pub struct Limits {
-    pub most_digits: u64,
-    pub least_edition: u64,
-    pub most_edition: u64,
-    pub most_horizon: u64,
-    pub least_order: u64,
-    pub most_order: u64,
-    pub most_frequency: u64,
-    pub most_deductible: u64,
-    pub least_worth: u64,
-    pub most_worth: u64,
-    pub most_rates: u64,
-    pub most_age: u64,
-    pub most_rate: u64,
-    pub most_members: u64,
-    pub least_group: u64,
-    pub most_group: u64,
-    pub most_amount: u64,
-    pub least_lives: u64,
-    pub most_lives: u64,
-    pub half: u64,
-    pub most_load: u64,
-    pub most_truncation: u64,
-    pub most_bound: u64,
-    pub most_level: u64,
-    pub second_step: u64,
-    pub third_step: u64,
-    pub fourth_step: u64,
-    pub first_loading: u64,
-    pub second_loading: u64,
-    pub third_loading: u64,
-    pub fourth_loading: u64,
-}
-
 impl Fund {
     // The digits of a number.
     pub const MOST_DIGITS: u64 = 7;
@@ -249,43 +214,43 @@ impl Fund {
         Fund::HEADER_LINES
     }
 
-    // The constants are the limits that the definitions use.
-    pub fn limits() -> Limits
+    // The constants are the limits that the definitions use, in their order.
+    pub fn limits() -> [u64; 31]
         ensures { λ r. ⌜ r ≡ limits ⌝ }
     {
-        Limits {
-            most_digits: Fund::MOST_DIGITS,
-            least_edition: Fund::LEAST_EDITION,
-            most_edition: Fund::MOST_EDITION,
-            most_horizon: Fund::MOST_HORIZON,
-            least_order: Fund::LEAST_ORDER,
-            most_order: Fund::MOST_ORDER,
-            most_frequency: Fund::MOST_FREQUENCY,
-            most_deductible: Fund::MOST_DEDUCTIBLE,
-            least_worth: Fund::LEAST_WORTH,
-            most_worth: Fund::MOST_WORTH,
-            most_rates: Fund::MOST_RATES,
-            most_age: Fund::MOST_AGE,
-            most_rate: Fund::MOST_RATE,
-            most_members: Fund::MOST_MEMBERS,
-            least_group: Fund::LEAST_GROUP,
-            most_group: Fund::MOST_GROUP,
-            most_amount: Fund::MOST_AMOUNT,
-            least_lives: Fund::LEAST_LIVES,
-            most_lives: Fund::MOST_LIVES,
-            half: Fund::HALF,
-            most_load: Fund::MOST_LOAD,
-            most_truncation: Fund::MOST_TRUNCATION,
-            most_bound: Fund::MOST_BOUND,
-            most_level: Fund::MOST_LEVEL,
-            second_step: Fund::SECOND_STEP,
-            third_step: Fund::THIRD_STEP,
-            fourth_step: Fund::FOURTH_STEP,
-            first_loading: Fund::FIRST_LOADING,
-            second_loading: Fund::SECOND_LOADING,
-            third_loading: Fund::THIRD_LOADING,
-            fourth_loading: Fund::FOURTH_LOADING,
-        }
+        [
+            Fund::MOST_DIGITS,
+            Fund::LEAST_EDITION,
+            Fund::MOST_EDITION,
+            Fund::MOST_HORIZON,
+            Fund::LEAST_ORDER,
+            Fund::MOST_ORDER,
+            Fund::MOST_FREQUENCY,
+            Fund::MOST_DEDUCTIBLE,
+            Fund::LEAST_WORTH,
+            Fund::MOST_WORTH,
+            Fund::MOST_RATES,
+            Fund::MOST_AGE,
+            Fund::MOST_RATE,
+            Fund::MOST_MEMBERS,
+            Fund::LEAST_GROUP,
+            Fund::MOST_GROUP,
+            Fund::MOST_AMOUNT,
+            Fund::LEAST_LIVES,
+            Fund::MOST_LIVES,
+            Fund::HALF,
+            Fund::MOST_LOAD,
+            Fund::MOST_TRUNCATION,
+            Fund::MOST_BOUND,
+            Fund::MOST_LEVEL,
+            Fund::SECOND_STEP,
+            Fund::THIRD_STEP,
+            Fund::FOURTH_STEP,
+            Fund::FIRST_LOADING,
+            Fund::SECOND_LOADING,
+            Fund::THIRD_LOADING,
+            Fund::FOURTH_LOADING,
+        ]
     }
 }
 
