@@ -1,9 +1,7 @@
 // Runs the stored cases on standard input, one after the other. Each has a head: a letter, f for a file, s for a header text with two sheets or p for
 // a pair of files; the lengths of three texts as six digits each, 000000 for those that it does not have; a level as thirteen digits; a space before
 // each number, and a line feed. Its texts follow.
-mod files;
-mod pairs;
-mod sheets;
+mod answers;
 
 use fund_printing::MOST_BYTES;
 use libc::STDIN_FILENO;
@@ -15,22 +13,6 @@ const HEAD: usize = 37;
 
 fn write(text: &[u8]) -> bool {
     io::write_all(STDOUT_FILENO, text)
-}
-
-// Writes a text with a line feed behind it.
-fn write_ended(text: &[u8]) -> bool {
-    if !write(text) {
-        return false;
-    }
-    write(b"\n")
-}
-
-// Writes the line that the host is handed.
-fn write_handed(line: &[u8]) -> bool {
-    if !write(b"line=") {
-        return false;
-    }
-    write_ended(line)
 }
 
 // The number that some digits spell.
@@ -55,9 +37,9 @@ fn read_part(buffer: &mut [u8], digits: &[u8]) -> usize
 // Writes the answer of a case; whether its kind is known and all was written.
 fn write_case(kind: u8, first: &[u8], second: &[u8], third: &[u8], level: u64) -> bool {
     match kind {
-        b'f' => files::write_answer(first, level),
-        b's' => sheets::write_answer(first, second, third, level),
-        b'p' => pairs::write_comparison(first, second),
+        b'f' => answers::write_file(first, level),
+        b's' => answers::write_sheets(first, second, third, level),
+        b'p' => answers::write_comparison(first, second),
         _ => false,
     }
 }

@@ -35,10 +35,7 @@ fn print_pair(i: usize)
     if second.failed {
         print_text(b"unreadable=new\n");
     }
-    if first.failed {
-        return;
-    }
-    if second.failed {
+    if first.failed || second.failed {
         return;
     }
     let old_size = first.size;

@@ -46,7 +46,7 @@ pub(crate) fn level_of(asked: Asked) -> u64
 }
 
 // Writes what is asked of an answer from the start of the text; returns its size.
-pub(crate) fn write(
+pub(crate) fn write_asked(
     asked: Asked,
     priced: Priced,
     f: &[i64],
@@ -91,7 +91,7 @@ pub fn print(asked: Asked, file: &[u8], text: &mut [u8]) -> usize
         &mut r,
         &mut sums,
     );
-    write(asked, priced, &f, &r, &sums, text)
+    write_asked(asked, priced, &f, &r, &sums, text)
 }
 
 // The same of a file of which the first `size` bytes of the buffer are the first ones, as many as the buffer has room for.

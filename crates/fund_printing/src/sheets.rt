@@ -37,5 +37,5 @@ pub fn print_sheets(
         &mut r,
         &mut sums,
     );
-    crate::write(asked, priced, &f, &r, &sums, text)
+    crate::write_asked(asked, priced, &f, &r, &sums, text)
 }

@@ -20,13 +20,7 @@ pub fn print_files(asked: Asked) {
     let first = input::read_argument(1, &mut header);
     let second = input::read_argument(2, &mut rates);
     let third = input::read_argument(3, &mut members);
-    if first.failed {
-        return;
-    }
-    if second.failed {
-        return;
-    }
-    if third.failed {
+    if first.failed || second.failed || third.failed {
         return;
     }
     let header_size = first.size;

@@ -16,7 +16,7 @@ returns c =
     let p = priced .price in
     let o = p .last .1 .1 in
     written (a .file .now) _ (read-ranges (a .file .now)) (p .result) (o .0) (o .1 .0) (o .1 .1 .0) (o .1 .1 .1 .0) (o .1 .1 .1 .1 .0) (p .kept .1 .1 .1 .1 .0 ∙ signed-length) (p .kept .1 .1 .1 .1 .1 .0 ∙ cells-length) (p .kept .1 .1 .1 .1 .1 .1 .0 ∙ signed-length)
-    (a .asked) (level .level-of .ensures) (p .ensures .answers) (put .write .ensures)
+    (a .asked) (level .level-of .ensures) (p .ensures .answers) (put .write-asked .ensures)
 
 pub print-spec : {M : Type 1} → statement M
 print-spec =

@@ -4,8 +4,8 @@ use borrow.Author.Needs.{needs}
 use lib.ListN.{length}
 use Rattle.writing.proofs.PieceLaws.{written-as}
 use Rattle.fund_printing.specs.Printed.{textOf}
-use Rattle.fund_printing.proofs.write.Statement.{statement}
-use Rattle.fund_printing.proofs.write.Tie as tie
+use Rattle.fund_printing.proofs.write_asked.Statement.{statement}
+use Rattle.fund_printing.proofs.write_asked.Tie as tie
 
 returns : tie.Need-returns
 returns c =
@@ -21,7 +21,7 @@ returns-2 c =
     let a = told .before .before .before .before .args in
     written-as _ (ap (λ asked. textOf asked (a .priced) (a .f .now) (a .r .now) (a .sums .now) (length (a .text .now))) (told .enum-told2 .given .1)) (put .level-line .ensures)
 
-pub write-spec : {M : Type 1} → statement M
-write-spec =
+pub write-asked-spec : {M : Type 1} → statement M
+write-asked-spec =
     tie.close
     (tie.spec (λ c. search needs) (λ c κs. search needs) (λ c. search needs) (λ c κs. search needs) (λ c. search needs) returns (λ c. search needs) returns-2)
