@@ -8,7 +8,7 @@
  *
  * The calls take every sequence of bytes, every level and result slices of every
  * length, and always return. They keep no state, allocate nothing, need less
- * than 300 KiB of stack, the one that compares less than 500, and may run in
+ * than 250 KiB of stack, the one that compares less than 500, and may run in
  * several threads at once on different results.
  *
  * Two libraries, which may be linked side by side: libmiguepo.a holds the calls
