@@ -48,10 +48,7 @@ fn numbers_at(file: &[u8], line: Line, k: usize) -> Numbers
 fn both_within(least: u64, most: u64, first: u64, second: u64) -> bool
     ensures { λ r. ⌜ r ≡ (between least most first && between least most second) ⌝ }
 {
-    if rows::within(least, most, first) {
-        return rows::within(least, most, second);
-    }
-    false
+    rows::within(least, most, first) && rows::within(least, most, second)
 }
 
 // Whether the numbers of the header line k are in their ranges. The line of the frequencies has two, every other one.
@@ -60,8 +57,7 @@ fn header_in_range(k: usize, first: u64, second: u64) -> bool
     ensures { λ r. ⌜ r ≡ inRanges (headerLine k .ranges) (lineNumbers k first second) ⌝ }
 {
     match k {
-        0 => rows::within(Fund::LEAST_EDITION, Fund::MOST_EDITION, first),
-        1 => rows::within(Fund::LEAST_EDITION, Fund::MOST_EDITION, first),
+        0 | 1 => rows::within(Fund::LEAST_EDITION, Fund::MOST_EDITION, first),
         2 => rows::within(0, Fund::MOST_HORIZON, first),
         3 => rows::within(Fund::LEAST_ORDER, Fund::MOST_ORDER, first),
         4 => both_within(0, Fund::MOST_FREQUENCY, first, second),
