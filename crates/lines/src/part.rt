@@ -23,17 +23,8 @@ fn names_line(why: Refusal) -> bool
     ensures { λ r. ⌜ r ≡ namesLine why ⌝ }
 {
     match why {
-        Refusal::Form => true,
-        Refusal::Range => true,
-        Refusal::Edition => false,
-        Refusal::Deductible => false,
-        Refusal::Unmatched => true,
-        Refusal::Half => true,
-        Refusal::Load => false,
-        Refusal::Order => false,
-        Refusal::Short => false,
-        Refusal::Wide => false,
-        Refusal::Cell => false,
+        Refusal::Form | Refusal::Range | Refusal::Unmatched | Refusal::Half => true,
+        _ => false,
     }
 }
 
