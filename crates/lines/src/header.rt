@@ -77,9 +77,8 @@ fn header_step(file: &[u8], at: usize, k: usize) -> HeaderStep
     let l = line::next_line(file, at);
     let ns = numbers_at(file, l, k);
     if ns.spelled {
-        let values = ns.values;
-        let first = values[0];
-        let second = values[1];
+        let first = ns.values[0];
+        let second = ns.values[1];
         if header_in_range(k, first, second) {
             return HeaderStep::Values(first, second, l.next);
         }
@@ -109,16 +108,15 @@ pub fn read_header(file: &[u8]) -> Header
         }
         k += 1;
     }
-    let frequency = Frequencies {
-        death: firsts[4],
-        disability: seconds[4],
-    };
     let fund = Fund {
         rates: firsts[0],
         members: firsts[1],
         horizon: firsts[2],
         order: firsts[3],
-        frequency,
+        frequency: Frequencies {
+            death: firsts[4],
+            disability: seconds[4],
+        },
         deductible: firsts[5],
         worth: firsts[6],
     };

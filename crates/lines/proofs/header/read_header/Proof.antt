@@ -28,9 +28,9 @@ header-step-requires : tie.Need-header-step-requires Inv-loop μ-loop
 unfolding headerLines
 header-step-requires c κs = omega arith
 
-add-t15 : tie.Need-add-t15 Inv-loop μ-loop
+add-t14 : tie.Need-add-t14 Inv-loop μ-loop
 unfolding headerLines
-add-t15 c = omega arith
+add-t14 c = omega arith
 
 returns : tie.Need-returns Inv-loop μ-loop
 returns c =
@@ -87,6 +87,6 @@ pub read-header-spec : {M : Type 1} → statement M
 unfolding headerLines
 read-header-spec =
     tie.close
-    (tie.spec Inv-loop μ-loop loop-holds header-step-requires (λ c. search needs) add-t15 returns (λ c. search needs) mul-firsts array-write-firsts
+    (tie.spec Inv-loop μ-loop loop-holds header-step-requires (λ c. search needs) add-t14 returns (λ c. search needs) mul-firsts array-write-firsts
     mul-seconds array-write-seconds add-k loop-less loop-again (λ c. omega arith) (λ c. omega arith) (λ c. omega arith) (λ c. omega arith)
     (λ c. omega arith) (λ c. omega arith) (λ c. omega arith) (λ c. omega arith) returns-2)
