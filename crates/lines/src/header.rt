@@ -94,8 +94,7 @@ pub fn read_header(file: &[u8]) -> Header
     let mut firsts = [0u64; Fund::HEADER_LINES];
     let mut seconds = [0u64; Fund::HEADER_LINES];
     let mut at: usize = 0;
-    let mut k: usize = 0;
-    while k < Fund::HEADER_LINES {
+    for k in 0..Fund::HEADER_LINES {
         match header_step(file, at, k) {
             HeaderStep::Stopped(why) => {
                 return Header::Stopped(why, k as u64 + 1);
@@ -106,7 +105,6 @@ pub fn read_header(file: &[u8]) -> Header
                 at = next;
             }
         }
-        k += 1;
     }
     let fund = Fund {
         rates: firsts[0],

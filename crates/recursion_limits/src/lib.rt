@@ -42,12 +42,10 @@ fn error_at(horizon: usize, h: &[u64]) -> u64
     requires { ⌜ horizon < length (now h) ⌝ }
     ensures { λ k. ⌜ ErrorAt horizon (now (h .entry)) k ⌝ }
 {
-    let mut k: usize = 0;
-    while k < horizon {
+    for k in 0..horizon {
         if MOST_ERROR < h[k + 1] {
             return (k + 1) as u64;
         }
-        k += 1;
     }
     0
 }
@@ -58,14 +56,12 @@ fn sizes_within(horizon: usize, transform: &[i64]) -> bool
     ensures { λ b. ⌜ b ≡ leb (sizes (now (transform .entry)) horizon) most-transform ⌝ }
 {
     let mut left = MOST_TRANSFORM;
-    let mut k: usize = 0;
-    while k < horizon {
+    for k in 0..horizon {
         let size = whole::magnitude(transform[k + 1]);
         if left < size {
             return false;
         }
         left -= size;
-        k += 1;
     }
     true
 }
