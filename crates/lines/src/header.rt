@@ -96,9 +96,7 @@ pub fn read_header(file: &[u8]) -> Header
     let mut at: usize = 0;
     for k in 0..Fund::HEADER_LINES {
         match header_step(file, at, k) {
-            HeaderStep::Stopped(why) => {
-                return Header::Stopped(why, k as u64 + 1);
-            }
+            HeaderStep::Stopped(why) => return Header::Stopped(why, k as u64 + 1),
             HeaderStep::Values(first, second, next) => {
                 firsts[k] = first;
                 seconds[k] = second;
