@@ -48,10 +48,7 @@ fn numbers_at(file: &[u8], line: Line, k: usize) -> Numbers
 fn both_within(least: u64, most: u64, first: u64, second: u64) -> bool
     ensures { λ r. ⌜ r ≡ (between least most first && between least most second) ⌝ }
 {
-    if rows::within(least, most, first) {
-        return rows::within(least, most, second);
-    }
-    false
+    rows::within(least, most, first) && rows::within(least, most, second)
 }
 
 // Whether the numbers of the header line k are in their ranges. The line of the frequencies has two, every other one.
@@ -60,8 +57,7 @@ fn header_in_range(k: usize, first: u64, second: u64) -> bool
     ensures { λ r. ⌜ r ≡ inRanges (headerLine k .ranges) (lineNumbers k first second) ⌝ }
 {
     match k {
-        0 => rows::within(Fund::LEAST_EDITION, Fund::MOST_EDITION, first),
-        1 => rows::within(Fund::LEAST_EDITION, Fund::MOST_EDITION, first),
+        0 | 1 => rows::within(Fund::LEAST_EDITION, Fund::MOST_EDITION, first),
         2 => rows::within(0, Fund::MOST_HORIZON, first),
         3 => rows::within(Fund::LEAST_ORDER, Fund::MOST_ORDER, first),
         4 => both_within(0, Fund::MOST_FREQUENCY, first, second),
@@ -81,9 +77,8 @@ fn header_step(file: &[u8], at: usize, k: usize) -> HeaderStep
     let l = line::next_line(file, at);
     let ns = numbers_at(file, l, k);
     if ns.spelled {
-        let values = ns.values;
-        let first = values[0];
-        let second = values[1];
+        let first = ns.values[0];
+        let second = ns.values[1];
         if header_in_range(k, first, second) {
             return HeaderStep::Values(first, second, l.next);
         }
@@ -99,30 +94,25 @@ pub fn read_header(file: &[u8]) -> Header
     let mut firsts = [0u64; Fund::HEADER_LINES];
     let mut seconds = [0u64; Fund::HEADER_LINES];
     let mut at: usize = 0;
-    let mut k: usize = 0;
-    while k < Fund::HEADER_LINES {
+    for k in 0..Fund::HEADER_LINES {
         match header_step(file, at, k) {
-            HeaderStep::Stopped(why) => {
-                return Header::Stopped(why, k as u64 + 1);
-            }
+            HeaderStep::Stopped(why) => return Header::Stopped(why, k as u64 + 1),
             HeaderStep::Values(first, second, next) => {
                 firsts[k] = first;
                 seconds[k] = second;
                 at = next;
             }
         }
-        k += 1;
     }
-    let frequency = Frequencies {
-        death: firsts[4],
-        disability: seconds[4],
-    };
     let fund = Fund {
         rates: firsts[0],
         members: firsts[1],
         horizon: firsts[2],
         order: firsts[3],
-        frequency,
+        frequency: Frequencies {
+            death: firsts[4],
+            disability: seconds[4],
+        },
         deductible: firsts[5],
         worth: firsts[6],
     };

@@ -27,17 +27,11 @@ fn line_from(file: &[u8], at: usize) -> Line
     ensures { λ r. ⌜ NextLine (now (file .entry)) at r ⌝ }
 {
     let end = spelling::find(file, b'\n', at);
-    if end < file.len() {
-        return Line {
-            start: at,
-            end,
-            next: end + 1,
-        };
-    }
+    let next = if end < file.len() { end + 1 } else { end };
     Line {
         start: at,
         end,
-        next: end,
+        next,
     }
 }
 
@@ -72,16 +66,9 @@ pub(crate) fn spelled(file: &[u8], line: Line, key: &[u8], count: usize) -> Numb
 {
     let start = line.start;
     let end = line.end;
-    if line.next <= end {
-        return Numbers {
-            spelled: false,
-            values: [0u64; 5],
-        };
-    }
     let text = &file[start..end];
-    if spelling::begins(text, key) {
-        let from = key.len();
-        return spelling::numbers_of(&text[from..], count);
+    if end < line.next && spelling::begins(text, key) {
+        return spelling::numbers_of(&text[key.len()..], count);
     }
     Numbers {
         spelled: false,

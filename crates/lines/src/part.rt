@@ -23,17 +23,8 @@ fn names_line(why: Refusal) -> bool
     ensures { λ r. ⌜ r ≡ namesLine why ⌝ }
 {
     match why {
-        Refusal::Form => true,
-        Refusal::Range => true,
-        Refusal::Edition => false,
-        Refusal::Deductible => false,
-        Refusal::Unmatched => true,
-        Refusal::Half => true,
-        Refusal::Load => false,
-        Refusal::Order => false,
-        Refusal::Short => false,
-        Refusal::Wide => false,
-        Refusal::Cell => false,
+        Refusal::Form | Refusal::Range | Refusal::Unmatched | Refusal::Half => true,
+        _ => false,
     }
 }
 
@@ -72,13 +63,10 @@ fn line_at(file: &[u8], place: u64) -> Part
 pub fn part_of(file: &[u8], verdict: Verdict) -> Part
     ensures { λ r. ⌜ Spans (now (file .entry)) (part (now (file .entry)) verdict) r ⌝ }
 {
-    match verdict {
-        Verdict::Accepted => empty(),
-        Verdict::Refused(why, place) => {
-            if names_line(why) {
-                return line_at(file, place);
-            }
-            empty()
+    if let Verdict::Refused(why, place) = verdict {
+        if names_line(why) {
+            return line_at(file, place);
         }
     }
+    empty()
 }

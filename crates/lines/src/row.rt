@@ -22,30 +22,27 @@ pub fn row_at(file: &[u8], at: usize) -> Row
     let l = line::next_line(file, at);
     let rate = line::spelled(file, l, b"rate=", 3);
     if rate.spelled {
-        let n = rate.values;
         let r = Rate {
-            age: n[0],
-            q: n[1],
-            i: n[2],
+            age: rate.values[0],
+            q: rate.values[1],
+            i: rate.values[2],
         };
         return Row::Rate(r, l.next);
     }
     let member = line::spelled(file, l, b"member=", 5);
     if member.spelled {
-        let n = member.values;
         let m = Member {
-            age: n[0],
-            group: n[1],
-            d: n[2],
-            e: n[3],
-            lives: n[4],
+            age: member.values[0],
+            group: member.values[1],
+            d: member.values[2],
+            e: member.values[3],
+            lives: member.values[4],
         };
         return Row::Member(m, l.next);
     }
     let end = line::spelled(file, l, b"end=", 1);
     if end.spelled {
-        let n = end.values;
-        return Row::End(n[0], l.next);
+        return Row::End(end.values[0], l.next);
     }
     Row::Other
 }

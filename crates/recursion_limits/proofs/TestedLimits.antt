@@ -56,10 +56,6 @@ module _ (X : ℕ) (d : List ℤ) (h : List ℕ) (start : Cell) (nf nr : ℕ) wh
       tested-error k e = rw (le-ltb _ _ l, s, e)
 
       module _ (e : errorAt X h ≡ none) where
-        pub tested-sum : most-transform < sizes d X → tested X d h start nf nr ≡ Outside 0
-        unfolding tested sumOrStart
-        tested-sum m = rw (le-ltb _ _ l, s, e, lt-ltb _ _ m)
-
         pub tested-start : sumOrStart X d start ≡ true → tested X d h start nf nr ≡ Outside 0
         unfolding tested
         tested-start m = rw (le-ltb _ _ l, s, e, m)
@@ -84,6 +80,10 @@ module _ (start : Cell) where
       go : (b : Bool) → leb (natAbs (start .f)) most-cell ≡ b → (b && leb (start .R) most-bound) ≡ true → CellFits start
       go true a h = record { narrow = leb-true _ _ h; level = leb-true _ _ a }
       go false a h = absurd (true≢false (sym h))
+
+  pub sum-above : (X : ℕ) (d : List ℤ) → most-transform < sizes d X → sumOrStart X d start ≡ true
+  unfolding sumOrStart
+  sum-above X d m = rw (lt-ltb _ _ m)
 
   pub start-above : (X : ℕ) (d : List ℤ) → (leb (natAbs (start .f)) most-cell && leb (start .R) most-bound) ≡ false → sumOrStart X d start ≡ true
   unfolding sumOrStart large wide

@@ -34,16 +34,7 @@ pub const MOST_CELL: u64 = 2 * rounding::UNIT;
 fn short(horizon: usize, transform: usize, h: usize, f: usize, r: usize) -> bool
     ensures { λ s. ⌜ s ≡ anyShort (transform ∷ h ∷ f ∷ r ∷ []) horizon ⌝ }
 {
-    if transform <= horizon {
-        return true;
-    }
-    if h <= horizon {
-        return true;
-    }
-    if f <= horizon {
-        return true;
-    }
-    r <= horizon
+    transform <= horizon || h <= horizon || f <= horizon || r <= horizon
 }
 
 // The first k from 1 to X whose H(k) is above its limit, or 0.
@@ -51,12 +42,10 @@ fn error_at(horizon: usize, h: &[u64]) -> u64
     requires { ⌜ horizon < length (now h) ⌝ }
     ensures { λ k. ⌜ ErrorAt horizon (now (h .entry)) k ⌝ }
 {
-    let mut k: usize = 0;
-    while k < horizon {
+    for k in 0..horizon {
         if MOST_ERROR < h[k + 1] {
             return (k + 1) as u64;
         }
-        k += 1;
     }
     0
 }
@@ -67,14 +56,12 @@ fn sizes_within(horizon: usize, transform: &[i64]) -> bool
     ensures { λ b. ⌜ b ≡ leb (sizes (now (transform .entry)) horizon) most-transform ⌝ }
 {
     let mut left = MOST_TRANSFORM;
-    let mut k: usize = 0;
-    while k < horizon {
+    for k in 0..horizon {
         let size = whole::magnitude(transform[k + 1]);
         if left < size {
             return false;
         }
         left -= size;
-        k += 1;
     }
     true
 }
@@ -83,10 +70,7 @@ fn sizes_within(horizon: usize, transform: &[i64]) -> bool
 fn start_within(first: i64, bound: u64) -> bool
     ensures { λ b. ⌜ b ≡ (leb (natAbs first) most-cell && leb bound most-bound) ⌝ }
 {
-    if whole::magnitude(first) <= MOST_CELL {
-        return bound <= Fund::MOST_BOUND;
-    }
-    false
+    whole::magnitude(first) <= MOST_CELL && bound <= Fund::MOST_BOUND
 }
 
 // Done where all limits are kept: the slices f and r have `cells` and `bounds` cells.
@@ -111,11 +95,8 @@ pub fn tested(
     if 0 < k {
         return Recursed::Outside(k);
     }
-    if !sizes_within(horizon, transform) {
-        return Recursed::Outside(0);
+    if sizes_within(horizon, transform) && start_within(first, bound) {
+        return Recursed::Done;
     }
-    if !start_within(first, bound) {
-        return Recursed::Outside(0);
-    }
-    Recursed::Done
+    Recursed::Outside(0)
 }

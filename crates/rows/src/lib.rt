@@ -29,21 +29,19 @@ pub struct FileRead {
 pub fn without_rows(why: Refusal, place: u64) -> FileRead
     ensures { λ r. ⌜ r ≡ fileRead (stopped why place) ⌝ }
 {
-    let frequency = Frequencies {
-        death: 0,
-        disability: 0,
-    };
     let fund = Fund {
         rates: 0,
         members: 0,
         horizon: 0,
         order: 0,
-        frequency,
+        frequency: Frequencies {
+            death: 0,
+            disability: 0,
+        },
         deductible: 0,
         worth: 0,
     };
     let rate = Rate { age: 0, q: 0, i: 0 };
-    let rates = [rate; Fund::RATE_ROWS];
     let member = Member {
         age: 0,
         group: 0,
@@ -51,13 +49,12 @@ pub fn without_rows(why: Refusal, place: u64) -> FileRead
         e: 0,
         lives: 0,
     };
-    let members = [member; Fund::MEMBER_ROWS];
     FileRead {
         verdict: Verdict::Refused(why, place),
         fund,
-        rates,
+        rates: [rate; Fund::RATE_ROWS],
         rated: 0,
-        members,
+        members: [member; Fund::MEMBER_ROWS],
         enrolled: 0,
     }
 }

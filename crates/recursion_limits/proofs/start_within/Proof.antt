@@ -16,7 +16,7 @@ returns : tie.Need-returns
 returns c = rw (le-leb (natAbs (c .before .before .args .first)) most-cell (omega (arith, size-is (c .before), c .if1 .taken)))
 
 returns-2 : tie.Need-returns-2
-returns-2 c = rw (lt-leb (natAbs (c .before .before .args .first)) most-cell (omega (arith, size-is (c .before), c .if1 .left)))
+returns-2 c = rw (lt-leb (natAbs (c .before .before .args .first)) most-cell (omega (arith, size-is (c .before), c .if1 .left))) (lt-leb _ _ (c .if1 .left))
 
 pub start-within-spec : {M : Type 1} → statement M
 start-within-spec =

@@ -6,7 +6,7 @@ use mathlib.Core.Logic.{⊎-elim}
 use Prim.Native.Nat.{ℕ, suc, _<_, _≤_}
 use native.Mathlib.Omega.{arith}
 use borrow.Author.Needs.{needs}
-use borrow.Author.Tests.{not-true, not-false, leb-true, leb-false}
+use borrow.Author.Tests.{leb-true, leb-false}
 use lib.ListN.{length, getD}
 use mir.Facts.{toZ-ofZ}
 use Rattle.fund.specs.Limits.{most-horizon}
@@ -14,7 +14,7 @@ use Rattle.fund.specs.Recursion.{Cell}
 use Rattle.fund.specs.Refusals.{anyShort}
 use Rattle.laws.specs.Accepted.{All, long-all}
 use Rattle.recursion_limits.specs.Limits.{most-error}
-use Rattle.recursion_limits.proofs.TestedLimits.{error-none, tested-horizon, tested-short, tested-error, tested-sum, tested-start, start-of, start-above}
+use Rattle.recursion_limits.proofs.TestedLimits.{error-none, tested-horizon, tested-short, tested-error, tested-start, start-of, start-above, sum-above}
 use Rattle.recursion_limits.proofs.tested.Statement.{statement}
 use Rattle.recursion_limits.proofs.tested.Tie as tie
 
@@ -64,20 +64,6 @@ sizes-within-requires c κs = long (c .before .before) .0
 
 returns-4 : tie.Need-returns-4
 returns-4 c =
-    let s = c .before .before .before .before .before .before .before .before in
-    let e = c .before .before in
-    tested-sum (s .args .horizon) (s .args .transform .now) (s .args .h .now) (start s) _ _ (within (e .before .before .before .before)) (not-short (e .before .before)) (error-none _ _ (errors e))
-    (leb-false _ _ (sym (c .before .sizes-within .ensures) ∙ not-true _ (c .if4 .taken)))
-
-returns-5 : tie.Need-returns-5
-returns-5 c =
-    let s = c .before .before .before .before .before .before .before .before .before .before in
-    let e = c .before .before .before .before in
-    tested-start (s .args .horizon) (s .args .transform .now) (s .args .h .now) (start s) _ _ (within (e .before .before .before .before)) (not-short (e .before .before)) (error-none _ _ (errors e))
-    (start-above (start s) (s .args .horizon) (s .args .transform .now) (sym (rw (toZ-ofZ (s .fits .first)) at (c .before .start-within .ensures)) ∙ not-true _ (c .if5 .taken)))
-
-returns-6 : tie.Need-returns-6
-returns-6 c =
     let s = c .before .before .before .before .before .before .before .before .before .before in
     let e = c .before .before .before .before in
     let l = long (e .before .before) in
@@ -87,16 +73,21 @@ returns-6 c =
             horizon = within (e .before .before .before .before);
             d-long = l .0;
             h-long = l .1 .0;
-            sizes-within = leb-true _ _ (sym (c .before .before .before .sizes-within .ensures) ∙ not-false _ (c .before .before .if4 .left));
+            sizes-within = leb-true _ _ (sym (c .before .before .before .sizes-within .ensures) ∙ c .before .before .if4 .taken);
             errors = errors e;
           };
       f-long = l .1 .1 .0;
       r-long = l .1 .1 .1 .0;
-      start-fits = start-of (start s) (sym (rw (toZ-ofZ (s .fits .first)) at (c .before .start-within .ensures)) ∙ not-false _ (c .if5 .left));
+      start-fits = start-of (start s) (sym (rw (toZ-ofZ (s .fits .first)) at (c .before .start-within .ensures)) ∙ c .if5 .taken);
     }
 
+returns-5 : tie.Need-returns-5
+returns-5 c =
+    let s = c .before .before .before .before .before .before .before .before in
+    let e = c .before .before in
+    tested-start (s .args .horizon) (s .args .transform .now) (s .args .h .now) (start s) _ _ (within (e .before .before .before .before)) (not-short (e .before .before)) (error-none _ _ (errors e))
+    (⊎-elim (λ w. start-above (start s) (s .args .horizon) (s .args .transform .now) (sym (rw (toZ-ofZ (s .fits .first)) at (w .1 .ensures)) ∙ w .2 .left))
+    (λ w. sum-above (start s) _ _ (leb-false _ _ (sym (c .before .sizes-within .ensures) ∙ w .left))) (c .if4 .came))
+
 pub tested-spec : {M : Type 1} → statement M
-tested-spec =
-    tie.close
-    (tie.spec returns (λ c κs. search needs) returns-2 error-at-requires returns-3 sizes-within-requires returns-4 (λ c κs. search needs) returns-5
-    returns-6)
+tested-spec = tie.close (tie.spec returns (λ c κs. search needs) returns-2 error-at-requires returns-3 sizes-within-requires (λ c κs. search needs) returns-4 returns-5)

@@ -14,19 +14,19 @@ returns c =
 
 returns-2 : tie.Need-returns-2
 returns-2 c =
-    let l = c .before .before .before .before .before in
-    let r = c .before .before .before .before .numbers-at in
+    let l = c .before .before .before .before .before .before in
+    let r = c .before .before .before .before .before .numbers-at in
     let s = l .before .before .before in
     let a = s .args in
-    step-next (a .file .now) (a .k) (a .at) (s .pre) _ (l .next-line .ensures) (r .result) (r .ensures) (c .before .before .before .if2 .taken) (sym (c .before .header-in-range .ensures) ∙ c .if3 .taken)
+    step-next (a .file .now) (a .k) (a .at) (s .pre) _ (l .next-line .ensures) (r .result) (r .ensures) (c .before .before .before .before .if2 .taken) (sym (c .before .header-in-range .ensures) ∙ c .if3 .taken)
 
 returns-3 : tie.Need-returns-3
 returns-3 c =
-    let l = c .before .before .before .before .before in
-    let r = c .before .before .before .before .numbers-at in
+    let l = c .before .before .before .before .before .before in
+    let r = c .before .before .before .before .before .numbers-at in
     let s = l .before .before .before in
     let a = s .args in
-    step-range (a .file .now) (a .k) (a .at) (s .pre) _ (l .next-line .ensures) (r .result) (r .ensures) (c .before .before .before .if2 .taken) (sym (c .before .header-in-range .ensures) ∙ c .if3 .left)
+    step-range (a .file .now) (a .k) (a .at) (s .pre) _ (l .next-line .ensures) (r .result) (r .ensures) (c .before .before .before .before .if2 .taken) (sym (c .before .header-in-range .ensures) ∙ c .if3 .left)
 
 returns-4 : tie.Need-returns-4
 returns-4 c =

@@ -24,43 +24,11 @@ loop-holds : tie.Need-loop-holds Inv-loop μ-loop
 unfolding headerLines numbersBefore
 loop-holds c = (omega arith, refl, refl, omega arith, λ after. header-start after _)
 
-header-step-requires : tie.Need-header-step-requires Inv-loop μ-loop
-unfolding headerLines
-header-step-requires c κs = omega arith
-
-add-t15 : tie.Need-add-t15 Inv-loop μ-loop
-unfolding headerLines
-add-t15 c = omega arith
-
 returns : tie.Need-returns Inv-loop μ-loop
 returns c =
     let l = c .before .before .before .before .before .loop in
     let e = rw (c .before .why .given .1) at (c .before .before .before .header-step .ensures) in
     record { same = λ after. l .inv .4 after ∙ e .same after (numbersBefore (l .k) (l .firsts) (l .seconds)); inside = omega arith }
-
-mul-firsts : tie.Need-mul-firsts Inv-loop μ-loop
-unfolding headerLines
-mul-firsts c = omega arith
-
-array-write-firsts : tie.Need-array-write-firsts Inv-loop μ-loop
-unfolding headerLines
-array-write-firsts c = omega arith
-
-mul-seconds : tie.Need-mul-seconds Inv-loop μ-loop
-unfolding headerLines
-mul-seconds c = omega arith
-
-array-write-seconds : tie.Need-array-write-seconds Inv-loop μ-loop
-unfolding headerLines
-array-write-seconds c = omega arith
-
-add-k : tie.Need-add-k Inv-loop μ-loop
-unfolding headerLines
-add-k c = omega arith
-
-loop-less : tie.Need-loop-less Inv-loop μ-loop
-unfolding headerLines
-loop-less c = omega arith
 
 loop-again : tie.Need-loop-again Inv-loop μ-loop
 unfolding headerLines
@@ -87,6 +55,6 @@ pub read-header-spec : {M : Type 1} → statement M
 unfolding headerLines
 read-header-spec =
     tie.close
-    (tie.spec Inv-loop μ-loop loop-holds header-step-requires (λ c. search needs) add-t15 returns (λ c. search needs) mul-firsts array-write-firsts
-    mul-seconds array-write-seconds add-k loop-less loop-again (λ c. omega arith) (λ c. omega arith) (λ c. omega arith) (λ c. omega arith)
-    (λ c. omega arith) (λ c. omega arith) (λ c. omega arith) (λ c. omega arith) returns-2)
+    (tie.spec Inv-loop μ-loop loop-holds (λ c κs. omega arith) (λ c. search needs) (λ c. omega arith) returns (λ c. search needs) (λ c. omega arith)
+    (λ c. omega arith) (λ c. omega arith) (λ c. omega arith) (λ c. omega arith) (λ c. omega arith) loop-again (λ c. omega arith) (λ c. omega arith)
+    (λ c. omega arith) (λ c. omega arith) (λ c. omega arith) (λ c. omega arith) (λ c. omega arith) (λ c. omega arith) returns-2)

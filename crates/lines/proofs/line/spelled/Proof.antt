@@ -1,5 +1,6 @@
 -- `lines::line::spelled`: the numbers stand behind the key, in a line that has its line feed.
 use mathlib.Core.Path.{_≡_, sym, ap, _∙_}
+use mathlib.Core.Logic.{⊎-elim}
 use mathlib.Core.Option.{some}
 use native.Mathlib.Omega.{arith}
 use borrow.Author.Needs.{needs}
@@ -12,12 +13,6 @@ use Rattle.lines.proofs.Lines.{rest-all, behind-length, spelled-open, s
 use Rattle.lines.proofs.line.spelled.Statement.{statement}
 use Rattle.lines.proofs.line.spelled.Tie as tie
 
-returns : tie.Need-returns
-unfolding numbersIn
-returns c =
-    let a = c .before .before .before .before .args in
-    sym (spelled-open (a .file .now) (a .line) (a .key .now) (a .count) (omega arith))
-
 -- behind the key, where it begins the text
 begun : (c : tie.Then2) → let a = c .before .before .before .before .before .before .before .args in behind (a .key .now) (lineIn (a .file .now) (a .line) .text) ≡ some (drop (length (a .key .now)) (lineIn (a .file .now) (a .line) .text))
 begun c = rw (c .if2 .taken) at (c .before .begins .ensures)
@@ -28,22 +23,24 @@ sub-numbers-of c = behind-length _ _ _ (begun c)
 part-numbers-of-start : tie.Need-part-numbers-of-start
 part-numbers-of-start c = behind-length _ _ _ (begun c)
 
-returns-2 : tie.Need-returns-2
-returns-2 c =
+returns : tie.Need-returns
+returns c =
     let a = c .before .before .before .before .before .before .before .before .before .args in
     c .numbers-of .ensures .numbers-are
     ∙ few-numbers (a .count) _ (omega arith)
     ∙ ap (numbers (a .count)) (rest-all (length (a .key .now)) (lineIn (a .file .now) (a .line) .text))
-    ∙ sym (spelled-behind (a .file .now) (a .line) (a .key .now) (a .count) _ (omega arith) (begun (c .before .before)))
+    ∙ sym (spelled-behind (a .file .now) (a .line) (a .key .now) (a .count) _ (c .before .before .before .before .if1 .taken) (begun (c .before .before)))
 
-returns-3 : tie.Need-returns-3
+returns-2 : tie.Need-returns-2
 unfolding numbersIn
-returns-3 c =
-    let a = c .before .before .before .before .before .before .before .args in
-    sym (spelled-not (a .file .now) (a .line) (a .key .now) (a .count) (omega arith) (rw (c .if2 .left) at (c .before .begins .ensures)))
+returns-2 c =
+    let a = c .before .before .before .before .before .args in
+    sym
+    (⊎-elim (λ w. spelled-not (a .file .now) (a .line) (a .key .now) (a .count) (w .0 .taken) (rw (w .2 .left) at (w .1 .ensures)))
+    (λ w. spelled-open (a .file .now) (a .line) (a .key .now) (a .count) (w .left)) (c .if1 .came))
 
 pub spelled-spec : {M : Type 1} → statement M
 spelled-spec =
     tie.close
-    (tie.spec returns (λ c. search needs) (λ c. search needs) (λ c. search needs) (λ c κs. search needs) sub-numbers-of part-numbers-of-start
-    (λ c. search needs) (λ c κs. search needs) returns-2 returns-3)
+    (tie.spec (λ c. search needs) (λ c. search needs) (λ c. search needs) (λ c κs. search needs) sub-numbers-of part-numbers-of-start
+    (λ c. search needs) (λ c κs. search needs) returns returns-2)

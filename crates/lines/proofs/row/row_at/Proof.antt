@@ -11,15 +11,15 @@ returns c = missing _ _ (c .if1 .taken)
 returns-2 : tie.Need-returns-2
 unfolding bytes
 returns-2 c =
-    let r = c .before .before in
-    rate-there _ _ _ (r .before .before .next-line .ensures) _ (r .spelled .ensures) (c .before .if2 .taken)
+    let r = c .before .before .before .before in
+    rate-there _ _ _ (r .before .before .next-line .ensures) _ (r .spelled .ensures) (c .before .before .before .if2 .taken)
 
 returns-3 : tie.Need-returns-3
 unfolding bytes
 returns-3 c =
-    let m = c .before .before in
+    let m = c .before .before .before .before .before .before in
     let r = m .before .before .before in
-    member-there _ _ _ (r .before .before .next-line .ensures) _ (r .spelled .ensures) (m .before .before .if2 .left) _ (m .spelled2 .ensures) (c .before .if3 .taken)
+    member-there _ _ _ (r .before .before .next-line .ensures) _ (r .spelled .ensures) (m .before .before .if2 .left) _ (m .spelled2 .ensures) (c .before .before .before .before .before .if3 .taken)
 
 returns-4 : tie.Need-returns-4
 unfolding bytes

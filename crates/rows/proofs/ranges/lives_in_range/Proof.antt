@@ -31,7 +31,7 @@ returns c =
     rw e (left-over (a .before) (a .lives) most-lives (between-true least-lives most-lives (a .lives) e .1))
 
 returns-2 : tie.Need-returns-2
-returns-2 c = rw (sym (c .before .within .ensures) ∙ c .if1 .left)
+returns-2 c = rw (sym (c .before .within .ensures) ∙ c .if1 .left) (c .if1 .left)
 
 pub lives-in-range-spec : {M : Type 1} → statement M
 lives-in-range-spec = tie.close (tie.spec (λ c κs. search needs) sub-result returns returns-2)
