@@ -11,19 +11,7 @@ ghost use Rattle.totals.specs.Tests.{Tested};
 fn slices_short(horizon: usize, transform: usize, h: usize, f: usize, r: usize, sums: usize) -> bool
     ensures { λ s. ⌜ s ≡ shortOf (record { D = transform; H = h; f = f; R = r; F = sums }) horizon ⌝ }
 {
-    if transform <= horizon {
-        return true;
-    }
-    if h <= horizon {
-        return true;
-    }
-    if f <= horizon {
-        return true;
-    }
-    if r <= horizon {
-        return true;
-    }
-    sums <= horizon
+    transform <= horizon || h <= horizon || f <= horizon || r <= horizon || sums <= horizon
 }
 
 // The first refusal of the totals, or none. The five numbers are the lengths of the result slices.

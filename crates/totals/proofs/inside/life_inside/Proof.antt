@@ -1,58 +1,85 @@
--- Each test that fails contradicts a range; the last tells the last.
+-- What the tests so far tell, one after the other.
+use mathlib.Core.Path.{_≡_, refl}
+use mathlib.Core.Bool.{Bool}
+use mathlib.Core.Logic.{⊎-elim}
+use Prim.Native.Nat.{_-_, _≤_}
 use borrow.Author.Needs.{needs}
-use borrow.Author.Tests.{not-true, not-false}
+use borrow.Author.Tests.{lt-leb}
 use native.Mathlib.Omega.{arith}
-use Rattle.laws.specs.Tells.{tells-no, tells-as, tells-not}
+use Rattle.fund.specs.declared.Life.{Life}
+use Rattle.fund.specs.Limits.{least-group, most-group, most-rate, most-amount}
+use Rattle.laws.specs.Accepted.{Limited}
+use Rattle.laws.specs.Tells.{Tells, tells-as}
+use Rattle.widths.specs.Lives.{InRange}
+use Rattle.totals.proofs.Conjunctions.{at-most, followed, skipped}
 use Rattle.totals.proofs.inside.life_inside.Statement.{statement}
 use Rattle.totals.proofs.inside.life_inside.Tie as tie
 
+abbrev Two : Life → Type 0
+Two m = (least-group ≤ m .group) × (m .group ≤ most-group)
+
+abbrev Three : Life → Type 0
+Three m = Two m × (m .q ≤ most-rate)
+
+abbrev Four : Life → Type 0
+Four m = Three m × (m .i ≤ most-rate - m .q)
+
+abbrev Six : Life → Type 0
+Six m = (Four m × (m .d ≤ most-amount)) × (m .e ≤ most-amount)
+
+abbrev Eight : Life → Type 0
+Eight m = (Six m × Limited m) × (m .d ≡ 0 → m .q ≡ 0)
+
+two : (c : tie.Joined1) → Tells (c .if1 .if2) (Two (c .before .before .args .m))
+two c = ⊎-elim (λ w. followed (w .0 .taken) (at-most _ _) (w .2)) (λ w. skipped (at-most _ _) (lt-leb _ _ (w .0 .left)) (w .1)) (c .if1 .came)
+
+three : (c : tie.Joined2) → Tells (c .if2 .if3) (Three (c .before .before .before .args .m))
+three c = ⊎-elim (λ w. followed (two (c .before) .yes (w .0 .taken)) (at-most _ _) (w .2)) (λ w. skipped (two (c .before)) (w .0 .left) (w .1)) (c .if2 .came)
+
+four : (c : tie.Joined3) → Tells (c .if3 .if4) (Four (c .before .before .before .before .args .m))
+four c = ⊎-elim (λ w. followed (three (c .before) .yes (w .0 .taken)) (at-most _ _) (w .3)) (λ w. skipped (three (c .before)) (w .0 .left) (w .1)) (c .if3 .came)
+
+five : (c : tie.Joined4) → Tells (c .if4 .if5) (Four (c .before .before .before .before .before .args .m) × (c .before .before .before .before .before .args .m .d ≤ most-amount))
+five c = ⊎-elim (λ w. followed (four (c .before) .yes (w .0 .taken)) (at-most _ _) (w .2)) (λ w. skipped (four (c .before)) (w .0 .left) (w .1)) (c .if4 .came)
+
+six : (c : tie.Joined5) → Tells (c .if5 .if6) (Six (c .before .before .before .before .before .before .args .m))
+six c = ⊎-elim (λ w. followed (five (c .before) .yes (w .0 .taken)) (at-most _ _) (w .2)) (λ w. skipped (five (c .before)) (w .0 .left) (w .1)) (c .if5 .came)
+
+seven : (c : tie.Joined6) → Tells (c .if6 .if7) (Six (c .before .before .before .before .before .before .before .args .m) × Limited (c .before .before .before .before .before .before .before .args .m))
+seven c = ⊎-elim (λ w. followed (six (c .before) .yes (w .0 .taken)) (w .1 .ensures) (w .2)) (λ w. skipped (six (c .before)) (w .0 .left) (w .1)) (c .if6 .came)
+
+eight : (c : tie.Joined7) → Tells (c .if7 .if8) (Eight (c .before .before .before .before .before .before .before .before .args .m))
+eight c = ⊎-elim (λ w. followed (seven (c .before) .yes (w .0 .taken)) (w .1 .ensures) (w .2)) (λ w. skipped (seven (c .before)) (w .0 .left) (w .1)) (c .if7 .came)
+
+all : {r : Bool} {m : Life} → Tells r (Eight m × (m .e ≡ 0 → m .i ≡ 0)) → Tells r (InRange m)
+all t =
+    tells-as t
+    (λ h.
+    let s = h .0 .0 .0 in
+    record {
+      group-least = s .0 .0 .0 .0 .0;
+      group-most = s .0 .0 .0 .0 .1;
+      rates = omega (arith, s .0 .0);
+      limited = h .0 .0 .1;
+      death = s .0 .1;
+      disability = s .1;
+      no-death = h .0 .1;
+      no-disability = h .1;
+    })
+    (λ h. (((((((((h .group-least, h .group-most), omega (arith, h .rates)), omega (arith, h .rates)), h .death), h .disability), h .limited), h .no-death), h .no-disability)))
+
+sub-if4 : tie.Need-sub-if4
+sub-if4 c = three (c .before .before) .yes (c .before .if3 .taken) .1
+
+limited-requires : tie.Need-limited-requires
+limited-requires c κs = let s = six (c .before) .yes (c .if6 .taken) in (s .0 .0 .0 .1, omega (arith, s .0 .0))
+
 returns : tie.Need-returns
-returns c = tells-no (λ h. omega arith)
+returns c = all (followed (eight (c .before .before) .yes (c .before .if8 .taken)) (c .is-folded2 .ensures) refl)
 
 returns-2 : tie.Need-returns-2
-returns-2 c = tells-no (λ h. omega arith)
-
-returns-3 : tie.Need-returns-3
-returns-3 c = tells-no (λ h. omega arith)
-
-returns-4 : tie.Need-returns-4
-returns-4 c = tells-no (λ h. omega arith)
-
-returns-5 : tie.Need-returns-5
-returns-5 c = tells-no (λ h. omega arith)
-
-returns-6 : tie.Need-returns-6
-returns-6 c = tells-no (λ h. omega arith)
-
-returns-7 : tie.Need-returns-7
-returns-7 c = tells-no (λ h. omega arith)
-
-returns-8 : tie.Need-returns-8
-returns-8 c = tells-no (λ h. tells-not (c .before .limited .ensures) (not-true _ (c .if8 .taken)) (h .limited))
-
-returns-9 : tie.Need-returns-9
-returns-9 c = tells-no (λ h. tells-not (c .before .is-folded .ensures) (not-true _ (c .if9 .taken)) (h .no-death))
-
-returns-10 : tie.Need-returns-10
-returns-10 c =
-    let f = c .before .before in
-    let k = f .before .before in
-    tells-as (c .is-folded2 .ensures)
-    (λ z.
-    record {
-      group-least = omega (arith, k);
-      group-most = omega (arith, k);
-      rates = omega (arith, k);
-      limited = k .limited .ensures .yes (not-false _ (f .before .if8 .left));
-      death = omega (arith, k);
-      disability = omega (arith, k);
-      no-death = f .is-folded .ensures .yes (not-false _ (c .before .if9 .left));
-      no-disability = z;
-    })
-    (λ h. h .no-disability)
+returns-2 c = all (skipped (eight (c .before)) (c .if8 .left) refl)
 
 pub life-inside-spec : {M : Type 1} → statement M
 life-inside-spec =
-    tie.close
-    (tie.spec returns returns-2 returns-3 returns-4 (λ c. search needs) returns-5 returns-6 returns-7 (λ c κs. search needs) returns-8
-    (λ c κs. search needs) returns-9 (λ c κs. search needs) returns-10)
+    tie.close (tie.spec sub-if4 limited-requires (λ c κs. search needs) (λ c κs. search needs) returns returns-2)
