@@ -1,5 +1,4 @@
 // Whether a header and the member lines of a table are in the ranges that reading and refusal 6 leave.
-use fund::Frequencies;
 use fund::Fund;
 use fund::Life;
 use fund::ModelPoint;
@@ -10,28 +9,10 @@ ghost use Prim.Native.Nat.{min, _+_, _≤_};
 ghost use Rattle.fund.specs.Limits.{most-lives, most-rate};
 ghost use Rattle.laws.specs.Accepted.{All, Limited};
 ghost use Rattle.laws.specs.Copies.{livesOf};
-ghost use Rattle.laws.specs.Ranges.{FrequenciesOk};
 ghost use Rattle.widths.specs.Lives.{InRange};
 ghost use Rattle.laws.specs.Tells.{Tells};
 ghost use Rattle.totals.specs.Inside.{HeaderIn};
 ghost use Rattle.totals.specs.Table.{PointIn};
-
-fn frequencies_inside(ab: Frequencies) -> bool
-    ensures { λ r. ⌜ Tells r (FrequenciesOk ab) ⌝ }
-{
-    ab.death <= Fund::MOST_FREQUENCY && ab.disability <= Fund::MOST_FREQUENCY
-}
-
-fn header_inside(fund: Fund) -> bool
-    ensures { λ r. ⌜ Tells r (HeaderIn fund) ⌝ }
-{
-    fund.horizon <= Fund::MOST_HORIZON
-        && fund.order <= Fund::MOST_ORDER
-        && frequencies_inside(fund.frequency)
-        && Fund::LEAST_WORTH <= fund.worth
-        && fund.worth <= Fund::MOST_WORTH
-        && fund.deductible <= fund.horizon + 1
-}
 
 // The lives so far with those of one line more, up to `most`: no sum wraps, whatever the line says.
 fn lives_step(lives: u64, p: ModelPoint, most: u64) -> u64
@@ -58,7 +39,14 @@ pub(crate) fn lives_in_all(points: &[ModelPoint], most: u64) -> u64
 pub(crate) fn headed(fund: Fund, lives: u64) -> bool
     ensures { λ r. ⌜ Tells r ((lives ≤ most-lives) × HeaderIn fund) ⌝ }
 {
-    lives <= Fund::MOST_LIVES && header_inside(fund)
+    lives <= Fund::MOST_LIVES
+        && fund.horizon <= Fund::MOST_HORIZON
+        && fund.order <= Fund::MOST_ORDER
+        && fund.frequency.death <= Fund::MOST_FREQUENCY
+        && fund.frequency.disability <= Fund::MOST_FREQUENCY
+        && Fund::LEAST_WORTH <= fund.worth
+        && fund.worth <= Fund::MOST_WORTH
+        && fund.deductible <= fund.horizon + 1
 }
 
 // Refusal 6.
@@ -90,17 +78,11 @@ fn life_inside(m: Life) -> bool
         && is_folded(m.i, m.e)
 }
 
-fn point_inside(p: ModelPoint) -> bool
-    ensures { λ r. ⌜ Tells r (PointIn p) ⌝ }
-{
-    p.lives <= Fund::MOST_LIVES && life_inside(p.life)
-}
-
 // Whether all lines so far are in range, and one more.
 fn inside_step(inside: bool, p: ModelPoint) -> bool
     ensures { λ r. ⌜ Tells r ((inside ≡ true) × PointIn p) ⌝ }
 {
-    inside && point_inside(p)
+    inside && p.lives <= Fund::MOST_LIVES && life_inside(p.life)
 }
 
 // Whether the header and all lines are in their ranges, where `header` says whether the header is.
