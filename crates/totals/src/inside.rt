@@ -6,8 +6,8 @@ use whole::least;
 ghost use mathlib.Core.Path.{_≡_};
 ghost use mathlib.Core.Bool.{true};
 ghost use Prim.Native.Nat.{min, _+_, _≤_};
-ghost use Rattle.fund.specs.Limits.{most-lives, most-rate};
-ghost use Rattle.laws.specs.Accepted.{All, Limited};
+ghost use Rattle.fund.specs.Limits.{most-lives};
+ghost use Rattle.laws.specs.Accepted.{All};
 ghost use Rattle.laws.specs.Copies.{livesOf};
 ghost use Rattle.widths.specs.Lives.{InRange};
 ghost use Rattle.laws.specs.Tells.{Tells};
@@ -49,21 +49,7 @@ pub(crate) fn headed(fund: Fund, lives: u64) -> bool
         && fund.deductible <= fund.horizon + 1
 }
 
-// Refusal 6.
-fn limited(m: Life) -> bool
-    requires { ⌜ (m .q ≤ most-rate) × (m .i ≤ most-rate) ⌝ }
-    ensures { λ r. ⌜ Tells r (Limited m) ⌝ }
-{
-    m.group != Fund::SINGLE || m.q + m.i < Fund::HALF
-}
-
-// A rate with amount 0 is 0.
-fn is_folded(rate: u64, amount: u64) -> bool
-    ensures { λ r. ⌜ Tells r (amount ≡ 0 → rate ≡ 0) ⌝ }
-{
-    0 < amount || rate == 0
-}
-
+// Group 1 has refusal 6, and a rate with amount 0 is 0.
 fn life_inside(m: Life) -> bool
     ensures { λ r. ⌜ Tells r (InRange m) ⌝ }
 {
@@ -71,11 +57,11 @@ fn life_inside(m: Life) -> bool
         && m.group <= Fund::MOST_GROUP
         && m.q <= Fund::MOST_RATE
         && m.i <= Fund::MOST_RATE - m.q
+        && (m.group != Fund::SINGLE || m.q + m.i < Fund::HALF)
+        && (0 < m.d || m.q == 0)
+        && (0 < m.e || m.i == 0)
         && m.d <= Fund::MOST_AMOUNT
         && m.e <= Fund::MOST_AMOUNT
-        && limited(m)
-        && is_folded(m.q, m.d)
-        && is_folded(m.i, m.e)
 }
 
 // Whether all lines so far are in range, and one more.
