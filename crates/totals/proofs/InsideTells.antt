@@ -13,10 +13,11 @@ use Rattle.fund.specs.Limits.{most-members, most-lives, half-rate}
 use Rattle.laws.specs.Accepted.{All, Limited}
 use Rattle.laws.specs.Copies.{livesOf}
 use Rattle.laws.specs.Ranges.{FrequenciesOk}
-use Rattle.laws.specs.Tells.{Tells, tells-as, tells-le, tells-lt, tells-eq}
+use Rattle.laws.specs.Tells.{Tells, tells-as, tells-lt, tells-eq}
 use Rattle.widths.specs.Lives.{InRange}
 use Rattle.totals.specs.Inside.{HeaderIn, frequenciesInside, headerInside, foldedRate, lifeInside, pointInside, allInside, inside}
 use Rattle.totals.specs.Table.{PointIn, Points}
+use Rattle.totals.proofs.Conjunctions.{at-most as le}
 
 tells-and : {P Q : Type 0} (a b : Bool) → Tells a P → Tells b Q → Tells (a && b) (P × Q)
 tells-and true b p q = record { yes = λ e. (p .yes refl, q .yes e); no = λ h. q .no (h .1) }
@@ -25,9 +26,6 @@ tells-and false b p q = record { yes = λ e. absurd (true≢false (sym e)); no =
 tells-if : {P Q : Type 0} (a b : Bool) → Tells a P → Tells b Q → Tells (not a || b) (P → Q)
 tells-if true b p q = record { yes = λ e h. q .yes e; no = λ f. q .no (f (p .yes refl)) }
 tells-if false b p q = record { yes = λ e h. absurd (true≢false (sym (p .no h))); no = λ f. refl }
-
-le : (m n : ℕ) → Tells (leb m n) (m ≤ n)
-le m n = tells-le m n (λ h. h) (λ h. h)
 
 eq : (m n : ℕ) → Tells (eqb m n) (m ≡ n)
 eq m n = tells-eq m n (λ h. h) (λ h. h)

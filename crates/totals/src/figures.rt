@@ -25,14 +25,6 @@ const LEAST_REFUSED: u64 = Fund::MOST_TRUNCATION + 1;
 // A mean of a fund that is not refused is at most this.
 const MOST_MEAN: u64 = Fund::MOST_AMOUNT * Fund::MOST_LOAD;
 
-// A sum with a part for each of a line's lives.
-fn with_lives(sum: u64, lives: u64, part: u64) -> u64
-    requires { ⌜ sum + lives * part < 2 ^ 64 ⌝ }
-    ensures { λ r. ⌜ r ≡ sum + lives * part ⌝ }
-{
-    sum + lives * part
-}
-
 // What a life adds to lambda.
 fn lambda_part(m: Life, ab: Frequencies) -> u64
     requires { ⌜ InRange m × FrequenciesOk ab ⌝ }
@@ -49,7 +41,7 @@ fn lambda_step(sum: u64, p: ModelPoint, ab: Frequencies) -> u64
     requires { ⌜ PointIn p × FrequenciesOk ab × (sum + p .lives * lambdaPart ab (p .life) < 2 ^ 64) ⌝ }
     ensures { λ r. ⌜ r ≡ sum + p .lives * lambdaPart ab (p .life) ⌝ }
 {
-    with_lives(sum, p.lives, lambda_part(p.life, ab))
+    sum + p.lives * lambda_part(p.life, ab)
 }
 
 // Lambda, in units: at most 5,000,000 × 10^6 for each of 1,000 lives.
@@ -83,7 +75,7 @@ fn load_step(sum: u64, p: ModelPoint) -> u64
     requires { ⌜ PointIn p × (sum + p .lives * singleLoad (p .life) < 2 ^ 64) ⌝ }
     ensures { λ r. ⌜ r ≡ sum + p .lives * singleLoad (p .life) ⌝ }
 {
-    with_lives(sum, p.lives, single_part(p.life))
+    sum + p.lives * single_part(p.life)
 }
 
 // The load, in units: lambda, and what the lives of group 1 add to it, at most 10^12 for each of 1,000.
@@ -143,7 +135,7 @@ fn truncation_step(sum: u64, p: ModelPoint, r: u64) -> u64
     ensures { λ x. ⌜ x ≡ min (sum + p .lives * truncationPart r (p .life)) (most-truncation + 1) ⌝ }
 {
     let part = least(truncation_part(p.life, r), LEAST_REFUSED);
-    least(with_lives(sum, p.lives, part), LEAST_REFUSED)
+    least(sum + p.lives * part, LEAST_REFUSED)
 }
 
 // The truncation figure of order r, or one more than its largest where it is larger.

@@ -1,60 +1,25 @@
 // Whether a header and the member lines of a table are in the ranges that reading and refusal 6 leave.
-use fund::Frequencies;
 use fund::Fund;
 use fund::Life;
 use fund::ModelPoint;
+use whole::least;
 ghost use mathlib.Core.Path.{_≡_};
 ghost use mathlib.Core.Bool.{true};
 ghost use Prim.Native.Nat.{min, _+_, _≤_};
-ghost use Rattle.fund.specs.Limits.{most-lives, most-rate};
-ghost use Rattle.laws.specs.Accepted.{All, Limited};
+ghost use Rattle.fund.specs.Limits.{most-lives};
+ghost use Rattle.laws.specs.Accepted.{All};
 ghost use Rattle.laws.specs.Copies.{livesOf};
-ghost use Rattle.laws.specs.Ranges.{FrequenciesOk};
 ghost use Rattle.widths.specs.Lives.{InRange};
 ghost use Rattle.laws.specs.Tells.{Tells};
 ghost use Rattle.totals.specs.Inside.{HeaderIn};
 ghost use Rattle.totals.specs.Table.{PointIn};
 
-fn frequencies_inside(ab: Frequencies) -> bool
-    ensures { λ r. ⌜ Tells r (FrequenciesOk ab) ⌝ }
-{
-    if Fund::MOST_FREQUENCY < ab.death {
-        return false;
-    }
-    ab.disability <= Fund::MOST_FREQUENCY
-}
-
-fn header_inside(fund: Fund) -> bool
-    ensures { λ r. ⌜ Tells r (HeaderIn fund) ⌝ }
-{
-    if Fund::MOST_HORIZON < fund.horizon {
-        return false;
-    }
-    if Fund::MOST_ORDER < fund.order {
-        return false;
-    }
-    if !frequencies_inside(fund.frequency) {
-        return false;
-    }
-    if fund.worth < Fund::LEAST_WORTH {
-        return false;
-    }
-    if Fund::MOST_WORTH < fund.worth {
-        return false;
-    }
-    fund.deductible <= fund.horizon + 1
-}
-
 // The lives so far with those of one line more, up to `most`: no sum wraps, whatever the line says.
 fn lives_step(lives: u64, p: ModelPoint, most: u64) -> u64
     ensures { λ r. ⌜ r ≡ min (lives + p .lives) most ⌝ }
 {
-    if lives < most {
-        if p.lives <= most - lives {
-            return lives + p.lives;
-        }
-    }
-    most
+    let before = least(lives, most);
+    before + least(p.lives, most - before)
 }
 
 // The lives in all, up to `most`.
@@ -74,83 +39,36 @@ pub(crate) fn lives_in_all(points: &[ModelPoint], most: u64) -> u64
 pub(crate) fn headed(fund: Fund, lives: u64) -> bool
     ensures { λ r. ⌜ Tells r ((lives ≤ most-lives) × HeaderIn fund) ⌝ }
 {
-    if Fund::MOST_LIVES < lives {
-        return false;
-    }
-    header_inside(fund)
+    lives <= Fund::MOST_LIVES
+        && fund.horizon <= Fund::MOST_HORIZON
+        && fund.order <= Fund::MOST_ORDER
+        && fund.frequency.death <= Fund::MOST_FREQUENCY
+        && fund.frequency.disability <= Fund::MOST_FREQUENCY
+        && Fund::LEAST_WORTH <= fund.worth
+        && fund.worth <= Fund::MOST_WORTH
+        && fund.deductible <= fund.horizon + 1
 }
 
-// Refusal 6.
-fn limited(m: Life) -> bool
-    requires { ⌜ (m .q ≤ most-rate) × (m .i ≤ most-rate) ⌝ }
-    ensures { λ r. ⌜ Tells r (Limited m) ⌝ }
-{
-    if m.group == Fund::SINGLE {
-        return m.q + m.i < Fund::HALF;
-    }
-    true
-}
-
-// A rate with amount 0 is 0.
-fn is_folded(rate: u64, amount: u64) -> bool
-    ensures { λ r. ⌜ Tells r (amount ≡ 0 → rate ≡ 0) ⌝ }
-{
-    if amount == 0 {
-        return rate == 0;
-    }
-    true
-}
-
+// Group 1 has refusal 6, and a rate with amount 0 is 0.
 fn life_inside(m: Life) -> bool
     ensures { λ r. ⌜ Tells r (InRange m) ⌝ }
 {
-    if m.group < Fund::LEAST_GROUP {
-        return false;
-    }
-    if Fund::MOST_GROUP < m.group {
-        return false;
-    }
-    if Fund::MOST_RATE < m.q {
-        return false;
-    }
-    if Fund::MOST_RATE < m.i {
-        return false;
-    }
-    if Fund::MOST_RATE < m.q + m.i {
-        return false;
-    }
-    if Fund::MOST_AMOUNT < m.d {
-        return false;
-    }
-    if Fund::MOST_AMOUNT < m.e {
-        return false;
-    }
-    if !limited(m) {
-        return false;
-    }
-    if !is_folded(m.q, m.d) {
-        return false;
-    }
-    is_folded(m.i, m.e)
-}
-
-fn point_inside(p: ModelPoint) -> bool
-    ensures { λ r. ⌜ Tells r (PointIn p) ⌝ }
-{
-    if Fund::MOST_LIVES < p.lives {
-        return false;
-    }
-    life_inside(p.life)
+    Fund::LEAST_GROUP <= m.group
+        && m.group <= Fund::MOST_GROUP
+        && m.q <= Fund::MOST_RATE
+        && m.i <= Fund::MOST_RATE - m.q
+        && (m.group != Fund::SINGLE || m.q + m.i < Fund::HALF)
+        && (0 < m.d || m.q == 0)
+        && (0 < m.e || m.i == 0)
+        && m.d <= Fund::MOST_AMOUNT
+        && m.e <= Fund::MOST_AMOUNT
 }
 
 // Whether all lines so far are in range, and one more.
 fn inside_step(inside: bool, p: ModelPoint) -> bool
     ensures { λ r. ⌜ Tells r ((inside ≡ true) × PointIn p) ⌝ }
 {
-    if inside {
-        return point_inside(p);
-    }
-    false
+    inside && p.lives <= Fund::MOST_LIVES && life_inside(p.life)
 }
 
 // Whether the header and all lines are in their ranges, where `header` says whether the header is.

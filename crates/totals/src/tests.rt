@@ -3,28 +3,7 @@ use super::Totals;
 use fund::Fund;
 use fund::Refusal;
 use fund::Verdict;
-ghost use mathlib.Core.Path.{_≡_};
-ghost use Rattle.fund.specs.Refusals.{short as shortOf};
 ghost use Rattle.totals.specs.Tests.{Tested};
-
-// Whether one of the five slices has fewer than X + 1 cells.
-fn slices_short(horizon: usize, transform: usize, h: usize, f: usize, r: usize, sums: usize) -> bool
-    ensures { λ s. ⌜ s ≡ shortOf (record { D = transform; H = h; f = f; R = r; F = sums }) horizon ⌝ }
-{
-    if transform <= horizon {
-        return true;
-    }
-    if h <= horizon {
-        return true;
-    }
-    if f <= horizon {
-        return true;
-    }
-    if r <= horizon {
-        return true;
-    }
-    sums <= horizon
-}
 
 // The first refusal of the totals, or none. The five numbers are the lengths of the result slices.
 pub fn tested_totals(
@@ -47,7 +26,9 @@ pub fn tested_totals(
     if Fund::MOST_TRUNCATION < t.truncation {
         return Verdict::Refused(Refusal::Order, 0);
     }
-    if slices_short(fund.horizon as usize, transform, h, f, r, sums) {
+    // one of the five slices has fewer than X + 1 cells
+    let horizon = fund.horizon as usize;
+    if transform <= horizon || h <= horizon || f <= horizon || r <= horizon || sums <= horizon {
         return Verdict::Refused(Refusal::Short, 0);
     }
     Verdict::Accepted

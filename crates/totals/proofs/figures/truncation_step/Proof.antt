@@ -16,16 +16,20 @@ part-is c = c .least .ensures ∙ ap (λ k. min k (most-truncation + 1)) (c .bef
 product : (c : tie.After-least) → c .before .before .args .p .lives * c .least .result ≤ most-lives * (most-truncation + 1)
 product c = let w : c .least .result ≤ most-truncation + 1 = omega (arith, part-is c) in mul-le-mul (c .before .before .pre .0 .lives-most) w
 
-with-lives-requires : tie.Need-with-lives-requires
-with-lives-requires c κs = omega (arith, product c, c .before .before .pre .2)
+mul-least : tie.Need-mul-least
+mul-least c = omega (arith, product (c .before))
+
+add-least : tie.Need-add-least
+add-least c = omega (arith, product (c .before), c .before .before .before .pre .2)
 
 returns : tie.Need-returns
 returns c =
-    let a = c .before .before .before .before .args in
+    let l = c .before .before in
+    let a = l .before .before .args in
     c .least2 .ensures
-    ∙ ap (λ k. min k (most-truncation + 1)) (c .before .with-lives .ensures ∙ ap (λ k. a .sum + a .p .lives * k) (part-is (c .before .before)))
+    ∙ ap (λ k. min (a .sum + a .p .lives * k) (most-truncation + 1)) (part-is l)
     ∙ capped-times (a .sum) (a .p .lives) (truncationPart (a .r) (a .p .life)) (most-truncation + 1)
 
 pub truncation-step-spec : {M : Type 1} → statement M
 truncation-step-spec =
-    tie.close (tie.spec (λ c κs. search needs) (λ c κs. search needs) with-lives-requires (λ c κs. search needs) returns)
+    tie.close (tie.spec (λ c κs. search needs) (λ c κs. search needs) mul-least add-least (λ c κs. search needs) returns)
