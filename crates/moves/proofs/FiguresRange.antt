@@ -1,40 +1,14 @@
--- The test of a fund's figures, limit by limit, and what it says where it holds (figures-in).
-use mathlib.Core.Path.{_≡_, sym}
-use mathlib.Core.Bool.{true, false}
-use Prim.Native.Nat.{_≤_, _<_}
-use borrow.Author.Tests.{le-leb, lt-leb, leb-true}
-use lib.Dec.{leb}
-use lib.IntN.{natAbs}
+-- What the test of a fund's figures says where it holds (figures-in), and that it holds for figures in their ranges.
+use mathlib.Core.Path.{_≡_}
+use mathlib.Core.Bool.{true}
+use borrow.Author.Tests.{le-leb, leb-true}
 use Rattle.fund.specs.declared.Fund.{Fund}
 use Rattle.fund.specs.declared.Figures.{Figures}
-use Rattle.fund.specs.Limits.{least-worth, most-worth}
 use Rattle.fund.specs.Reading.{between}
 use Rattle.laws.specs.Ranges.{and-true, between-true}
-use Rattle.moves.specs.Move.{most-premium, most-within, most-gross, FiguresIn, figuresIn}
+use Rattle.moves.specs.Move.{FiguresIn, figuresIn}
 
 module _ (fund : Fund) (a : Figures) where
-  pub worth-below : fund .worth < least-worth → false ≡ figuresIn fund a
-  unfolding figuresIn between
-  worth-below l = rw (lt-leb _ _ l)
-
-  pub worth-above : least-worth ≤ fund .worth → most-worth < fund .worth → false ≡ figuresIn fund a
-  unfolding figuresIn between
-  worth-above l m = rw (le-leb _ _ l, lt-leb _ _ m)
-
-  module _ (l : least-worth ≤ fund .worth) (m : fund .worth ≤ most-worth) where
-    pub premium-above : most-premium < natAbs (a .premium) → false ≡ figuresIn fund a
-    unfolding figuresIn between
-    premium-above p = rw (le-leb _ _ l, le-leb _ _ m, lt-leb _ _ p)
-
-    module _ (p : natAbs (a .premium) ≤ most-premium) where
-      pub within-above : most-within < a .within → false ≡ figuresIn fund a
-      unfolding figuresIn between
-      within-above w = rw (le-leb _ _ l, le-leb _ _ m, le-leb _ _ p, lt-leb _ _ w)
-
-      pub gross-decides : a .within ≤ most-within → leb (a .gross) most-gross ≡ figuresIn fund a
-      unfolding figuresIn between
-      gross-decides w = rw (le-leb _ _ l, le-leb _ _ m, le-leb _ _ p, le-leb _ _ w)
-
   pub figures-in : figuresIn fund a ≡ true → FiguresIn fund a
   unfolding figuresIn
   figures-in e =

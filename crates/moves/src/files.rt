@@ -47,19 +47,7 @@ fn first_header_line(old: Fund, new: Fund) -> u64
 fn is_same(m: Member, n: Member) -> bool
     ensures { λ r. ⌜ r ≡ sameMember m n ⌝ }
 {
-    if m.age != n.age {
-        return false;
-    }
-    if m.group != n.group {
-        return false;
-    }
-    if m.d != n.d {
-        return false;
-    }
-    if m.e != n.e {
-        return false;
-    }
-    m.lives == n.lives
+    m.age == n.age && m.group == n.group && m.d == n.d && m.e == n.e && m.lives == n.lives
 }
 
 // The first of the lines before `enrolled` and `others` that differs, or that one of the files has alone.
@@ -74,16 +62,10 @@ fn first_member_line(
     let mut k: usize = 0;
     while k < Fund::MEMBER_ROWS {
         let next = k as u64 + 1;
-        if enrolled <= k {
-            if others <= k {
-                return 0;
-            }
-            return next;
+        if enrolled <= k && others <= k {
+            return 0;
         }
-        if others <= k {
-            return next;
-        }
-        if !is_same(old[k], new[k]) {
+        if enrolled <= k || others <= k || !is_same(old[k], new[k]) {
             return next;
         }
         k += 1;

@@ -42,19 +42,11 @@ pub enum Moved {
 fn is_inside(fund: Fund, figures: Figures) -> bool
     ensures { λ r. ⌜ r ≡ figuresIn fund figures ⌝ }
 {
-    if fund.worth < Fund::LEAST_WORTH {
-        return false;
-    }
-    if Fund::MOST_WORTH < fund.worth {
-        return false;
-    }
-    if MOST_PREMIUM < whole::magnitude(figures.premium) {
-        return false;
-    }
-    if MOST_WITHIN < figures.within {
-        return false;
-    }
-    figures.gross <= MOST_GROSS
+    Fund::LEAST_WORTH <= fund.worth
+        && fund.worth <= Fund::MOST_WORTH
+        && whole::magnitude(figures.premium) <= MOST_PREMIUM
+        && figures.within <= MOST_WITHIN
+        && figures.gross <= MOST_GROSS
 }
 
 // The bound loaded twice, as the tariff loads a premium with its bound, and a centime.
@@ -66,13 +58,6 @@ fn excess(fund: Fund, within: u64) -> u64
         Gross::Centimes(centimes) => centimes + 1,
         Gross::Outside => 0,
     }
-}
-
-fn less(a: i64, b: i64) -> i64
-    requires { ⌜ natAbs a + natAbs b ≤ 2 ^ 62 ⌝ }
-    ensures { λ r. ⌜ r ≡ a -ℤ b ⌝ }
-{
-    a - b
 }
 
 fn above(z: i64, n: u64) -> i64
@@ -94,21 +79,17 @@ fn move_of(old: Fund, before: Figures, new: Fund, after: Figures) -> Move
     requires { ⌜ FiguresIn old before × FiguresIn new after ⌝ }
     ensures { λ r. ⌜ r ≡ moveOf old before new after ⌝ }
 {
-    let premium = less(after.premium, before.premium);
+    let premium = after.premium - before.premium;
     let arithmetic = before.within + after.within;
-    let least = below(premium, arithmetic);
-    let most = above(premium, arithmetic);
     let gross = below(after.gross as i64, before.gross);
-    let gross_least = below(gross, excess(new, after.within));
-    let gross_most = above(gross, excess(old, before.within));
     Move {
         premium,
         arithmetic,
-        least,
-        most,
+        least: below(premium, arithmetic),
+        most: above(premium, arithmetic),
         gross,
-        gross_least,
-        gross_most,
+        gross_least: below(gross, excess(new, after.within)),
+        gross_most: above(gross, excess(old, before.within)),
     }
 }
 
@@ -116,10 +97,7 @@ fn move_of(old: Fund, before: Figures, new: Fund, after: Figures) -> Move
 pub fn move_between(old: Fund, before: Figures, new: Fund, after: Figures) -> Moved
     ensures { λ r. ⌜ r ≡ movedOf old before new after ⌝ }
 {
-    if !is_inside(old, before) {
-        return Moved::Outside;
-    }
-    if !is_inside(new, after) {
+    if !is_inside(old, before) || !is_inside(new, after) {
         return Moved::Outside;
     }
     Moved::By(move_of(old, before, new, after))

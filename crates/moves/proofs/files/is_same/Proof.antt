@@ -1,40 +1,33 @@
 -- `moves::files::is_same`: number by number.
+use mathlib.Core.Path.{_≡_, sym, _∙_}
+use mathlib.Core.Bool.{_&&_, and-assoc}
+use mathlib.Core.Logic.{⊎-elim}
+use lib.Dec.{eqb}
 use borrow.Author.Tests.{eq-eqb, ne-eqb}
 use Rattle.moves.specs.Differences.{sameMember}
 use Rattle.moves.proofs.files.is_same.Statement.{statement}
 use Rattle.moves.proofs.files.is_same.Tie as tie
 
-returns : tie.Need-returns
+two : (c : tie.Joined1) → let a = c .before .before .before .args in c .if1 .if2 ≡ eqb (a .m .age) (a .n .age) && eqb (a .m .group) (a .n .group)
+two c = ⊎-elim (λ p. rw (eq-eqb _ _ (p .0 .taken), p .3)) (λ p. rw (p .1, ne-eqb _ _ (p .0 .left))) (c .if1 .came)
+
+three : (c : tie.Joined2) → let a = c .before .before .before .before .args in
+    c .if2 .if3 ≡ eqb (a .m .age) (a .n .age) && eqb (a .m .group) (a .n .group) && eqb (a .m .d) (a .n .d)
+three c = let e = sym (two (c .before)) in ⊎-elim (λ p. rw (e, p .0 .taken, p .3)) (λ p. rw (e, p .1, p .0 .left)) (c .if2 .came)
+
+four : (c : tie.Joined3) → let a = c .before .before .before .before .before .args in
+    c .if3 .if4 ≡ eqb (a .m .age) (a .n .age) && eqb (a .m .group) (a .n .group) && eqb (a .m .d) (a .n .d) && eqb (a .m .e) (a .n .e)
+four c = let e = sym (three (c .before)) in ⊎-elim (λ p. rw (e, p .0 .taken, p .3)) (λ p. rw (e, p .1, p .0 .left)) (c .if3 .came)
+
+all : (c : tie.Joined3) → let a = c .before .before .before .before .before .args in sameMember (a .m) (a .n) ≡ c .if3 .if4 && eqb (a .m .lives) (a .n .lives)
 unfolding sameMember
-returns c = rw (ne-eqb _ _ (c .if1 .taken))
+all c = rw (four c) (simp (and-assoc))
+
+returns : tie.Need-returns
+returns c = let t = c .before .before in rw (all (t .before), t .if4 .taken)
 
 returns-2 : tie.Need-returns-2
-unfolding sameMember
-returns-2 c = let age = c .before .before .before in rw (eq-eqb _ _ (age .if1 .left), ne-eqb _ _ (c .if2 .taken))
-
-returns-3 : tie.Need-returns-3
-unfolding sameMember
-returns-3 c =
-    let group = c .before .before .before in
-    let age = group .before .before .before in
-    rw (eq-eqb _ _ (age .if1 .left), eq-eqb _ _ (group .if2 .left), ne-eqb _ _ (c .if3 .taken))
-
-returns-4 : tie.Need-returns-4
-unfolding sameMember
-returns-4 c =
-    let d = c .before .before .before in
-    let group = d .before .before .before in
-    let age = group .before .before .before in
-    rw (eq-eqb _ _ (age .if1 .left), eq-eqb _ _ (group .if2 .left), eq-eqb _ _ (d .if3 .left), ne-eqb _ _ (c .if4 .taken))
-
-returns-5 : tie.Need-returns-5
-unfolding sameMember
-returns-5 c =
-    let e = c .before .before in
-    let d = e .before .before .before in
-    let group = d .before .before .before in
-    let age = group .before .before .before in
-    rw (eq-eqb _ _ (age .if1 .left), eq-eqb _ _ (group .if2 .left), eq-eqb _ _ (d .if3 .left), eq-eqb _ _ (e .if4 .left))
+returns-2 c = rw (all (c .before), c .if4 .left)
 
 pub is-same-spec : {M : Type 1} → statement M
-is-same-spec = tie.close (tie.spec returns returns-2 returns-3 returns-4 returns-5)
+is-same-spec = tie.close (tie.spec returns returns-2)
