@@ -8,7 +8,7 @@ use lib.IntN.{ℤ}
 use Rattle.fund.specs.declared.Verdict.{Verdict}
 use Rattle.fund.specs.declared.Verdict.the-variants.{Accepted, Refused}
 use Rattle.fund.specs.Base.{if_then_else_}
-use Rattle.fund.specs.Reading.{FundFile, Reading, read, reading}
+use Rattle.fund.specs.Reading.{FundFile, read, reading}
 use Rattle.fund.specs.Refusals.{Lengths, numberIn, placeIn}
 use Rattle.fund.specs.Quantile.{quantileOf}
 use Rattle.fund.specs.Answer.{answer}

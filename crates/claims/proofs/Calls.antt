@@ -1,6 +1,6 @@
 -- The contracts of the pricing calls and of the listing, in plain words (price-answered, price-demands, host-answered, host-demands, prints, prints-read, prints-file).
 use mathlib.Core.Path.{_≡_, refl, sym, _∙_, ap, subst}
-use mathlib.Core.Bool.{Bool, true, false}
+use mathlib.Core.Bool.{Bool, false}
 use mathlib.Core.List.{List, []}
 use Prim.Native.Nat.{ℕ, _-_, _≤_}
 use borrow.Author.Tests.{le-leb, lt-leb}

@@ -1,6 +1,6 @@
 -- What a host has of two funds after a comparison, in plain words (plainly): from the demands on both, that the comparison is the definition's, and the theorem on the exact move. So
 -- of the comparison call (compares-plainly), of the call for C (hosts-plainly), and of the listing (prints-move).
-use mathlib.Core.Path.{_≡_, refl, sym, _∙_, ap, ap₂, subst}
+use mathlib.Core.Path.{_≡_, refl, sym, _∙_, ap, ap₂}
 use mathlib.Core.List.{List}
 use Prim.Native.Nat.{ℕ, _+_, _<_}
 use native.Mathlib.Omega.{arith}

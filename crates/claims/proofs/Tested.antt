@@ -1,5 +1,5 @@
 -- The tests of the totals and of the limits answer as their definitions do (tested-as, kept-as).
-use mathlib.Core.Path.{_≡_, refl, sym}
+use mathlib.Core.Path.{_≡_, sym}
 use mathlib.Core.List.{List}
 use Prim.Native.Nat.{ℕ}
 use borrow.Author.Tests.{le-ltb}

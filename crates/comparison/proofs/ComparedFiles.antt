@@ -14,7 +14,7 @@ use Rattle.fund.specs.declared.Verdict.the-variants.{Accepted, Refused}
 use Rattle.fund.specs.Reading.{FundFile, Reading, read, stopped, reading}
 use Rattle.fund.specs.Folding.{lives}
 use Rattle.fund.specs.Refusals.{Lengths}
-use Rattle.fund.specs.Answer.{Answer, fundFigures, refused, lent, accepted, answerTo}
+use Rattle.fund.specs.Answer.{Answer, fundFigures, lent, accepted, answerTo}
 use Rattle.laws.specs.Answer.{Read, accepted-read, answer-accepted}
 use Rattle.laws.specs.Ranges.{FundOk, read-ranges}
 use Rattle.distance.specs.NotNegative.{not-negative}
@@ -24,14 +24,13 @@ use Rattle.pricing.specs.Priced.{Prices}
 use Rattle.moves.specs.declared.Move.{Move}
 use Rattle.moves.specs.declared.files.Differences.{Differences}
 use Rattle.moves.specs.Differences.{differences, fileIn}
-use Rattle.moves.specs.Move.{FiguresIn, figuresIn, moveOf, movedOf}
+use Rattle.moves.specs.Move.{FiguresIn, moveOf, movedOf}
 use Rattle.moves.proofs.FiguresRange.{in-figures}
 use Rattle.comparison.specs.declared.Comparison.{Comparison}
 use Rattle.comparison.specs.declared.Comparison.the-variants.{Moved, Refused as Unpriced}
-use Rattle.comparison.specs.declared.Compared.{Compared}
 use Rattle.comparison.specs.Exact.{ExactMove, RatesAlone}
 use Rattle.comparison.specs.Comparison.{ifAccepted, compared, Compares}
-use Rattle.comparison.specs.Steps.{withDifferences, toldOf}
+use Rattle.comparison.specs.Steps.{toldOf}
 use Rattle.comparison.proofs.ExactMoves.{Known, exact-move}
 use Rattle.comparison.proofs.RatesAlone.{rates-alone}
 use Rattle.comparison.proofs.FigureSizes.{figures-small}

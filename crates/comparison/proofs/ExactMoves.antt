@@ -1,17 +1,14 @@
 -- The exact move of two funds that are accepted lies where the move of their figures says (exact-move): each premium is within its bound of the exact one, and each gross premium
 -- at most its excess above the exact loaded worth; all scaled by the other fund's denominator.
-use mathlib.Core.Path.{_≡_, refl, sym, _∙_, ap}
+use mathlib.Core.Path.{_≡_, sym, ap}
 use Prim.Native.Nat.{ℕ, _+_, _*_, _^_, _≤_}
 use native.Mathlib.Nat as N
-use native.Mathlib.Omega.{arith}
 use lib.IntN.{ℤ, pos, natAbs, _+ℤ_, _-ℤ_, _*ℤ_}
 use lib.Signed.{_≤ℤ_}
 use Rattle.algebra.specs.Integer.{ℤ-ring}
 use Rattle.algebra.specs.IntegerOrder.{ℤ-ord, _≤Z_}
 use Rattle.algebra.specs.Order as O
-use Rattle.algebra.specs.Solver.{ring3, ring4, ring6, _⊕_, _⊗_, _⊝_, _:=_}
-use Rattle.fund.specs.declared.Fund.{Fund}
-use Rattle.fund.specs.declared.Figures.{Figures}
+use Rattle.algebra.specs.Solver.{ring3, ring6, _⊕_, _⊗_, _⊝_, _:=_}
 use Rattle.fund.specs.Reading.{FundFile}
 use Rattle.fund.specs.Tariff.{gross}
 use Rattle.fund.specs.Answer.{Answer}

@@ -1,26 +1,23 @@
 -- The figures of an accepted fund are within the limits of those that are compared (figures-small): the mean is at most 65,535 times the load, and the sums over
 -- the cells below the deductible are at most 4,096 times the sum of |f| and of the bounds.
-use mathlib.Core.Path.{_≡_, refl, sym, _∙_, ap, subst}
+use mathlib.Core.Path.{_≡_, refl, sym, _∙_, subst}
 use mathlib.Core.List.{List, [], _∷_}
-use Prim.Native.Nat.{ℕ, zero, suc, _+_, _*_, _^_, _≤_, _<_}
+use Prim.Native.Nat.{ℕ, zero, suc, _+_, _*_, _^_, _≤_}
 use native.Mathlib.Nat as N
 use native.Mathlib.Omega.{arith}
 use lib.IntN.{ℤ, pos, negsuc, natAbs, _+ℤ_, _-ℤ_, _*ℤ_}
-use Rattle.algebra.specs.NatSum.{sumN}
-use Rattle.rounding.specs.Rounding.{up}
 use Rattle.rounding.proofs.Laws.{up-least}
-use Rattle.fund.specs.declared.Refusal.{Refusal}
 use Rattle.fund.specs.declared.Verdict.{Verdict}
 use Rattle.fund.specs.declared.Verdict.the-variants.{Accepted, Refused}
-use Rattle.fund.specs.Base.{total, table}
-use Rattle.fund.specs.Limits.{most-deductible, most-bound, most-truncation, most-worth, fourth-loading}
+use Rattle.fund.specs.Base.{total}
+use Rattle.fund.specs.Limits.{most-deductible, most-bound, most-worth, fourth-loading}
 use Rattle.fund.specs.Reading.{FundFile}
-use Rattle.fund.specs.Folding.{points, copies, lives}
-use Rattle.fund.specs.Transform.{unit, load, mean}
+use Rattle.fund.specs.Folding.{points, lives}
+use Rattle.fund.specs.Transform.{unit, mean}
 use Rattle.fund.specs.Recursion.{Cell}
 use Rattle.fund.specs.Premium.{sumBelow, boundBelow, premium, within}
 use Rattle.fund.specs.Tariff.{loading, notNegative, withBound, gross}
-use Rattle.fund.specs.Refusals.{Lengths, matched, valued, verdict}
+use Rattle.fund.specs.Refusals.{Lengths, matched, verdict}
 use Rattle.fund.specs.Answer.{fundTerms, fundStart, fundCells, fundTruncation, fundMean, fundPremium, fundWithin, fundFigures}
 use Rattle.laws.specs.Accepted.{All, all-table, Accepts, accepts}
 use Rattle.laws.specs.Answer.{fundCell, fundCells-are}
@@ -36,7 +33,7 @@ use Rattle.totals.specs.Table.{members-of}
 use Rattle.distance.specs.Distance.{priceable}
 use Rattle.distance.specs.Widths.{most-sum, f-sum-small}
 use Rattle.pricing.specs.JoinedSteps.{points-in, thenVerdict, matched-first}
-use Rattle.moves.specs.Move.{most-premium, most-within, most-gross, FiguresIn}
+use Rattle.moves.specs.Move.{most-gross, FiguresIn}
 
 -- ---- sums over cells
 pub below-size : (M : ℕ) (ys : List Cell) → natAbs (sumBelow M ys) ≤ M * total (λ (y : Cell). natAbs (y .f)) ys

@@ -9,7 +9,7 @@ use lib.Signed.{_≤ℤ_}
 use Rattle.algebra.specs.Integer.{ℤ-ring}
 use Rattle.algebra.specs.IntegerOrder.{ℤ-ord, _≤Z_}
 use Rattle.algebra.specs.Order as O
-use Rattle.algebra.specs.Solver.{ring4, ⊖_, _⊕_, _⊗_, _⊝_, _:=_}
+use Rattle.algebra.specs.Solver.{ring4, _⊕_, _⊗_, _⊝_, _:=_}
 use Rattle.algebra.specs.Linear.{lin4, lin6, _≼_, _⋅_, rest, _∣_, _⊢_}
 use Rattle.rounding.specs.Rounding.{up}
 use Rattle.rounding.proofs.Laws.{up-low, up-high}

@@ -1,12 +1,12 @@
 -- Whole numbers that are near each other. The differences of two pairs of near numbers are near (moved-near), a scaled distance is the distance of
 -- the scaled numbers (scaled), and what is near lies in an interval (interval-low, interval-high). Of two numbers, each at most `e` above
 -- another: where their difference lies (above-low, above-high).
-use mathlib.Core.Path.{_≡_, refl, sym, _∙_, ap, subst}
-use mathlib.Core.Bool.{Bool, true, false, not, cond}
+use mathlib.Core.Path.{_≡_, sym, _∙_, ap, subst}
+use mathlib.Core.Bool.{Bool, true, false, cond}
 use Prim.Native.Nat.{ℕ, zero, suc, _+_, _-_, _*_, _≤_, _<_}
 use native.Mathlib.Nat as N
 use native.Mathlib.Omega.{arith}
-use lib.Dec.{T, ltb, leb, ltb→lt, nltb→le, le→leb, leb→le}
+use lib.Dec.{T, ltb, leb, ltb→lt, le→leb, leb→le}
 use lib.IntN.{ℤ, pos, negsuc, negℤ, natAbs, subℕ, -ℤ-+ℤ-cancel, _+ℤ_, _-ℤ_, _*ℤ_}
 use lib.Signed.{nonNeg, leZ, pos-natAbs, _≤ℤ_}
 use Rattle.algebra.specs.Integer.{ℤ-ring}

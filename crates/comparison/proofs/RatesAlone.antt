@@ -1,10 +1,10 @@
 -- Where no header line but the editions' and no member line differs, the terms and the members are the same (same-terms, same-members); so the two exact premiums are those of
 -- the same terms and members under two rate tables, over one denominator (rates-alone).
 use mathlib.Core.Path.{_≡_, refl, sym, _∙_, ap, ap₂, subst}
-use mathlib.Core.Bool.{Bool, true, false, not, _&&_}
+use mathlib.Core.Bool.{Bool, true, false, not}
 use mathlib.Core.List.{List, [], _∷_, map}
 use mathlib.Core.Option.{Option, none, some}
-use Prim.Native.Nat.{ℕ, zero, suc, _+_, _*_, _^_, _≤_}
+use Prim.Native.Nat.{ℕ, suc, _+_, _*_, _^_, _≤_}
 use native.Mathlib.Nat as N
 use native.Mathlib.Omega.{arith}
 use borrow.Author.Tests.{eqb-true}
@@ -14,9 +14,8 @@ use lib.Signed.{_≤ℤ_}
 use Rattle.algebra.specs.Integer.{ℤ-ring}
 use Rattle.algebra.specs.IntegerOrder.{ℤ-ord, _≤Z_}
 use Rattle.algebra.specs.Order as O
-use Rattle.algebra.specs.Solver.{ring3, ring4, ring5, _⊕_, _⊗_, _⊝_, _:=_}
+use Rattle.algebra.specs.Solver.{ring3, ring5, _⊕_, _⊗_, _⊝_, _:=_}
 use Rattle.fund.specs.declared.Fund.{Fund}
-use Rattle.fund.specs.declared.Frequencies.{Frequencies}
 use Rattle.fund.specs.declared.Rate.{Rate}
 use Rattle.fund.specs.declared.Member.{Member}
 use Rattle.fund.specs.declared.Life.{Life}

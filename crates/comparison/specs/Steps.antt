@@ -1,5 +1,4 @@
 -- What the steps of a comparison say of files that were read and of their figures.
-use mathlib.Core.List.{List}
 use Rattle.fund.specs.declared.Figures.{Figures}
 use Rattle.rows.specs.declared.FileRead.{FileRead}
 use Rattle.moves.specs.declared.Moved.{Moved as MovedBy}

@@ -17,7 +17,7 @@ use Rattle.fund.specs.Listing.{decimal, joined, refusedLine}
 use Rattle.writing.proofs.NumberSizes.{decimal-word, pointed-word-2, pointed-word-12, signed-pointed-word-2, signed-pointed-word-12}
 use Rattle.moves.specs.declared.Move.{Move}
 use Rattle.moves.specs.declared.files.Differences.{Differences}
-use Rattle.comparison_printing.specs.Lines.{pointedLine, signedLine, intervalLine, figureLines, nothingElse, otherHeader, otherMember, otherLines, intervalLines}
+use Rattle.comparison_printing.specs.Lines.{pointedLine, signedLine, intervalLine, figureLines, otherHeader, otherMember, intervalLines}
 
 pub units-size : (key : List ℕ) (n : ℕ) → n < 2 ^ 64 → length (pointedLine key 12 n) ≤ length key + 22
 unfolding pointedLine joined

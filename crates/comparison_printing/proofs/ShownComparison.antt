@@ -1,22 +1,19 @@
 -- What `listing` shows of a comparison that is priced into slices long enough is the listing of the two files, and what is said of its exact move is said of theirs
 -- (prints).
-use mathlib.Core.Path.{_≡_, sym, _∙_, ap, ap₂, subst}
+use mathlib.Core.Path.{_≡_, _∙_, ap₂, subst}
 use mathlib.Core.List.{List, []}
 use Prim.Native.Nat.{ℕ}
 use lib.Dec.{leb}
 use lib.IntN.{ℤ}
 use lib.ListN.{length}
 use Rattle.fund.specs.Base.{if_then_else_}
-use Rattle.fund.specs.Reading.{FundFile, read, reading}
-use Rattle.fund.specs.Answer.{Answer, answer}
+use Rattle.fund.specs.Reading.{reading}
+use Rattle.fund.specs.Answer.{answer}
 use Rattle.fund.specs.Listing.{enough}
 use Rattle.writing.specs.Writing.{Written}
 use Rattle.pricing.specs.Priced.{leftPriced}
 use Rattle.fund_printing.proofs.ShownListing.{lentLengths, answers-enough}
-use Rattle.moves.specs.declared.Move.{Move}
-use Rattle.moves.specs.declared.files.Differences.{Differences}
 use Rattle.comparison.specs.declared.Compared.{Compared}
-use Rattle.comparison.specs.declared.Comparison.the-variants.{Moved}
 use Rattle.comparison.specs.Comparison.{compared, Compares}
 use Rattle.comparison_printing.specs.Lines.{comparisonLines}
 use Rattle.comparison_printing.specs.Printed.{comparison-room, listingOf, comparisonOf, comparisonListing, shownComparison, PrintsComparison}

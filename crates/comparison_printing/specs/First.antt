@@ -1,5 +1,5 @@
 -- The listing of a comparison is that of the first 65,536 bytes of each file (comparison-first).
-use mathlib.Core.Path.{_≡_, refl, sym, _∙_, ap, ap₂}
+use mathlib.Core.Path.{_≡_, refl, _∙_, ap₂}
 use mathlib.Core.List.{List}
 use Prim.Native.Nat.{ℕ, _≤_}
 use lib.ListN.{take}
@@ -8,7 +8,7 @@ use Rattle.fund.specs.declared.Verdict.the-variants.{Accepted, Refused}
 use Rattle.fund.specs.Reading.{FundFile, Reading, read, stopped, reading}
 use Rattle.fund.specs.Folding.{lives}
 use Rattle.fund.specs.Refusals.{Lengths, verdict}
-use Rattle.fund.specs.Answer.{Answer, fundCells, refused, answerOf, answerTo, answer}
+use Rattle.fund.specs.Answer.{Answer, fundCells, refused, answerOf, answerTo}
 use Rattle.fund.specs.Listing.{enough}
 use Rattle.prefix.specs.Prefix.{most-bytes, reading-first}
 use Rattle.moves.specs.Differences.{differences}

@@ -17,7 +17,7 @@ use Rattle.fund.specs.Base.{sum}
 use Rattle.fund.specs.Limits.{most-level}
 use Rattle.fund.specs.Reading.{FundFile, Reading, read}
 use Rattle.fund.specs.Folding.{lives}
-use Rattle.fund.specs.Transform.{unit, lambda}
+use Rattle.fund.specs.Transform.{unit}
 use Rattle.fund.specs.Recursion.{Cell}
 use Rattle.fund.specs.Premium.{premium, within, printedBound}
 use Rattle.fund.specs.Refusals.{Lengths, verdict}
@@ -25,7 +25,7 @@ use Rattle.fund.specs.Quantile.{reaches, quantileOf, QuantileSays}
 use Rattle.fund.specs.Distribution.{distributionBound}
 use Rattle.fund.specs.Answer.{fundTerms, fundStart, fundCells, fundTruncation, fundMean, fundPremium, fundWithin, fundFigures, Answer, accepted, answerTo}
 use Rattle.fund.specs.Listing.{horizonIn}
-use Rattle.fund.specs.Exact.{factorial, singles, denominator, outcomes, excess}
+use Rattle.fund.specs.Exact.{factorial, singles, denominator}
 use Rattle.fund.specs.Distance.{fileDenominator, exactAt, exactPremiumOf, apart, exactSum, boundAt, WithinBounds, AverageExcess, exactLoadedWorth, NeverBelow, BelowAt, QuantileWithin}
 use Rattle.laws.specs.Accepted.{Accepts, accepts}
 use Rattle.laws.specs.Cells.{sum-is}

@@ -20,7 +20,7 @@ use Rattle.fund.specs.Limits.{most-members, most-lives}
 use Rattle.fund.specs.Lines.{Line, begun, linesFrom, lines}
 use Rattle.fund.specs.Reading.{FundFile, read, headerLines, between, livesInAll, rateInRange, memberInRange, noMember, readRows, readHeader, reading, fileRows}
 use Rattle.fund.specs.Refusals.{Lengths}
-use Rattle.fund.specs.Answer.{answer, answerTo}
+use Rattle.fund.specs.Answer.{answer}
 use Rattle.fund.specs.Sheets.{readSheetRows, readSheets, sheetRows, sheetReading, rateText, memberText, texts, fileWith}
 use Rattle.laws.specs.Accepted.{All, all-map, all-append, all-replicate}
 use Rattle.laws.specs.Tables.{total-append, total-replicate}

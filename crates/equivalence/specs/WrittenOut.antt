@@ -7,16 +7,14 @@ use mathlib.Core.List.{List, [], _∷_, _++_, map, map-append}
 use mathlib.Core.Option.{Option, none, some}
 use Prim.Native.Nat.{ℕ, zero, suc, _+_, _-_, _≤_}
 use native.Mathlib.Omega.{arith}
-use lib.IntN.{ℤ}
-use lib.ListN.{length, replicate, take}
+use lib.ListN.{replicate, take}
 use Rattle.fund.specs.declared.Rate.{Rate}
 use Rattle.fund.specs.declared.Member.{Member}
-use Rattle.fund.specs.declared.ModelPoint.{ModelPoint}
 use Rattle.fund.specs.declared.Verdict.{Verdict}
 use Rattle.fund.specs.declared.Verdict.the-variants.{Accepted, Refused}
-use Rattle.fund.specs.Base.{if_then_else_, total}
+use Rattle.fund.specs.Base.{total}
 use Rattle.fund.specs.Limits.{least-lives}
-use Rattle.fund.specs.Reading.{FundFile, Reading, read, livesInAll}
+use Rattle.fund.specs.Reading.{FundFile, read, livesInAll}
 use Rattle.fund.specs.Folding.{rateInForce, folded, life, point, points, copies, lives}
 use Rattle.fund.specs.Refusals.{first, unmatched, half, halfLine, Lengths, firstMember, matched, verdict}
 use Rattle.fund.specs.Answer.{fundCells, refused, accepted, answerOf, answerTo}

@@ -17,7 +17,7 @@ use Rattle.fund.specs.Reading.{FundFile, Reading, read, stopped}
 use Rattle.fund.specs.Folding.{lives}
 use Rattle.fund.specs.Recursion.{Cell}
 use Rattle.fund.specs.Refusals.{Lengths, verdict}
-use Rattle.fund.specs.Answer.{empty, namesLine, lineAt, part, fundTerms, fundStart, fundCells, refused, lent, accepted, answerOf, answerTo, answer}
+use Rattle.fund.specs.Answer.{empty, namesLine, lineAt, part, fundTerms, fundStart, fundCells, refused, lent, accepted, answerOf, answerTo}
 use Rattle.laws.specs.Tables.{length-table, getD-table, map-table}
 use Rattle.laws.specs.Cells.{termCell, cells-are}
 

@@ -10,7 +10,6 @@ use borrow.Author.Tests.{lt-ltb, le-ltb}
 use lib.IntN.{ℤ, pos}
 use lib.ListN.{length, getD, take, length-take}
 use lib.Seq.{getD-take}
-use Rattle.fund.specs.declared.Quantile.{Quantile}
 use Rattle.fund.specs.declared.Quantile.the-variants.{At, None}
 use Rattle.fund.specs.Base.{if_then_else_, table}
 use Rattle.fund.specs.Limits.{most-level}

@@ -2,7 +2,6 @@
 use crate::half;
 use crate::table;
 use crate::table::Matched;
-use fund::Fund;
 use fund::Life;
 use fund::Member;
 use fund::ModelPoint;

@@ -1,14 +1,13 @@
 -- What a comparison answers, handed over (hosts-comparison), and that C reads its signed fields (move-read, refused-read).
-use mathlib.Core.Path.{_≡_, sym, _∙_, ap₂, subst}
+use mathlib.Core.Path.{_≡_, _∙_, ap₂, subst}
 use mathlib.Core.List.{List}
 use Prim.Native.Nat.{ℕ}
 use native.Mathlib.Omega.{arith}
-use Rattle.fund.specs.Reading.{FundFile, read, reading}
+use Rattle.fund.specs.Reading.{reading}
 use Rattle.fund.specs.Refusals.{Lengths}
 use Rattle.fund.specs.Answer.{Answer, answerTo}
 use Rattle.moves.specs.declared.Move.{Move}
 use Rattle.moves.specs.declared.files.Differences.{Differences}
-use Rattle.comparison.specs.declared.Comparison.{Comparison}
 use Rattle.comparison.specs.declared.Comparison.the-variants.{Moved, Refused}
 use Rattle.comparison.specs.declared.Compared.{Compared}
 use Rattle.comparison.specs.Comparison.{compared, Compares}

@@ -1,6 +1,6 @@
 -- The excess of a gross premium is what the tariff answers for the bound with itself, and a centime (excess-is); and how large it is (excess-most).
-use mathlib.Core.Path.{_≡_, sym, _∙_, ap}
-use Prim.Native.Nat.{ℕ, suc, _+_, _*_, _^_, _≤_}
+use mathlib.Core.Path.{_≡_, _∙_, ap}
+use Prim.Native.Nat.{ℕ, _+_, _*_, _^_, _≤_}
 use native.Mathlib.Nat as N
 use native.Mathlib.Omega.{arith}
 use lib.IntN.{pos}
@@ -10,7 +10,6 @@ use Rattle.fund.specs.declared.Fund.{Fund}
 use Rattle.fund.specs.Limits.{most-worth, least-worth, fourth-loading}
 use Rattle.fund.specs.Tariff.{loading, gross}
 use Rattle.laws.specs.Tariff.{loading-le, withBound-pos}
-use Rattle.tariff.specs.declared.Gross.{Gross}
 use Rattle.tariff.specs.declared.Gross.the-variants.{Centimes, Outside}
 use Rattle.tariff.specs.Gross.{grossOf}
 use Rattle.tariff.proofs.GrossAnswers.{gross-inside}

@@ -1,7 +1,7 @@
 -- The fund that is read and matched: where reading stops, so does the call (stops); the horizon (horizon-read); the tables are matched as the file that
 -- was read (read-matched); and what 3 to 6 answer of it, with its model points (matched-verdict, matched-points).
 use mathlib.Core.Path.{_≡_, refl, sym, _∙_, ap, ap₂}
-use mathlib.Core.List.{List, []}
+use mathlib.Core.List.{List}
 use Prim.Native.Nat.{ℕ, _≤_}
 use native.Mathlib.Omega.{arith}
 use borrow.Author.Tests.{le-leb}
@@ -14,8 +14,7 @@ use Rattle.fund.specs.declared.Verdict.the-variants.{Accepted, Refused}
 use Rattle.fund.specs.Limits.{most-rates, most-members}
 use Rattle.fund.specs.Reading.{FundFile, Reading, read, stopped}
 use Rattle.fund.specs.Folding.{point, points}
-use Rattle.fund.specs.Refusals.{Lengths, matched}
-use Rattle.fund.specs.Answer.{Answer, refused, answerTo}
+use Rattle.fund.specs.Refusals.{matched}
 use Rattle.fund.specs.Listing.{horizonIn}
 use Rattle.laws.specs.Ranges.{FundOk}
 use Rattle.laws.specs.Rows.{blankRate, blankMember, blankPoint, rows-back}

@@ -1,6 +1,6 @@
 -- The numbers that float operations are done on: neither a NaN nor a subnormal, by their bits (`Plain`). A host may have its processor take a
 -- subnormal as 0, and a comparison would then say that it equals 0; it is never taken (`subnormal-never`).
-use mathlib.Core.Path.{_≡_, refl, sym, subst}
+use mathlib.Core.Path.{_≡_, sym, subst}
 use mathlib.Core.Logic.{⊎-elim}
 use mathlib.Core.Bool.{Bool, true, false, not, _&&_}
 use Prim.Native.Nat.{ℕ, _%_, _^_, _<_}
@@ -12,7 +12,7 @@ use lib.Ieee.Fits.{and-l, and-r}
 use Rattle.fund.specs.declared.RateFloats.{RateFloats}
 use Rattle.fund.specs.declared.MemberFloats.{MemberFloats}
 use Rattle.fund.specs.declared.SheetCell.{SheetCell}
-use Rattle.fund.specs.declared.SheetCell.the-variants.{Number, Blank}
+use Rattle.fund.specs.declared.SheetCell.the-variants.{Number}
 use Rattle.fund.specs.SheetCells.{cellOf}
 use Rattle.sheet_cells.specs.Taken.{NeverTaken}
 use Rattle.sheet_cells.specs.Patterns.{negative-bits, subnormal-bits, full-or-not}

@@ -12,16 +12,16 @@ use Rattle.fund.specs.declared.Taken.the-variants.{As}
 use Rattle.fund.specs.Base.{bytes, total, sum, sumℤ, table, alternate}
 use Rattle.fund.specs.Lines.{begun, linesFrom, lines}
 use Rattle.fund.specs.Spelling.{digits, isNumber, valueFrom, value, inFirst, fields, allNumbers, numbers, behind, spelled}
-use Rattle.fund.specs.Reading.{Reading, read, stopped, between, inRanges, headerLines, headerOf, rowOf, rising, rateInRange, livesInAll, memberInRange, noMember, atEnd, readRows, readHeader, reading}
+use Rattle.fund.specs.Reading.{between, inRanges, headerLines, headerOf, rowOf, rising, rateInRange, livesInAll, memberInRange, noMember, atEnd, readRows, readHeader, reading}
 use Rattle.fund.specs.Folding.{heldUntil, rateInForce, folded, life, point, points, copies, lives}
 use Rattle.fund.specs.Transform.{unit, nextRow, row, placed, termOf, rowTerms, singleTerms, deathWeight, disabilityWeight, replacedTerm, replacedTerms, terms, sumD, sumH, D, H, lambda, load, w, truncation, mean}
-use Rattle.fund.specs.Recursion.{Cell, t, alternating, multiplied, start, c, startBound, entries, sumR, sumF, nextCell, cells}
+use Rattle.fund.specs.Recursion.{t, alternating, multiplied, start, c, startBound, entries, sumR, sumF, nextCell, cells}
 use Rattle.fund.specs.Premium.{sumBelow, boundBelow, premium, within}
 use Rattle.fund.specs.Tariff.{loading, withBound, gross}
-use Rattle.fund.specs.Refusals.{numberIn, first, unmatched, half, halfLine, wide, anyShort, short, refuse, at0, firstMember, valued, matched, verdict}
+use Rattle.fund.specs.Refusals.{first, unmatched, half, halfLine, wide, anyShort, short, refuse, at0, firstMember, valued, matched, verdict}
 use Rattle.fund.specs.Quantile.{runningSum}
 use Rattle.fund.specs.Distribution.{distributionBound}
-use Rattle.fund.specs.Answer.{empty, fundTerms, fundStart, fundCells, fundTruncation, fundMean, fundPremium, fundWithin, fundFigures, lineAt, part, refused, lent, accepted, answerOf, answerTo}
+use Rattle.fund.specs.Answer.{fundTerms, fundStart, fundCells, fundTruncation, fundMean, fundPremium, fundWithin, fundFigures, lineAt, part, refused, lent, accepted, answerOf, answerTo}
 use Rattle.fund.specs.Listing.{digitsWithin, decimal, signedDecimal, joined, cellLine, cellLines, listed, refusedLine, printed, horizonIn, listingTo, listing}
 use Rattle.fund.specs.Limits.{most-rate}
 use Rattle.fund.specs.SheetCells.{leastFirst, cellOf, quotient, orElse, seek, wholeOf, rateOf, atLeast, wholeIn, amountOf, memberJoined, rateRowOf, memberRowOf}

@@ -1,6 +1,6 @@
 -- The ranges of a fund's lives.
 use mathlib.Core.Path.{_≡_}
-use Prim.Native.Nat.{ℕ, _≤_}
+use Prim.Native.Nat.{_≤_}
 use Rattle.fund.specs.declared.Life.{Life}
 use Rattle.fund.specs.Limits.{least-group, most-group, most-rate, most-amount}
 use Rattle.fund.specs.Folding.{claim}

@@ -8,7 +8,7 @@ use native.Mathlib.Numerals.{add-one}
 use native.Mathlib.Omega.{arith}
 use lib.ListN.{length, getD, take, drop, set, replicate, take-append-drop, length-drop}
 use lib.Seq.{paste-suc, getD-drop, ext-getD}
-use Rattle.rounding.specs.Rounding.{near, up}
+use Rattle.rounding.specs.Rounding.{up}
 use Rattle.rounding.proofs.Laws.{near-low, up-low}
 use Rattle.fund.specs.declared.Life.{Life}
 use Rattle.fund.specs.Base.{total}

@@ -1,5 +1,5 @@
 -- `comparison::told_read`: the move of the figures, with what differs between the files.
-use mathlib.Core.Path.{_≡_, sym, _∙_, ap, ap₂}
+use mathlib.Core.Path.{sym, _∙_, ap, ap₂}
 use borrow.Author.Needs.{needs}
 use Rattle.moves.specs.Differences.{differences, fileIn}
 use Rattle.comparison.specs.Steps.{withDifferences, toldOf}

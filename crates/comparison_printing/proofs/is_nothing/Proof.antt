@@ -1,7 +1,6 @@
 -- No header line, and no member line.
 use borrow.Author.Tests.{eq-eqb, ne-eqb}
 use Rattle.comparison_printing.specs.Lines.{nothingElse}
-use borrow.Author.Needs.{needs}
 use Rattle.comparison_printing.proofs.is_nothing.Statement.{statement}
 use Rattle.comparison_printing.proofs.is_nothing.Tie as tie
 

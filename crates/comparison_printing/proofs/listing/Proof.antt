@@ -1,12 +1,10 @@
 -- Both funds and the comparison, which are within the room together.
-use mathlib.Core.Path.{_≡_, ap}
-use mathlib.Core.List.{[]}
 use native.Mathlib.Omega.{arith}
 use borrow.Author.Tests.{le-leb, lt-leb}
-use lib.ListN.{length, length-append}
+use lib.ListN.{length-append}
 use Rattle.fund.specs.Base.{bytes}
-use Rattle.writing.proofs.PieceLaws.{puts-then, puts-written, written-none, written-as}
-use Rattle.comparison_printing.specs.Lines.{fundLines, moveLines, comparisonLines}
+use Rattle.writing.proofs.PieceLaws.{puts-then, puts-written, written-none}
+use Rattle.comparison_printing.specs.Lines.{comparisonLines}
 use Rattle.comparison_printing.specs.Printed.{listingOf}
 use borrow.Author.Needs.{needs}
 use Rattle.comparison_printing.proofs.listing.Statement.{statement}

@@ -1,5 +1,4 @@
 -- The listing of what the call answers is that of the two files.
-use mathlib.Core.Path.{_∙_}
 use Rattle.fund_printing.proofs.ShownListing.{written-within}
 use Rattle.comparison_printing.proofs.ShownComparison.{prints}
 use borrow.Author.Needs.{needs}

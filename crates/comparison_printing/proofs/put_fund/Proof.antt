@@ -1,5 +1,5 @@
 -- The figures of a fund that is accepted, or its refusal.
-use mathlib.Core.Path.{sym, ap, subst}
+use mathlib.Core.Path.{ap}
 use native.Mathlib.Omega.{arith}
 use Rattle.comparison_printing.specs.Lines.{fundLines}
 use Rattle.writing.proofs.PieceLaws.{puts-as}

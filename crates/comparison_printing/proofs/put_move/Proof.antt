@@ -7,7 +7,7 @@ use mir.Syntax.{w64}
 use mir.Val.{toZ, ofZ}
 use Rattle.fund.specs.Base.{bytes}
 use Rattle.writing.proofs.PieceLaws.{puts-then}
-use Rattle.comparison_printing.specs.Lines.{signedLine, pointedLine, intervalLines, moveLines, otherLines}
+use Rattle.comparison_printing.specs.Lines.{signedLine, pointedLine, moveLines}
 use Rattle.comparison_printing.proofs.LineSizes.{units-size, signed-units-size}
 use borrow.Author.Needs.{needs}
 use Rattle.comparison_printing.proofs.put_move.Statement.{statement}

@@ -1,11 +1,10 @@
 -- That nothing else differs, or the lines of what does.
-use mathlib.Core.Path.{_≡_, sym, _∙_}
-use mathlib.Core.Bool.{true, false}
+use mathlib.Core.Path.{sym, _∙_}
 use native.Mathlib.Omega.{arith}
 use lib.ListN.{length-append}
 use Rattle.fund.specs.Base.{bytes}
 use Rattle.writing.proofs.PieceLaws.{puts-then}
-use Rattle.comparison_printing.specs.Lines.{nothingElse, otherHeader, otherMember, otherLines}
+use Rattle.comparison_printing.specs.Lines.{otherHeader, otherMember, otherLines}
 use borrow.Author.Needs.{needs}
 use Rattle.comparison_printing.proofs.put_other.Statement.{statement}
 use Rattle.comparison_printing.proofs.put_other.Tie as tie

@@ -8,7 +8,6 @@ use mir.Val.{SFits, toZ, ofZ}
 use mir.Facts.{toZ-ofZ}
 use Rattle.moves.specs.declared.Move.{Move}
 use Rattle.miguepo.specs.Bits.{bitsOf}
-use Rattle.miguepo_comparison.specs.HostComparison.{SignedFields}
 use Rattle.miguepo.proofs.Complement.{bits-read}
 use Rattle.miguepo_comparison.proofs.moved_fields.Statement.{statement}
 use Rattle.miguepo_comparison.proofs.moved_fields.Tie as tie

@@ -1,7 +1,6 @@
 -- The sum is the number itself: sizes up to 2^62 fit.
 use native.Mathlib.Omega.{arith}
 use Rattle.widths.specs.Signed.{shifted-up}
-use borrow.Author.Needs.{needs}
 use Rattle.moves.proofs.above.Statement.{statement}
 use Rattle.moves.proofs.above.Tie as tie
 

@@ -1,7 +1,6 @@
 -- The difference is the number itself: sizes up to 2^62 fit.
 use native.Mathlib.Omega.{arith}
 use Rattle.widths.specs.Signed.{shifted-down}
-use borrow.Author.Needs.{needs}
 use Rattle.moves.proofs.below.Statement.{statement}
 use Rattle.moves.proofs.below.Tie as tie
 

@@ -8,7 +8,6 @@ use mir.Syntax.{w64}
 use mir.Val.{toZ, ofZ}
 use borrow.Author.Needs.{needs}
 use borrow.Author.Tests.{le-leb, lt-leb}
-use native.Mathlib.Omega.{arith}
 use Rattle.fund.specs.Limits.{least-worth, most-worth}
 use Rattle.fund.specs.Reading.{between}
 use Rattle.moves.specs.Move.{most-premium, most-within, most-gross, figuresIn}

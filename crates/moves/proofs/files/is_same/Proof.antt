@@ -1,5 +1,5 @@
 -- `moves::files::is_same`: number by number.
-use mathlib.Core.Path.{_≡_, sym, _∙_}
+use mathlib.Core.Path.{_≡_, sym}
 use mathlib.Core.Bool.{_&&_, and-assoc}
 use mathlib.Core.Logic.{⊎-elim}
 use lib.Dec.{eqb}
