@@ -21,12 +21,7 @@ pub(crate) struct Places {
 fn all_small(small: bool, size: u64, h: u64) -> bool
     ensures { λ r. ⌜ (r ≡ true → (small ≡ true) × SmallSizes size h) ⌝ }
 {
-    if size <= MOST_SMALL_SIZE {
-        if h <= MOST_SMALL_ERROR {
-            return small;
-        }
-    }
-    false
+    size <= MOST_SMALL_SIZE && h <= MOST_SMALL_ERROR && small
 }
 
 // Puts k into the list behind the places that are there, where D or H is not 0.
@@ -35,10 +30,8 @@ fn note(list: &mut [usize], p: Places, k: usize, d: i64, h: u64) -> Places
     ensures { λ r. ⌜ Noted (natAbs d) h k (now (list .entry)) p (now (list .exit)) r ⌝ }
 {
     let size = whole::magnitude(d);
-    if size == 0 {
-        if h == 0 {
-            return p;
-        }
+    if size == 0 && h == 0 {
+        return p;
     }
     let count = p.count;
     list[count] = k;

@@ -94,8 +94,5 @@ fn add_wide(s: Sums, d: i64, h: u64, f: i64, r: u64) -> Sums
 fn opposite(d: i64, f: i64) -> bool
     ensures { λ r. ⌜ r ≡ opposite d f ⌝ }
 {
-    if d < 0 {
-        return 0 <= f;
-    }
-    f < 0
+    (d < 0) != (f < 0)
 }

@@ -26,18 +26,12 @@ fn float(bits: u64) -> f64
     }
 }
 
-fn wide(b: u8) -> u64
-    ensures { λ r. ⌜ (r ≡ b) × (r < 256) ⌝ }
-{
-    b as u64
-}
-
 // The bits of two bytes, of four, and of the eight of a cell, from `at` on.
 fn two(row: &[u8], at: usize) -> u64
     requires { do ⌜ at + 2 ≤ (← ⟦row.len()⟧) ⌝ }
     ensures { λ r. ⌜ (r ≡ leastFirst (take 2 (drop at (now (row .entry))))) × (r < 2 ^ 16) ⌝ }
 {
-    wide(row[at + 1]) * 0x100 + wide(row[at])
+    row[at + 1] as u64 * 0x100 + row[at] as u64
 }
 
 fn four(row: &[u8], at: usize) -> u64

@@ -8,43 +8,18 @@ use fund::Rate;
 use fund::SheetRow;
 use fund::Taken;
 ghost use mathlib.Core.Path.{_≡_};
-ghost use Rattle.fund.specs.SheetCells.{rateJoined, memberJoined, rateTaken, memberTaken, rateRowOf, memberRowOf};
-ghost use Rattle.sheet_cells.specs.Plain.{ratesOf, membersOf};
+ghost use Rattle.fund.specs.SheetCells.{rateJoined, memberJoined, rateRowOf, memberRowOf};
 
-// A row of the rates' sheet.
+// A row of the rates' sheet: the bits of its cells, and the record of floats that they are. Each is classified by its bits, then taken or not.
 pub fn rate_row(row: &[u8]) -> SheetRow
     ensures { λ r. ⌜ r ≡ rateRowOf (now (row .entry)) ⌝ }
 {
     if row.len() != Fund::RATE_WIDTH {
         return SheetRow::NotTaken;
     }
-    rate_taken(
-        floats::word(row, 0),
-        floats::word(row, 8),
-        floats::word(row, 16),
-    )
-}
-
-// A row of the members' sheet.
-pub fn member_row(row: &[u8]) -> SheetRow
-    ensures { λ r. ⌜ r ≡ memberRowOf (now (row .entry)) ⌝ }
-{
-    if row.len() != Fund::MEMBER_WIDTH {
-        return SheetRow::NotTaken;
-    }
-    member_taken(
-        floats::word(row, 0),
-        floats::word(row, 8),
-        floats::word(row, 16),
-        floats::word(row, 24),
-        floats::word(row, 32),
-    )
-}
-
-// A record of floats from the bits of a row's cells. Each is classified by its bits, then taken or not, cell by cell.
-fn rate_taken(age: u64, q: u64, i: u64) -> SheetRow
-    ensures { λ t. ⌜ t ≡ rateTaken (ratesOf age q i) ⌝ }
-{
+    let age = floats::word(row, 0);
+    let q = floats::word(row, 8);
+    let i = floats::word(row, 16);
     let r = floats::rate_floats(age, q, i);
     rate_joined(
         number::number(0, Fund::MOST_AGE, number::classed(age, r.age)),
@@ -53,24 +28,28 @@ fn rate_taken(age: u64, q: u64, i: u64) -> SheetRow
     )
 }
 
-fn member_taken(age: u64, group: u64, d: u64, e: u64, lives: u64) -> SheetRow
-    ensures { λ t. ⌜ t ≡ memberTaken (membersOf age group d e lives) ⌝ }
+// A row of the members' sheet, in the same way.
+pub fn member_row(row: &[u8]) -> SheetRow
+    ensures { λ r. ⌜ r ≡ memberRowOf (now (row .entry)) ⌝ }
 {
+    if row.len() != Fund::MEMBER_WIDTH {
+        return SheetRow::NotTaken;
+    }
+    let age = floats::word(row, 0);
+    let group = floats::word(row, 8);
+    let d = floats::word(row, 16);
+    let e = floats::word(row, 24);
+    let lives = floats::word(row, 32);
     let r = floats::member_floats(age, group, d, e, lives);
+    let age_cell = number::classed(age, r.age);
+    let group_cell = number::classed(group, r.group);
+    let lives_cell = number::classed(lives, r.lives);
     member_joined(
-        number::number(0, Fund::MOST_AGE, number::classed(age, r.age)),
-        number::number(
-            Fund::LEAST_GROUP,
-            Fund::MOST_GROUP,
-            number::classed(group, r.group),
-        ),
+        number::number(0, Fund::MOST_AGE, age_cell),
+        number::number(Fund::LEAST_GROUP, Fund::MOST_GROUP, group_cell),
         number::amount(number::classed(d, r.d)),
         number::amount(number::classed(e, r.e)),
-        number::number(
-            Fund::LEAST_LIVES,
-            Fund::MOST_LIVES,
-            number::classed(lives, r.lives),
-        ),
+        number::number(Fund::LEAST_LIVES, Fund::MOST_LIVES, lives_cell),
     )
 }
 

@@ -10,8 +10,7 @@ ghost use Prim.Native.Nat.{_^_, _≤_};
 ghost use mathlib.Core.Bool.{not};
 ghost use lib.Dec.{T};
 ghost use lib.Ieee.{binary64, ofBits, isNan};
-ghost use Rattle.fund.specs.Limits.{most-rate};
-ghost use Rattle.fund.specs.SheetCells.{cellOf, quotient, wholeOf, rateOf, atLeast, wholeIn, amountOf, rateIn};
+ghost use Rattle.fund.specs.SheetCells.{cellOf, wholeOf, rateOf, atLeast, wholeIn, amountOf, rateIn};
 ghost use Rattle.sheet_cells.specs.Part.{OnlyWhole};
 ghost use Rattle.sheet_cells.specs.Plain.{subnormal, Plain, NoNan};
 
@@ -33,10 +32,7 @@ fn is_subnormal(x: f64) -> bool
     ensures { λ r. ⌜ r ≡ subnormal x ⌝ }
 {
     let size = f64::to_bits(x) % 0x8000_0000_0000_0000;
-    if size == 0 {
-        return false;
-    }
-    size < 0x10_0000_0000_0000
+    0 < size && size < 0x10_0000_0000_0000
 }
 
 // The only whole number up to 2^53 that the float of these bits can equal: its size, without a fraction and cut to 2^53.
@@ -59,24 +55,13 @@ fn whole(x: f64, most: u64) -> Taken
     ensures { λ r. ⌜ r ≡ wholeOf x most ⌝ }
 {
     let k = whole_part(f64::to_bits(x));
-    if most < k {
-        return Taken::Not;
-    }
-    if x == k as f64 {
+    if k <= most && x == k as f64 {
         return Taken::As(k);
     }
     Taken::Not
 }
 
-// The quotient of k by 1,000,000: one division, rounded once.
-fn millionths(k: u64) -> f64
-    requires { ⌜ k ≤ most-rate ⌝ }
-    ensures { λ r. ⌜ r ≡ quotient k 1000000 ⌝ }
-{
-    (k as f64) / 1000000.0
-}
-
-// A number that is no subnormal, as a rate in millionths.
+// A number that is no subnormal, as a rate in millionths; each quotient is one division, rounded once.
 fn rate(x: f64) -> Taken
     requires { ⌜ Plain x ⌝ }
     ensures { λ r. ⌜ r ≡ rateOf x ⌝ }
@@ -85,7 +70,7 @@ fn rate(x: f64) -> Taken
     let mut hi = Fund::MOST_RATE + 1;
     while lo < hi {
         let mid = lo + (hi - lo) / 2;
-        let quotient = millionths(mid);
+        let quotient = mid as f64 / 1000000.0;
         if x == quotient {
             return Taken::As(mid);
         }
@@ -109,29 +94,13 @@ fn whole_of(x: f64, most: u64) -> Taken
     whole(x, most)
 }
 
-// q as a rate: a subnormal is none.
-fn rate_of(q: f64) -> Taken
-    requires { ⌜ T (not (isNan q)) ⌝ }
-    ensures { λ r. ⌜ r ≡ rateOf q ⌝ }
-{
-    if is_subnormal(q) {
-        return Taken::Not;
-    }
-    rate(q)
-}
-
 fn at_least(least: u64, taken: Taken) -> Taken
     ensures { λ r. ⌜ r ≡ atLeast least taken ⌝ }
 {
-    match taken {
-        Taken::As(n) => {
-            if n < least {
-                return Taken::Not;
-            }
-            Taken::As(n)
-        }
-        Taken::Not => Taken::Not,
-    }
+    let Taken::As(n) = taken else {
+        return Taken::Not;
+    };
+    if n < least { Taken::Not } else { taken }
 }
 
 // A whole number from `least` to `most`.
@@ -156,12 +125,16 @@ pub(crate) fn amount(cell: SheetCell) -> Taken
     }
 }
 
+// A rate: a blank and a subnormal are none.
 pub(crate) fn rate_in(cell: SheetCell) -> Taken
     requires { ⌜ NoNan cell ⌝ }
     ensures { λ r. ⌜ r ≡ rateIn cell ⌝ }
 {
-    let SheetCell::Number(x) = cell else {
+    let SheetCell::Number(q) = cell else {
         return Taken::Not;
     };
-    rate_of(x)
+    if is_subnormal(q) {
+        return Taken::Not;
+    }
+    rate(q)
 }

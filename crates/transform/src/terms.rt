@@ -64,10 +64,7 @@ fn next_row(row: [u64; 13], m: Life, n: u64) -> [u64; 13]
 fn reached(rate: u64, l: u64, end: u64) -> bool
     ensures { λ r. ⌜ r ≡ (ltb 0 rate || eqb l end) ⌝ }
 {
-    if 0 < rate {
-        return true;
-    }
-    l == end
+    0 < rate || l == end
 }
 
 // Where the term of row n and column l stands.
@@ -83,13 +80,7 @@ fn placed(horizon: u64, x: u64, m: Life, n: u64, l: u64) -> bool
     requires { ⌜ x ≡ placeOf m n l ⌝ }
     ensures { λ r. ⌜ r ≡ placedOf horizon m n l ⌝ }
 {
-    if horizon < x {
-        return false;
-    }
-    if !reached(m.q, l, 0) {
-        return false;
-    }
-    reached(m.i, l, n)
+    x <= horizon && reached(m.q, l, 0) && reached(m.i, l, n)
 }
 
 // A cell with an amount added or subtracted.

@@ -4,11 +4,12 @@ use mathlib.Core.Logic.{inl, inr}
 use lib.IntN.{natAbs}
 use mir.Facts.{toZ-ofZ}
 use borrow.Author.Needs.{needs}
+use borrow.Author.Tests.{eqb-true}
 use Rattle.recursion.proofs.places.note.Statement.{statement}
 use Rattle.recursion.proofs.places.note.Tie as tie
 
 returns : tie.Need-returns
-returns c = inl (sym (c .before .before .magnitude .ensures ∙ ap natAbs (toZ-ofZ (c .before .before .before .before .fits .d))) ∙ c .before .if1 .taken, c .if2 .taken, refl, refl)
+returns c = inl (sym (c .before .before .magnitude .ensures ∙ ap natAbs (toZ-ofZ (c .before .before .before .before .fits .d))) ∙ c .before .if1 .taken, eqb-true _ _ (c .if2 .taken), refl, refl)
 
 returns-2 : tie.Need-returns-2
 returns-2 c =

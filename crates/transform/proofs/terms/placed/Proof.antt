@@ -1,31 +1,26 @@
 -- The three tests are those of the definition, in its order.
 use borrow.Author.Needs.{needs}
-use borrow.Author.Tests.{lt-leb, le-leb, not-true, not-false}
-use mathlib.Core.Path.{sym}
-use Prim.Native.Nat.{_≤_}
+use borrow.Author.Tests.{lt-leb, le-leb}
+use mathlib.Core.Path.{_≡_, sym}
+use mathlib.Core.Bool.{_&&_, _||_}
+use mathlib.Core.Logic.{⊎-elim}
+use lib.Dec.{leb, ltb, eqb}
 use Rattle.fund.specs.Transform.{placed, placeOf}
 use Rattle.transform.proofs.terms.placed.Statement.{statement}
 use Rattle.transform.proofs.terms.placed.Tie as tie
 
+two : (c : tie.Joined1) → let a = c .before .args in leb (placeOf (a .m) (a .n) (a .l)) (a .horizon) && (ltb 0 (a .m .q) || eqb (a .l) 0) ≡ c .if1 .if2
+two c =
+    ⊎-elim (λ p. rw (sym (c .before .pre), le-leb _ _ (p .0 .taken), p .2, p .1 .ensures))
+    (λ p. rw (sym (c .before .pre), p .1, lt-leb _ _ (p .0 .left))) (c .if1 .came)
+
 returns : tie.Need-returns
 unfolding placed
-returns c = rw (lt-leb _ _ (rw (c .before .pre) at (c .if1 .taken)))
-
-within : (c : tie.Else1) → let a = c .before .args in placeOf (a .m) (a .n) (a .l) ≤ a .horizon
-within c = rw (c .before .pre) at (c .if1 .left)
+returns c = rw (two (c .before .before), c .before .if2 .taken) (c .reached2 .ensures)
 
 returns-2 : tie.Need-returns-2
 unfolding placed
-returns-2 c =
-    let r = c .before .reached in
-    rw (le-leb _ _ (within (c .before .before)), sym (r .ensures), not-true (r .result) (c .if2 .taken))
-
-returns-3 : tie.Need-returns-3
-unfolding placed
-returns-3 c =
-    let r = c .before .before .reached in
-    rw (le-leb _ _ (within (c .before .before .before)), sym (r .ensures), not-false (r .result) (c .before .if2 .left)) (c .reached2 .ensures)
+returns-2 c = rw (two (c .before), c .if2 .left)
 
 pub placed-spec : {M : Type 1} → statement M
-placed-spec =
-    tie.close (tie.spec returns (λ c κs. search needs) returns-2 (λ c κs. search needs) returns-3)
+placed-spec = tie.close (tie.spec (λ c κs. search needs) (λ c κs. search needs) returns returns-2)
