@@ -1,5 +1,5 @@
 -- `sheet_cells::number::rate`: the invariant: every k whose quotient x equals lies from lo on and below hi.
-use mathlib.Core.Path.{_≡_, refl, sym, ap, _∙_}
+use mathlib.Core.Path.{_≡_}
 use mathlib.Core.Bool.{Bool}
 use Prim.Native.Nat.{ℕ, _+_, _-_, _/_, _≤_}
 use native.Mathlib.Nat.{le-trans}

@@ -1,17 +1,16 @@
 -- `sheet_cells::number::whole`: the only whole number that x can equal is the one of its bits (`only`), and it is compared with that.
 use borrow.Author.Needs.{needs}
 use mathlib.Core.Path.{_≡_, sym, ap, _∙_, subst}
-use mathlib.Core.Bool.{false, not}
+use mathlib.Core.Bool.{false}
 use mathlib.Core.Logic.{⊎-elim}
 use Prim.Native.Nat.{ℕ, _≤_, _<_, _^_}
 use native.Mathlib.Nat.{le-trans, not-le-of-lt}
 use lib.Dec.{T, le→leb}
-use lib.Ieee.{Float, nan, inf, fin, binary64, fits, inFloat, isNan, ofBits, toBits, ne, eq}
+use lib.Ieee.{Float, binary64, fits, inFloat, ofBits, toBits, eq}
 use lib.Ieee.Bits.{ofBits-toBits}
-use lib.Ieee.Compare.{differs-from-itself, nan-differs}
 use Rattle.fund.specs.declared.Taken.the-variants.{Not}
 use Rattle.fund.specs.SheetCells.{ofWhole, wholeOf}
-use Rattle.sheet_cells.specs.Taken.{whole-at, whole-none, not-a-number}
+use Rattle.sheet_cells.specs.Taken.{whole-at, whole-none}
 use Rattle.sheet_cells.specs.Part.{OnlyWhole}
 use Rattle.sheet_cells.proofs.number.whole.Statement.{statement}
 use Rattle.sheet_cells.proofs.number.whole.Tie as tie
