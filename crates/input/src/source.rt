@@ -54,10 +54,7 @@ fn give(file: &[u8], pieces: &[u32], given: &mut usize, buffer: &mut [u8], size:
     while n < most {
         let at = size + n;
         let next = from + n;
-        if at >= buffer.len() {
-            break;
-        }
-        if next >= file.len() {
+        if at >= buffer.len() || next >= file.len() {
             break;
         }
         buffer[at] = file[next];

@@ -72,10 +72,8 @@ fn refusal(answer: Recursed) -> Verdict
 {
     match answer {
         Recursed::Wide(x) => Verdict::Refused(Refusal::Wide, x),
-        Recursed::Large(_) => Verdict::Refused(Refusal::Range, 0),
-        Recursed::Outside(_) => Verdict::Refused(Refusal::Range, 0),
-        Recursed::Short => Verdict::Refused(Refusal::Range, 0),
         Recursed::Done => Verdict::Accepted,
+        _ => Verdict::Refused(Refusal::Range, 0),
     }
 }
 

@@ -4,6 +4,7 @@ use mathlib.Core.Logic.{⊎-elim}
 use Prim.Native.Nat.{ℕ, _-_, _+_, _≤_}
 use native.Mathlib.Omega.{arith}
 use borrow.Author.Needs.{needs}
+use borrow.Author.Tests.{leb-true, leb-false}
 use lib.ListN.{length, take, length-set}
 use mir.Syntax.{w64}
 use mir.Facts.{toZ-pos}
@@ -38,12 +39,13 @@ loop-again c =
     let m = c .before .before .before .before in
     let i = m .loop .inv in
     let s = m .before .before .before .before .before .before .before in
-    let at = s .pre .1 .at in (
+    let at = s .pre .1 .at in
+    let next = leb-false (length (s .args .file .now)) (s .args .given .now + m .loop .n) (c .before .if3 .left) in (
       search needs,
       simp length-set (omega (arith, c .before .before .if2 .left)),
-      omega (arith, at, c .before .if3 .left),
+      omega (arith, at, next),
       search needs,
-      one-more (m .loop .buffer) (s .args .file .now) (s .args .size) (s .args .given .now) (m .loop .n) at (i .4) (c .before .before .if2 .left) (c .before .if3 .left),
+      one-more (m .loop .buffer) (s .args .file .now) (s .args .size) (s .args .given .now) (m .loop .n) at (i .4) (c .before .before .if2 .left) next,
     )
 
 cast-result : tie.Need-cast-result Inv-loop μ-loop
@@ -61,7 +63,7 @@ returns-2 c =
     record {
       long = i .3;
       some = omega (arith, most, c .before .before .if1 .left);
-      count = ⊎-elim (λ w. omega (arith, most, at, i)) (λ w. ⊎-elim (λ v. omega (arith, most, at, i)) (λ v. omega (arith, most, at, i)) w) (c .loop-test .came);
+      count = ⊎-elim (λ w. omega (arith, most, at, i)) (λ w. ⊎-elim (λ v. omega (arith, most, at, i, v .taken)) (λ v. omega (arith, most, at, i, leb-true (length (a .file .now)) (a .given .now + c .before .loop .n) (v .1 .taken))) (w .1 .came)) (c .loop-test .came);
       stands = record { at = ap (λ (k : ℕ). k + c .before .loop .n) at; bytes = i .4 };
     }
 
