@@ -71,14 +71,14 @@ fn rate(x: f64) -> Taken
     while lo < hi {
         let mid = lo + (hi - lo) / 2;
         let quotient = mid as f64 / 1000000.0;
+        if x < quotient {
+            hi = mid;
+            continue;
+        }
         if x == quotient {
             return Taken::As(mid);
         }
-        if x < quotient {
-            hi = mid;
-        } else {
-            lo = mid + 1;
-        }
+        lo = mid + 1;
     }
     Taken::Not
 }

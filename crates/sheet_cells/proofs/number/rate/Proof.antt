@@ -47,16 +47,16 @@ int-to-float-quotient c =
 
 returns : tie.Need-returns Inv-loop μ-loop
 unfolding rateOf
-returns c = let x = c .before .before .before .before .args .x in ascending.found q 1000000 ascending.millionths x _ (omega arith) (is eq x _ (c .if1 .taken))
+returns c = let x = c .before .before .before .before .before .args .x in ascending.found q 1000000 ascending.millionths x _ (omega arith) (is eq x _ (c .if2 .taken))
 
 loop-less : tie.Need-loop-less Inv-loop μ-loop
 loop-less c = omega arith
 
 loop-again : tie.Need-loop-again Inv-loop μ-loop
 loop-again c =
-    let at = c .before .before .before .before in
+    let at = c .before .before .before in
     let x = at .before .args .x in
-    (omega arith, ascending.within-left q 1000000 ascending.millionths x (at .loop .lo) (at .loop .hi) _ (at .loop .inv .1) (omega arith) (is lt x _ (c .if2 .taken)))
+    (omega arith, ascending.within-left q 1000000 ascending.millionths x (at .loop .lo) (at .loop .hi) _ (at .loop .inv .1) (omega arith) (is lt x _ (c .if1 .taken)))
 
 add-lo : tie.Need-add-lo Inv-loop μ-loop
 add-lo c = omega arith
@@ -69,7 +69,7 @@ loop-again-2 c =
     let at = c .before .before .before .before in
     let x = at .before .args .x in (
       omega arith,
-      ascending.within-right q 1000000 ascending.millionths x (at .loop .lo) (at .loop .hi) _ (at .loop .inv .1) (omega arith) (is eq x _ (c .before .if1 .left)) (is lt x _ (c .if2 .left)),
+      ascending.within-right q 1000000 ascending.millionths x (at .loop .lo) (at .loop .hi) _ (at .loop .inv .1) (omega arith) (is eq x _ (c .if2 .left)) (is lt x _ (c .before .if1 .left)),
     )
 
 returns-2 : tie.Need-returns-2 Inv-loop μ-loop
@@ -79,4 +79,4 @@ returns-2 c = let at = c .before in ascending.none q 1000000 ascending.millionth
 pub rate-spec : {M : Type 1} → statement M
 rate-spec =
     tie.close
-    (tie.spec Inv-loop μ-loop add-hi loop-holds sub-mid add-mid int-to-float-quotient returns loop-less loop-again add-lo loop-less-2 loop-again-2 returns-2)
+    (tie.spec Inv-loop μ-loop add-hi loop-holds sub-mid add-mid int-to-float-quotient loop-less loop-again returns add-lo loop-less-2 loop-again-2 returns-2)
