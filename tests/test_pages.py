@@ -5,7 +5,7 @@
 Of every page but docs/CHANGES.md, whose notes name things as they were then: paths into a crate
 (crates/NAME/.., NAME/specs/Module.name, NAME/must-fail/edit), functions `crate::name`, definitions
 of docs/METHOD.md (`Module.name` of crates/fund/specs), files and folders of this repository, links
-to other pages.
+to other pages.  And docs/WRONG-PROGRAMS.md is what docs/wrong_programs.py writes today.
 """
 
 import re
@@ -14,6 +14,9 @@ from functools import lru_cache
 from pathlib import Path
 
 ROOT = Path(__file__).resolve().parent.parent
+sys.path.insert(0, str(ROOT / "docs"))
+import wrong_programs
+
 CRATES = ROOT / "crates"
 HISTORY = ROOT / "docs" / "CHANGES.md"
 METHOD = ROOT / "docs" / "METHOD.md"
@@ -92,7 +95,10 @@ def main():
         for number, what in faults(page):
             print(f"{page.relative_to(ROOT)}:{number}: {what} leads nowhere")
             bad += 1
-    print(f"{len(pages())} pages, {bad} names that lead nowhere")
+    if wrong_programs.PAGE.read_text(encoding="utf-8") != wrong_programs.page():
+        print("docs/WRONG-PROGRAMS.md is not what docs/wrong_programs.py writes")
+        bad += 1
+    print(f"{len(pages())} pages, {bad} faults")
     return 1 if bad else 0
 
 
