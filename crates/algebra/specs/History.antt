@@ -1,4 +1,4 @@
--- A sequence whose each element is computed from all before it: seq d step, with seq n = step n seq (seq-step) where a step looks only
+-- A sequence whose each element is computed from all before it: seq d step, with seq n = step n seq (seq_step) where a step looks only
 -- at earlier elements.
 use Rattle.std.specs.Prelude.{◌≡◌, Bool, true, false, not, cond, T, ltb}
 use Rattle.std.proofs.Common.{ap, ltb→lt, nltb→le}
@@ -31,6 +31,6 @@ module _ {A : Type 0} (d : A) (step : (n : ℕ) → (ℕ → A) → A) where
       go false f g ih = ap (λ m. step m (upto m)) (same (g tt))
 
   module _ (local : (n : ℕ) (f g : ℕ → A) → ((k : ℕ) → k < n → f k ≡ g k) → step n f ≡ step n g) where
-    pub seq-step : (n : ℕ) → seq n ≡ step n seq
+    pub seq_step : (n : ℕ) → seq n ≡ step n seq
     unfolding seq
-    seq-step n = local n (upto n) seq (λ k h. upto_is n k h)
+    seq_step n = local n (upto n) seq (λ k h. upto_is n k h)

@@ -6,7 +6,7 @@ use Rattle.std.specs.Prelude.{List, [], ◌∷◌, ℕ, T, pos}
 use Rattle.algebra.specs.Ring.{CRing}
 use Rattle.algebra.specs.Order as O
 use Rattle.algebra.specs.Order.{Ord}
-use Rattle.algebra.specs.NormalForm.{norm, eqP, x0, x1, x2, x3, x4, x5}
+use Rattle.algebra.specs.NormalForm.{norm, eq_p, x0, x1, x2, x3, x4, x5}
 use Rattle.algebra.specs.Solver.{Expr, con, ◌⊕◌, ◌⊗◌, ◌⊝◌, ◌:=◌, eval, solve}
 
 infixr 3 ◌∣◌
@@ -41,7 +41,7 @@ abbrev pub facts : Goal → Facts
 facts (f ⊢ (a ≼ b)) = f
 
 abbrev pub works : Goal → Type 0
-works g = T (eqP (norm (comb (facts g))) (norm (upper g ⊝ lower g)))
+works g = T (eq_p (norm (comb (facts g))) (norm (upper g ⊝ lower g)))
 
 module _ (R : CRing) (Q : Ord R) where
   open R use {Carrier}
@@ -50,16 +50,16 @@ module _ (R : CRing) (Q : Ord R) where
   Given ρ (rest k) = Unit {0}
   Given ρ (c ⋅ (a ≼ b) ∣ f) = O.◌≤◌ R Q (eval R ρ a) (eval R ρ b) × Given ρ f
 
-  comb-nn : (ρ : List Carrier) (f : Facts) → Given ρ f → T (Q.nonneg (eval R ρ (comb f)))
-  comb-nn ρ (rest k) h = O.nat-nn R Q k
-  comb-nn ρ (c ⋅ (a ≼ b) ∣ f) h = Q.nn-add (eval R ρ (con (pos c) ⊗ (b ⊝ a))) (eval R ρ (comb f))
-      (Q.nn-mul (eval R ρ (con (pos c))) (eval R ρ (b ⊝ a)) (O.nat-nn R Q c) h.0.le) (comb-nn ρ f h.1)
+  comb_nn : (ρ : List Carrier) (f : Facts) → Given ρ f → T (Q.nonneg (eval R ρ (comb f)))
+  comb_nn ρ (rest k) h = O.nat_nn R Q k
+  comb_nn ρ (c ⋅ (a ≼ b) ∣ f) h = Q.nn_add (eval R ρ (con (pos c) ⊗ (b ⊝ a))) (eval R ρ (comb f))
+      (Q.nn_mul (eval R ρ (con (pos c))) (eval R ρ (b ⊝ a)) (O.nat_nn R Q c) h.0.le) (comb_nn ρ f h.1)
 
   abbrev pub Shows : List Carrier → Goal → Type 0
   Shows ρ g = O.◌≤◌ R Q (eval R ρ (lower g)) (eval R ρ (upper g))
 
   pub linear : (ρ : List Carrier) (g : Goal) → works g → Given ρ (facts g) → Shows ρ g
-  linear ρ g w h = O.le-by R Q (eval R ρ (lower g)) (eval R ρ (upper g)) (eval R ρ (comb (facts g))) (comb-nn ρ (facts g) h)
+  linear ρ g w h = O.le_by R Q (eval R ρ (lower g)) (eval R ρ (upper g)) (eval R ρ (comb (facts g))) (comb_nn ρ (facts g) h)
       (solve R ρ (comb (facts g) := upper g ⊝ lower g) w)
 
   pub lin1 : (g : Expr → Goal) → works (g x0) → (a0 : Carrier) →

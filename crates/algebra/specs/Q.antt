@@ -1,132 +1,132 @@
--- ℚ as an ordered field, under short names: its operations, its order (≤_trans, ≤-add, ≤-mul-left, mul_mono, ..), a positive
--- factor cancelled (≤-cancel), and its absolute value (abs-add, abs-mul, abs-scale, ..).
+-- ℚ as an ordered field, under short names: its operations, its order (≤_trans, ≤_add, ≤_mul_left, mul_mono, ..), a positive
+-- factor cancelled (≤_cancel), and its absolute value (abs_add, abs_mul, abs_scale, ..).
 use Rattle.std.specs.Prelude.{◌≡◌, T}
 use Rattle.std.proofs.Common.{sym, ◌∙◌, ap, subst}
 use Rattle.algebra.specs.Laws as L
 use Rattle.algebra.specs.Order as O
-use Rattle.algebra.specs.Rational.{addQ, mulQ, recQ, rec-ok}
+use Rattle.algebra.specs.Rational.{add_q, mul_q, rec_q, rec_ok}
 use Rattle.algebra.specs.Solver.{𝟎, ◌⊗◌, ◌⊝◌, ◌:=◌, ring1, ring3}
-pub use Rattle.algebra.specs.Rational.{ℚ, ℚ-ring, ℚ-ord, negQ, zeroQ, oneQ}
+pub use Rattle.algebra.specs.Rational.{ℚ, ℚ_ring, ℚ_ord, neg_q, zero_q, one_q}
 
 infixl 6 ◌+◌ ◌-◌
 infixl 7 ◌*◌
 infix 4 ◌≤◌
 abbrev pub ◌+◌ : ℚ → ℚ → ℚ
-a + b = addQ a b
+a + b = add_q a b
 
 abbrev pub ◌-◌ : ℚ → ℚ → ℚ
-a - b = addQ a (negQ b)
+a - b = add_q a (neg_q b)
 
 abbrev pub ◌*◌ : ℚ → ℚ → ℚ
-a * b = mulQ a b
+a * b = mul_q a b
 
 abbrev pub ◌≤◌ : ℚ → ℚ → Type 0
-a ≤ b = O.◌≤◌ ℚ-ring ℚ-ord a b
+a ≤ b = O.◌≤◌ ℚ_ring ℚ_ord a b
 
 abbrev pub abs : ℚ → ℚ
-abs a = O.abs ℚ-ring ℚ-ord a
+abs a = O.abs ℚ_ring ℚ_ord a
 
 -- ---- the order
-pub ≤-refl : (a : ℚ) → a ≤ a
-≤-refl a = O.≤-refl ℚ-ring ℚ-ord a
+pub ≤_refl : (a : ℚ) → a ≤ a
+≤_refl a = O.≤_refl ℚ_ring ℚ_ord a
 
 pub ≤_trans : {a b c : ℚ} → a ≤ b → b ≤ c → a ≤ c
-≤_trans h k = O.≤_trans ℚ-ring ℚ-ord h k
+≤_trans h k = O.≤_trans ℚ_ring ℚ_ord h k
 
-pub ≤-antisym : {a b : ℚ} → a ≤ b → b ≤ a → a ≡ b
-≤-antisym h k = O.≤-antisym ℚ-ring ℚ-ord h k
+pub ≤_antisym : {a b : ℚ} → a ≤ b → b ≤ a → a ≡ b
+≤_antisym h k = O.≤_antisym ℚ_ring ℚ_ord h k
 
-pub ≤-total : (a b : ℚ) (P : Type 0) → (a ≤ b → P) → (b ≤ a → P) → P
-≤-total a b P f g = O.≤-total ℚ-ring ℚ-ord a b P f g
+pub ≤_total : (a b : ℚ) (P : Type 0) → (a ≤ b → P) → (b ≤ a → P) → P
+≤_total a b P f g = O.≤_total ℚ_ring ℚ_ord a b P f g
 
-pub ≤-of-eq : {a b : ℚ} → a ≡ b → a ≤ b
-≤-of-eq e = O.≤-of-eq ℚ-ring ℚ-ord e
+pub ≤_of_eq : {a b : ℚ} → a ≡ b → a ≤ b
+≤_of_eq e = O.≤_of_eq ℚ_ring ℚ_ord e
 
-pub ≤-add : {a b c d : ℚ} → a ≤ b → c ≤ d → a + c ≤ b + d
-≤-add h k = O.≤-add ℚ-ring ℚ-ord h k
+pub ≤_add : {a b c d : ℚ} → a ≤ b → c ≤ d → a + c ≤ b + d
+≤_add h k = O.≤_add ℚ_ring ℚ_ord h k
 
-pub ≤-neg : {a b : ℚ} → a ≤ b → negQ b ≤ negQ a
-≤-neg h = O.≤-neg ℚ-ring ℚ-ord h
+pub ≤_neg : {a b : ℚ} → a ≤ b → neg_q b ≤ neg_q a
+≤_neg h = O.≤_neg ℚ_ring ℚ_ord h
 
-pub ≤-mul-left : {a b : ℚ} (c : ℚ) → zeroQ ≤ c → a ≤ b → c * a ≤ c * b
-≤-mul-left c z h = O.≤-mul ℚ-ring ℚ-ord c z h
+pub ≤_mul_left : {a b : ℚ} (c : ℚ) → zero_q ≤ c → a ≤ b → c * a ≤ c * b
+≤_mul_left c z h = O.≤_mul ℚ_ring ℚ_ord c z h
 
-pub ≤-mul-right : {a b : ℚ} (c : ℚ) → zeroQ ≤ c → a ≤ b → a * c ≤ b * c
-≤-mul-right {a} {b} c z h = ≤_trans (≤-of-eq (swap a c)) (≤_trans (≤-mul-left c z h) (≤-of-eq (swap c b)))
+pub ≤_mul_right : {a b : ℚ} (c : ℚ) → zero_q ≤ c → a ≤ b → a * c ≤ b * c
+≤_mul_right {a} {b} c z h = ≤_trans (≤_of_eq (swap a c)) (≤_trans (≤_mul_left c z h) (≤_of_eq (swap c b)))
   where
     swap : (a b : ℚ) → a * b ≡ b * a
-    swap = ℚ-ring.mul_comm
+    swap = ℚ_ring.mul_comm
 
-pub mul_mono : {a b c d : ℚ} → zeroQ ≤ a → zeroQ ≤ d → a ≤ b → c ≤ d → a * c ≤ b * d
-mul_mono {a} {b} {c} {d} z w h k = ≤_trans (≤-mul-left a z k) (≤-mul-right d w h)
+pub mul_mono : {a b c d : ℚ} → zero_q ≤ a → zero_q ≤ d → a ≤ b → c ≤ d → a * c ≤ b * d
+mul_mono {a} {b} {c} {d} z w h k = ≤_trans (≤_mul_left a z k) (≤_mul_right d w h)
 
 -- ---- numbers that are not negative
-pub nonneg-≤ : (a : ℚ) → T (ℚ-ord.nonneg a) → zeroQ ≤ a
-nonneg-≤ a h = O.le-by ℚ-ring ℚ-ord zeroQ a a h (ring1 ℚ-ring (λ a. a := a ⊝ 𝟎) tt a)
+pub nonneg_≤ : (a : ℚ) → T (ℚ_ord.nonneg a) → zero_q ≤ a
+nonneg_≤ a h = O.le_by ℚ_ring ℚ_ord zero_q a a h (ring1 ℚ_ring (λ a. a := a ⊝ 𝟎) tt a)
 
-pub one-nn : zeroQ ≤ oneQ
-one-nn = nonneg-≤ oneQ (O.one-nn ℚ-ring ℚ-ord)
+pub one_nn : zero_q ≤ one_q
+one_nn = nonneg_≤ one_q (O.one_nn ℚ_ring ℚ_ord)
 
-pub square-nn : (a : ℚ) → zeroQ ≤ a * a
-square-nn a = nonneg-≤ (a * a) (O.sq-nn ℚ-ring ℚ-ord a)
+pub square_nn : (a : ℚ) → zero_q ≤ a * a
+square_nn a = nonneg_≤ (a * a) (O.sq_nn ℚ_ring ℚ_ord a)
 
-pub add-nn : {a b : ℚ} → zeroQ ≤ a → zeroQ ≤ b → zeroQ ≤ a + b
-add-nn {a} {b} h k = ≤_trans (≤-of-eq (sym (L.zero-add ℚ-ring zeroQ))) (≤-add h k)
+pub add_nn : {a b : ℚ} → zero_q ≤ a → zero_q ≤ b → zero_q ≤ a + b
+add_nn {a} {b} h k = ≤_trans (≤_of_eq (sym (L.zero-add ℚ_ring zero_q))) (≤_add h k)
 
-pub mul-nn : {a b : ℚ} → zeroQ ≤ a → zeroQ ≤ b → zeroQ ≤ a * b
-mul-nn {a} {b} h k = ≤_trans (≤-of-eq (sym (L.mul-zero ℚ-ring a))) (≤-mul-left a h k)
+pub mul_nn : {a b : ℚ} → zero_q ≤ a → zero_q ≤ b → zero_q ≤ a * b
+mul_nn {a} {b} h k = ≤_trans (≤_of_eq (sym (L.mul-zero ℚ_ring a))) (≤_mul_left a h k)
 
-pub sub-nn : {a b : ℚ} → a ≤ b → zeroQ ≤ b - a
-sub-nn {a} {b} h = ≤_trans (≤-of-eq (sym (ℚ-ring.add-neg a))) (≤-add h (≤-refl (negQ a)))
+pub sub_nn : {a b : ℚ} → a ≤ b → zero_q ≤ b - a
+sub_nn {a} {b} h = ≤_trans (≤_of_eq (sym (ℚ_ring.add_neg a))) (≤_add h (≤_refl (neg_q a)))
 
-pub ≤-add-nn : {a b : ℚ} → zeroQ ≤ b → a ≤ a + b
-≤-add-nn {a} {b} h = ≤_trans (≤-of-eq (sym (ℚ-ring.add-zero a))) (≤-add (≤-refl a) h)
+pub ≤_add_nn : {a b : ℚ} → zero_q ≤ b → a ≤ a + b
+≤_add_nn {a} {b} h = ≤_trans (≤_of_eq (sym (ℚ_ring.add-zero a))) (≤_add (≤_refl a) h)
 
-pub ≤-nn-add : {a b : ℚ} → zeroQ ≤ b → a ≤ b + a
-≤-nn-add {a} {b} h = ≤_trans (≤-add-nn h) (≤-of-eq (ℚ-ring.add_comm a b))
+pub ≤_nn_add : {a b : ℚ} → zero_q ≤ b → a ≤ b + a
+≤_nn_add {a} {b} h = ≤_trans (≤_add_nn h) (≤_of_eq (ℚ_ring.add_comm a b))
 
 -- a positive factor is cancelled
-pub ≤-cancel : {a b : ℚ} (c : ℚ) → zeroQ ≤ c → ¬ (c ≡ zeroQ) → c * a ≤ c * b → a ≤ b
-≤-cancel {a} {b} c z n h = ≤-total a b (a ≤ b) (λ k. k)
-    (λ k. ≤-of-eq (back a ∙ ap (λ x. recQ c * x) (≤-antisym h (≤-mul-left c z k)) ∙ sym (back b)))
+pub ≤_cancel : {a b : ℚ} (c : ℚ) → zero_q ≤ c → ¬ (c ≡ zero_q) → c * a ≤ c * b → a ≤ b
+≤_cancel {a} {b} c z n h = ≤_total a b (a ≤ b) (λ k. k)
+    (λ k. ≤_of_eq (back a ∙ ap (λ x. rec_q c * x) (≤_antisym h (≤_mul_left c z k)) ∙ sym (back b)))
   where
-    back : (a : ℚ) → a ≡ recQ c * (c * a)
-    back a = sym (L.one-mul ℚ-ring a) ∙ ap (λ x. x * a) (sym (rec-ok c n)) ∙ ring3 ℚ-ring (λ c r a. c ⊗ r ⊗ a := r ⊗ (c ⊗ a)) tt c (recQ c) a
+    back : (a : ℚ) → a ≡ rec_q c * (c * a)
+    back a = sym (L.one-mul ℚ_ring a) ∙ ap (λ x. x * a) (sym (rec_ok c n)) ∙ ring3 ℚ_ring (λ c r a. c ⊗ r ⊗ a := r ⊗ (c ⊗ a)) tt c (rec_q c) a
 
 -- ---- the absolute value
-pub abs-nn : (a : ℚ) → zeroQ ≤ abs a
-abs-nn a = O.abs-nn ℚ-ring ℚ-ord a
+pub abs_nn : (a : ℚ) → zero_q ≤ abs a
+abs_nn a = O.abs_nn ℚ_ring ℚ_ord a
 
-pub abs-ge : (a : ℚ) → a ≤ abs a
-abs-ge a = O.abs-ge ℚ-ring ℚ-ord a
+pub abs_ge : (a : ℚ) → a ≤ abs a
+abs_ge a = O.abs_ge ℚ_ring ℚ_ord a
 
-pub abs-le : (a b : ℚ) → a ≤ b → negQ a ≤ b → abs a ≤ b
-abs-le a b h k = O.abs-le ℚ-ring ℚ-ord a b h k
+pub abs_le : (a b : ℚ) → a ≤ b → neg_q a ≤ b → abs a ≤ b
+abs_le a b h k = O.abs_le ℚ_ring ℚ_ord a b h k
 
-pub abs-of-nn : (a : ℚ) → zeroQ ≤ a → abs a ≡ a
-abs-of-nn a h = O.abs-of-nn ℚ-ring ℚ-ord a h
+pub abs_of_nn : (a : ℚ) → zero_q ≤ a → abs a ≡ a
+abs_of_nn a h = O.abs_of_nn ℚ_ring ℚ_ord a h
 
-pub abs_neg : (a : ℚ) → abs (negQ a) ≡ abs a
-abs_neg a = O.abs_neg ℚ-ring ℚ-ord a
+pub abs_neg : (a : ℚ) → abs (neg_q a) ≡ abs a
+abs_neg a = O.abs_neg ℚ_ring ℚ_ord a
 
-pub abs-add : (a b : ℚ) → abs (a + b) ≤ abs a + abs b
-abs-add a b = O.abs-add ℚ-ring ℚ-ord a b
+pub abs_add : (a b : ℚ) → abs (a + b) ≤ abs a + abs b
+abs_add a b = O.abs_add ℚ_ring ℚ_ord a b
 
-pub abs-mul : (a b : ℚ) → abs (a * b) ≡ abs a * abs b
-abs-mul a b = O.abs-mul ℚ-ring ℚ-ord a b
+pub abs_mul : (a b : ℚ) → abs (a * b) ≡ abs a * abs b
+abs_mul a b = O.abs_mul ℚ_ring ℚ_ord a b
 
-pub abs-scale : (c a : ℚ) → zeroQ ≤ c → abs (c * a) ≡ c * abs a
-abs-scale c a h = abs-mul c a ∙ ap (λ x. x * abs a) (abs-of-nn c h)
+pub abs_scale : (c a : ℚ) → zero_q ≤ c → abs (c * a) ≡ c * abs a
+abs_scale c a h = abs_mul c a ∙ ap (λ x. x * abs a) (abs_of_nn c h)
 
-pub abs-zero-le : {x : ℚ} → zeroQ ≤ x → abs zeroQ ≤ x
-abs-zero-le h = ≤_trans (≤-of-eq (abs-of-nn zeroQ (≤-refl zeroQ))) h
+pub abs_zero_le : {x : ℚ} → zero_q ≤ x → abs zero_q ≤ x
+abs_zero_le h = ≤_trans (≤_of_eq (abs_of_nn zero_q (≤_refl zero_q))) h
 
-pub abs-add-le : (a b x y : ℚ) → abs a ≤ x → abs b ≤ y → abs (a + b) ≤ x + y
-abs-add-le a b x y h k = ≤_trans (abs-add a b) (≤-add h k)
+pub abs_add_le : (a b x y : ℚ) → abs a ≤ x → abs b ≤ y → abs (a + b) ≤ x + y
+abs_add_le a b x y h k = ≤_trans (abs_add a b) (≤_add h k)
 
-pub abs-subst : {a b x : ℚ} → a ≡ b → abs a ≤ x → abs b ≤ x
-abs-subst {x = x} e h = subst (λ y. abs y ≤ x) e h
+pub abs_subst : {a b x : ℚ} → a ≡ b → abs a ≤ x → abs b ≤ x
+abs_subst {x = x} e h = subst (λ y. abs y ≤ x) e h
 
 -- |a b - c d| ≤ |a| |b - d| + |a - c| |d|
-pub product-distance : (a b c d : ℚ) → abs (a * b - c * d) ≤ abs a * abs (b - d) + abs (a - c) * abs d
-product-distance a b c d = O.product-distance ℚ-ring ℚ-ord a b c d
+pub product_distance : (a b c d : ℚ) → abs (a * b - c * d) ≤ abs a * abs (b - d) + abs (a - c) * abs d
+product_distance a b c d = O.product_distance ℚ_ring ℚ_ord a b c d

@@ -12,12 +12,12 @@ pub record CRing : Type 1 where
   pub add_assoc : (a b c : Carrier) → add (add a b) c ≡ add a (add b c)
   pub add_comm : (a b : Carrier) → add a b ≡ add b a
   pub add-zero : (a : Carrier) → add a zero# ≡ a
-  pub add-neg : (a : Carrier) → add a (neg a) ≡ zero#
+  pub add_neg : (a : Carrier) → add a (neg a) ≡ zero#
   pub mul_assoc : (a b c : Carrier) → mul (mul a b) c ≡ mul a (mul b c)
   pub mul_comm : (a b : Carrier) → mul a b ≡ mul b a
   pub mul-one : (a : Carrier) → mul a one# ≡ a
   pub distrib : (a b c : Carrier) → mul a (add b c) ≡ add (mul a b) (mul a c)
   -- its whole numbers, however it writes them
   pub of_int : ℤ → Carrier
-  pub ofInt-one : of_int (pos 1) ≡ one#
-  pub ofInt-add : (a b : ℤ) → of_int (a +ℤ b) ≡ add (of_int a) (of_int b)
+  pub of_int_one : of_int (pos 1) ≡ one#
+  pub of_int_add : (a b : ℤ) → of_int (a +ℤ b) ≡ add (of_int a) (of_int b)

@@ -8,22 +8,22 @@ use Rattle.fund.specs.declared.Refusal.{Refusal}
 use Rattle.fund.specs.declared.Verdict.{Verdict}
 use Rattle.fund.specs.declared.Verdict.TheVariants.{Accepted, Refused}
 use Rattle.fund.specs.Base.{if◌then◌else◌}
-use Rattle.fund.specs.Listing.{refusedLine}
-use Rattle.answer_text.specs.Level.{quantileLine, answerLine, level-room, levelLineOf}
+use Rattle.fund.specs.Listing.{refused_line}
+use Rattle.answer_text.specs.Level.{quantile_line, answer_line, level_room, level_line_of}
 
 module _ (verdict : Verdict) (quantile : Quantile) (size : ℕ) where
-  pub level-short : size < level-room → levelLineOf verdict quantile size ≡ []
-  unfolding levelLineOf
-  level-short h = ap (λ b. if b then answerLine verdict quantile else []) (lt-leb level-room size h)
+  pub level_short : size < level_room → level_line_of verdict quantile size ≡ []
+  unfolding level_line_of
+  level_short h = ap (λ b. if b then answer_line verdict quantile else []) (lt-leb level_room size h)
 
-  level-enough : level-room ≤ size → levelLineOf verdict quantile size ≡ answerLine verdict quantile
-  unfolding levelLineOf
-  level-enough h = ap (λ b. if b then answerLine verdict quantile else []) (le-leb level-room size h)
+  level_enough : level_room ≤ size → level_line_of verdict quantile size ≡ answer_line verdict quantile
+  unfolding level_line_of
+  level_enough h = ap (λ b. if b then answer_line verdict quantile else []) (le-leb level_room size h)
 
-  pub level-accepted : level-room ≤ size → verdict ≡ Accepted → levelLineOf verdict quantile size ≡ quantileLine quantile
-  unfolding answerLine
-  level-accepted h v = level-enough h ∙ ap (λ w. answerLine w quantile) v
+  pub level_accepted : level_room ≤ size → verdict ≡ Accepted → level_line_of verdict quantile size ≡ quantile_line quantile
+  unfolding answer_line
+  level_accepted h v = level_enough h ∙ ap (λ w. answer_line w quantile) v
 
-  pub level-refused : (why : Refusal) (place : ℕ) → level-room ≤ size → verdict ≡ Refused why place → levelLineOf verdict quantile size ≡ refusedLine why place
-  unfolding answerLine
-  level-refused why place h v = level-enough h ∙ ap (λ w. answerLine w quantile) v
+  pub level_refused : (why : Refusal) (place : ℕ) → level_room ≤ size → verdict ≡ Refused why place → level_line_of verdict quantile size ≡ refused_line why place
+  unfolding answer_line
+  level_refused why place h v = level_enough h ∙ ap (λ w. answer_line w quantile) v

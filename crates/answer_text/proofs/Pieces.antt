@@ -1,5 +1,5 @@
 -- The lines of a listing as the pieces that are put one behind the other, and the test of the bounds R(x): as a fact of each
--- (bounded_at), one by one, and as a fact of their sums (sum-most).
+-- (bounded_at), one by one, and as a fact of their sums (sum_most).
 use mathlib.Core.Path.{◌≡◌, refl, sym, ap, ◌∙◌}
 use mathlib.Core.Bool.{Bool, true, false, ◌&&◌}
 use mathlib.Core.List.{List, [], ◌∷◌, ◌++◌, append_assoc, append-nil}
@@ -17,51 +17,51 @@ use mir.Val.{SFits, to_z, of_z}
 use mir.Facts.{to_z-of_z}
 use Rattle.fund.specs.declared.Refusal.{Refusal}
 use Rattle.fund.specs.Base.{sum, bytes}
-use Rattle.fund.specs.Limits.{most-bound}
+use Rattle.fund.specs.Limits.{most_bound}
 use Rattle.fund.specs.Refusals.{number_of}
-use Rattle.fund.specs.Distribution.{distributionBound}
-use Rattle.fund.specs.Listing.{decimal, joined, cellLine, cellLines, refusedLine}
+use Rattle.fund.specs.Distribution.{distribution_bound}
+use Rattle.fund.specs.Listing.{decimal, joined, cell_line, cell_lines, refused_line}
 use Rattle.writing.specs.Writing.{Puts}
 use Rattle.answer_text.specs.Shown.{bounded}
-use Rattle.answer_text.specs.Pieces.{boundedText, cellText}
+use Rattle.answer_text.specs.Pieces.{bounded_text, cell_text}
 
-pub cell-pieces : (x : ℕ) (f : ℤ) (within : ℕ) (F : ℤ) (bound : ℕ)
-    → cellText x f within F bound ≡ bytes "cell=" ++ ((decimal x ++ (44 ∷ [])) ++ (boundedText f within 44 ++ boundedText F bound 10))
-unfolding cellText boundedText joined
-cell-pieces x f within F bound = simp append_assoc
+pub cell_pieces : (x : ℕ) (f : ℤ) (within : ℕ) (F : ℤ) (bound : ℕ)
+    → cell_text x f within F bound ≡ bytes "cell=" ++ ((decimal x ++ (44 ∷ [])) ++ (bounded_text f within 44 ++ bounded_text F bound 10))
+unfolding cell_text bounded_text joined
+cell_pieces x f within F bound = simp append_assoc
 
 -- The code holds f and F as words.
-pub cell-words : {text : List ℕ} {at : ℕ} (x : ℕ) (f : ℤ) (within : ℕ) (F : ℤ) (bound : ℕ) {after : List ℕ} {next : ℕ} → SFits w64 f → SFits w64 F
-    → Puts text at (cellText x (to_z w64 (of_z w64 f)) within (to_z w64 (of_z w64 F)) bound) after next → Puts text at (cellText x f within F bound) after next
-cell-words x f within F bound g G p = rw (to_z-of_z g, to_z-of_z G) at p
+pub cell_words : {text : List ℕ} {at : ℕ} (x : ℕ) (f : ℤ) (within : ℕ) (F : ℤ) (bound : ℕ) {after : List ℕ} {next : ℕ} → SFits w64 f → SFits w64 F
+    → Puts text at (cell_text x (to_z w64 (of_z w64 f)) within (to_z w64 (of_z w64 F)) bound) after next → Puts text at (cell_text x f within F bound) after next
+cell_words x f within F bound g G p = rw (to_z-of_z g, to_z-of_z G) at p
 
-pub refusal-pieces : (why : Refusal) (place n : ℕ) → n ≡ number_of why
-    → refusedLine why place ≡ bytes "refused=" ++ ((decimal n ++ (44 ∷ [])) ++ (decimal place ++ (10 ∷ [])))
-unfolding refusedLine joined
-refusal-pieces why place n e = rw e (simp append_assoc)
+pub refusal_pieces : (why : Refusal) (place n : ℕ) → n ≡ number_of why
+    → refused_line why place ≡ bytes "refused=" ++ ((decimal n ++ (44 ∷ [])) ++ (decimal place ++ (10 ∷ [])))
+unfolding refused_line joined
+refusal_pieces why place n e = rw e (simp append_assoc)
 
 -- The bound of the distribution function before x: 2×E, and R of each cell before.
-abbrev pub boundBefore : ℕ → List ℕ → ℕ → ℕ
-boundBefore E R x = sum x (λ y. get_or R y 0) + 2 * E
+abbrev pub bound_before : ℕ → List ℕ → ℕ → ℕ
+bound_before E R x = sum x (λ y. get_or R y 0) + 2 * E
 
-pub bound-step : (E : ℕ) (R : List ℕ) (x : ℕ) → boundBefore E R (x + 1) ≡ boundBefore E R x + get_or R x 0
+pub bound_step : (E : ℕ) (R : List ℕ) (x : ℕ) → bound_before E R (x + 1) ≡ bound_before E R x + get_or R x 0
 unfolding sum
-bound-step E R x = rw add-one (omega arith)
+bound_step E R x = rw add-one (omega arith)
 
 lines_more : (E : ℕ) (f : List ℤ) (R : List ℕ) (F : List ℤ) (x n : ℕ)
-    → cellLines E f R F x (suc n) ≡ cellLines E f R F x n ++ cellLine E f R F (x + n)
-unfolding cellLines
-lines_more E f R F x zero = append-nil _ ∙ ap (cellLine E f R F) (sym (add-zero x))
+    → cell_lines E f R F x (suc n) ≡ cell_lines E f R F x n ++ cell_line E f R F (x + n)
+unfolding cell_lines
+lines_more E f R F x zero = append-nil _ ∙ ap (cell_line E f R F) (sym (add-zero x))
 lines_more E f R F x (suc n) =
-    ap (λ l. cellLine E f R F x ++ l) (lines_more E f R F (suc x) n) ∙ sym (append_assoc (cellLine E f R F x) (cellLines E f R F (suc x) n) _)
-    ∙ ap (λ y. cellLines E f R F x (suc n) ++ cellLine E f R F y) (suc-add x n ∙ sym (add-suc x n))
+    ap (λ l. cell_line E f R F x ++ l) (lines_more E f R F (suc x) n) ∙ sym (append_assoc (cell_line E f R F x) (cell_lines E f R F (suc x) n) _)
+    ∙ ap (λ y. cell_lines E f R F x (suc n) ++ cell_line E f R F y) (suc-add x n ∙ sym (add-suc x n))
 
 -- The lines of the cells up to x: those before it, and that of x.
-pub cells-step : (E : ℕ) (f : List ℤ) (R : List ℕ) (F : List ℤ) (x bound : ℕ) → bound ≡ boundBefore E R x
-    → cellLines E f R F 0 (x + 1)
-    ≡ cellLines E f R F 0 x ++ cellText x (get_or f x (pos 0)) (get_or R x 0 + 2 * E) (get_or F x (pos 0)) (bound + get_or R x 0)
-unfolding cellLine cellText distributionBound
-cells-step E f R F x bound e = rw (add-one, lines_more, zero-add, e, ← bound-step, add-one)
+pub cells_step : (E : ℕ) (f : List ℤ) (R : List ℕ) (F : List ℤ) (x bound : ℕ) → bound ≡ bound_before E R x
+    → cell_lines E f R F 0 (x + 1)
+    ≡ cell_lines E f R F 0 x ++ cell_text x (get_or f x (pos 0)) (get_or R x 0 + 2 * E) (get_or F x (pos 0)) (bound + get_or R x 0)
+unfolding cell_line cell_text distribution_bound
+cells_step E f R F x bound e = rw (add-one, lines_more, zero-add, e, ← bound_step, add-one)
 
 pub and_left : (a b : Bool) → a && b ≡ true → a ≡ true
 and_left true b e = refl
@@ -71,26 +71,26 @@ pub and_right : (a b : Bool) → a && b ≡ true → b ≡ true
 and_right true b e = e
 and_right false b e = let z : ◌≡◌ {A = ℕ} 0 1 = cc in absurd (omega arith)
 
-pub bounded_at : (R : List ℕ) (x : ℕ) → bounded R ≡ true → get_or R x 0 ≤ most-bound
+pub bounded_at : (R : List ℕ) (x : ℕ) → bounded R ≡ true → get_or R x 0 ≤ most_bound
 unfolding bounded
 bounded_at [] x e = omega arith
-bounded_at (y ∷ R) zero e = leb-true y most-bound (and_left (leb y most-bound) (bounded R) e)
-bounded_at (y ∷ R) (suc x) e = bounded_at R x (and_right (leb y most-bound) (bounded R) e)
+bounded_at (y ∷ R) zero e = leb-true y most_bound (and_left (leb y most_bound) (bounded R) e)
+bounded_at (y ∷ R) (suc x) e = bounded_at R x (and_right (leb y most_bound) (bounded R) e)
 
-pub bounded-step : (R : List ℕ) (x : ℕ) → x < length R → get_or R x 0 ≤ most-bound → bounded (drop x R) ≡ bounded (drop (x + 1) R)
+pub bounded_step : (R : List ℕ) (x : ℕ) → x < length R → get_or R x 0 ≤ most_bound → bounded (drop x R) ≡ bounded (drop (x + 1) R)
 unfolding bounded
-bounded-step R x h g = rw (add-one, drop-cons R x 0) (ap (λ b. b && bounded (drop (suc x) R)) (le-leb (get_or R x 0) most-bound g))
+bounded_step R x h g = rw (add-one, drop-cons R x 0) (ap (λ b. b && bounded (drop (suc x) R)) (le-leb (get_or R x 0) most_bound g))
 
-pub bounded-over : (R : List ℕ) (x : ℕ) → x < length R → most-bound < get_or R x 0 → bounded (drop x R) ≡ false
+pub bounded_over : (R : List ℕ) (x : ℕ) → x < length R → most_bound < get_or R x 0 → bounded (drop x R) ≡ false
 unfolding bounded
-bounded-over R x h g = rw (drop-cons R x 0) (ap (λ b. b && bounded (drop (suc x) R)) (lt-leb (get_or R x 0) most-bound g))
+bounded_over R x h g = rw (drop-cons R x 0) (ap (λ b. b && bounded (drop (suc x) R)) (lt-leb (get_or R x 0) most_bound g))
 
 -- Of the bounds of the first n cells: each, and the sum of those before a cell.
 module _ (n : ℕ) (R : List ℕ) (e : bounded (take n R) ≡ true) where
-  pub bounded-before : (x : ℕ) → x < n → get_or R x 0 ≤ most-bound
-  bounded-before x h = rw (get_or-take n R x 0 h) at (bounded_at (take n R) x e)
+  pub bounded_before : (x : ℕ) → x < n → get_or R x 0 ≤ most_bound
+  bounded_before x h = rw (get_or-take n R x 0 h) at (bounded_at (take n R) x e)
 
-  pub sum-most : (x : ℕ) → x ≤ n → sum x (λ y. get_or R y 0) ≤ most-bound * x
+  pub sum_most : (x : ℕ) → x ≤ n → sum x (λ y. get_or R y 0) ≤ most_bound * x
   unfolding sum
-  sum-most zero h = omega arith
-  sum-most (suc x) h = omega (arith, sum-most x (omega arith), bounded-before x h)
+  sum_most zero h = omega arith
+  sum_most (suc x) h = omega (arith, sum_most x (omega arith), bounded_before x h)

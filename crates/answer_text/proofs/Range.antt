@@ -1,4 +1,4 @@
--- The range test as facts (in-range), and what `listing` writes where it holds and where it does not.
+-- The range test as facts (in_range), and what `listing` writes where it holds and where it does not.
 use mathlib.Core.Path.{◌≡◌, ap, ◌∙◌}
 use mathlib.Core.Bool.{true, false}
 use mathlib.Core.List.{List, [], append_assoc}
@@ -12,37 +12,37 @@ use lib.ListN.{length, take}
 use Rattle.fund.specs.declared.Refusal.{Refusal}
 use Rattle.fund.specs.declared.Verdict.TheVariants.{Accepted, Refused}
 use Rattle.fund.specs.Base.{if◌then◌else◌}
-use Rattle.fund.specs.Limits.{most-horizon, most-truncation}
+use Rattle.fund.specs.Limits.{most_horizon, most_truncation}
 use Rattle.fund.specs.Answer.{Answer}
-use Rattle.fund.specs.Listing.{printed, listed, refusedLine}
-use Rattle.answer_text.specs.Shown.{room, bounded, printable, listingOf}
-use Rattle.answer_text.specs.Pieces.{head, premiumLines, foot, acceptedLines, PrintableCells}
+use Rattle.fund.specs.Listing.{printed, listed, refused_line}
+use Rattle.answer_text.specs.Shown.{room, bounded, printable, listing_of}
+use Rattle.answer_text.specs.Pieces.{head, premium_lines, foot, accepted_lines, PrintableCells}
 use Rattle.answer_text.proofs.Pieces.{and_left, and_right}
 
 pub record Printable (E X cells : ℕ) (R : List ℕ) (sums size : ℕ) : Type 0 where
-  pub horizon : X ≤ most-horizon
-  pub enough-f : X < cells
-  pub enough-R : X < length R
-  pub enough-F : X < sums
-  pub truncation : E ≤ most-truncation
-  pub enough-text : room ≤ size
+  pub horizon : X ≤ most_horizon
+  pub enough_f : X < cells
+  pub enough_R : X < length R
+  pub enough_F : X < sums
+  pub truncation : E ≤ most_truncation
+  pub enough_text : room ≤ size
   pub bounds : bounded (take (suc X) R) ≡ true
 
-pub in-range : (E X cells : ℕ) (R : List ℕ) (sums size : ℕ) → printable E X cells R sums size ≡ true → Printable E X cells R sums size
+pub in_range : (E X cells : ℕ) (R : List ℕ) (sums size : ℕ) → printable E X cells R sums size ≡ true → Printable E X cells R sums size
 unfolding printable
-in-range E X cells R sums size e =
-    let e₁ = and_right (leb X most-horizon) _ e in
+in_range E X cells R sums size e =
+    let e₁ = and_right (leb X most_horizon) _ e in
     let e₂ = and_right (ltb X cells) _ e₁ in
     let e₃ = and_right (ltb X (length R)) _ e₂ in
     let e₄ = and_right (ltb X sums) _ e₃ in
-    let e₅ = and_right (leb E most-truncation) _ e₄ in
+    let e₅ = and_right (leb E most_truncation) _ e₄ in
     record {
       horizon = leb-true _ _ (and_left _ _ e);
-      enough-f = ltb-true _ _ (and_left _ _ e₁);
-      enough-R = ltb-true _ _ (and_left _ _ e₂);
-      enough-F = ltb-true _ _ (and_left _ _ e₃);
+      enough_f = ltb-true _ _ (and_left _ _ e₁);
+      enough_R = ltb-true _ _ (and_left _ _ e₂);
+      enough_F = ltb-true _ _ (and_left _ _ e₃);
       truncation = leb-true _ _ (and_left _ _ e₄);
-      enough-text = leb-true _ _ (and_left _ _ e₅);
+      enough_text = leb-true _ _ (and_left _ _ e₅);
       bounds = and_right (leb room size) _ e₅;
     }
 
@@ -50,33 +50,33 @@ in-range E X cells R sums size e =
 pub given : {E X : ℕ} (f : List ℤ) (R : List ℕ) (F : List ℤ) {size : ℕ} → Printable E X (length f) R (length F) size → PrintableCells E f R F (X + 1)
 given f R F h =
     record {
-      enough-f = omega arith;
-      enough-R = omega arith;
-      enough-F = omega arith;
+      enough_f = omega arith;
+      enough_R = omega arith;
+      enough_F = omega arith;
       most = omega arith;
       truncation = h.truncation;
       bounds = rw add-one h.bounds;
     }
 
 module _ (a : Answer) (X size : ℕ) where
-  pub listing-out : printable a.figures.truncation X (length a.f) a.R (length a.F) size ≡ false → listingOf a X size ≡ []
-  unfolding listingOf
-  listing-out e = ap (λ b. if b then printed a X a.verdict else []) e
+  pub listing_out : printable a.figures.truncation X (length a.f) a.R (length a.F) size ≡ false → listing_of a X size ≡ []
+  unfolding listing_of
+  listing_out e = ap (λ b. if b then printed a X a.verdict else []) e
 
-  pub listing-in : printable a.figures.truncation X (length a.f) a.R (length a.F) size ≡ true → listingOf a X size ≡ printed a X a.verdict
-  unfolding listingOf
-  listing-in e = ap (λ b. if b then printed a X a.verdict else []) e
+  pub listing_in : printable a.figures.truncation X (length a.f) a.R (length a.F) size ≡ true → listing_of a X size ≡ printed a X a.verdict
+  unfolding listing_of
+  listing_in e = ap (λ b. if b then printed a X a.verdict else []) e
 
-  listed-lines : listed X a ≡ acceptedLines a.figures a.f a.R a.F (X + 1)
-  unfolding listed acceptedLines head premiumLines foot
-  listed-lines = rw add-one (simp append_assoc)
+  listed_lines : listed X a ≡ accepted_lines a.figures a.f a.R a.F (X + 1)
+  unfolding listed accepted_lines head premium_lines foot
+  listed_lines = rw add-one (simp append_assoc)
 
-  pub listing-accepted : printable a.figures.truncation X (length a.f) a.R (length a.F) size ≡ true → a.verdict ≡ Accepted
-      → listingOf a X size ≡ acceptedLines a.figures a.f a.R a.F (X + 1)
+  pub listing_accepted : printable a.figures.truncation X (length a.f) a.R (length a.F) size ≡ true → a.verdict ≡ Accepted
+      → listing_of a X size ≡ accepted_lines a.figures a.f a.R a.F (X + 1)
   unfolding printed
-  listing-accepted e v = listing-in e ∙ ap (printed a X) v ∙ listed-lines
+  listing_accepted e v = listing_in e ∙ ap (printed a X) v ∙ listed_lines
 
-  pub listing-refused : (why : Refusal) (place : ℕ) → printable a.figures.truncation X (length a.f) a.R (length a.F) size ≡ true → a.verdict ≡ Refused why place
-      → listingOf a X size ≡ refusedLine why place
+  pub listing_refused : (why : Refusal) (place : ℕ) → printable a.figures.truncation X (length a.f) a.R (length a.F) size ≡ true → a.verdict ≡ Refused why place
+      → listing_of a X size ≡ refused_line why place
   unfolding printed
-  listing-refused why place e v = listing-in e ∙ ap (printed a X) v
+  listing_refused why place e v = listing_in e ∙ ap (printed a X) v

@@ -3,34 +3,34 @@ use Rattle.std.specs.Prelude.{Bool, true, ◌&&◌, List, [], ◌∷◌, ℕ, su
 use Rattle.fund.specs.declared.Figures.{Figures}
 use Rattle.fund.specs.declared.Verdict.{Verdict}
 use Rattle.fund.specs.Base.{if◌then◌else◌}
-use Rattle.fund.specs.Limits.{most-horizon, most-truncation, most-bound}
+use Rattle.fund.specs.Limits.{most_horizon, most_truncation, most_bound}
 use Rattle.fund.specs.Answer.{Answer, empty}
 use Rattle.fund.specs.Listing.{printed}
 
 -- The most bytes of a cell line, and of the other lines of a listing together.
-abbrev pub most-cell-line : ℕ
-most-cell-line = 73
+abbrev pub most_cell_line : ℕ
+most_cell_line = 73
 
-abbrev pub most-other-lines : ℕ
-most-other-lines = 142
+abbrev pub most_other_lines : ℕ
+most_other_lines = 142
 
 -- Room for every listing.
 abbrev pub room : ℕ
-room = most-cell-line * suc most-horizon + most-other-lines
+room = most_cell_line * suc most_horizon + most_other_lines
 
 -- What is printed of an answer.
-abbrev pub shownAnswer : Verdict → Figures → List ℤ → List ℕ → List ℤ → Answer
-shownAnswer verdict figures f R F = record { verdict = verdict; part = empty; figures = figures; D = []; H = []; f = f; R = R; F = F }
+abbrev pub shown_answer : Verdict → Figures → List ℤ → List ℕ → List ℤ → Answer
+shown_answer verdict figures f R F = record { verdict = verdict; part = empty; figures = figures; D = []; H = []; f = f; R = R; F = F }
 
 -- No R(x) is above its limit.
 unfoldable pub bounded : List ℕ → Bool
 bounded [] = true
-bounded (R ∷ Rs) = leb R most-bound && bounded Rs
+bounded (R ∷ Rs) = leb R most_bound && bounded Rs
 
 -- The figures of the cells 0 to X are there and in range, and a text of that size has room for every listing.
 unfoldable pub printable : ℕ → ℕ → ℕ → List ℕ → ℕ → ℕ → Bool
 printable E X cells R sums size =
-    leb X most-horizon && (ltb X cells && (ltb X (length R) && (ltb X sums && (leb E most-truncation && (leb room size && bounded (take (suc X) R))))))
+    leb X most_horizon && (ltb X cells && (ltb X (length R) && (ltb X sums && (leb E most_truncation && (leb room size && bounded (take (suc X) R))))))
 
-unfoldable pub listingOf : Answer → ℕ → ℕ → List ℕ
-listingOf a X size = if printable a.figures.truncation X (length a.f) a.R (length a.F) size then printed a X a.verdict else []
+unfoldable pub listing_of : Answer → ℕ → ℕ → List ℕ
+listing_of a X size = if printable a.figures.truncation X (length a.f) a.R (length a.F) size then printed a X a.verdict else []

@@ -1,11 +1,11 @@
 // The bytes of a listing, and of the line of an answer at a level. Each private function writes one piece into a text from a place on,
 // and returns the place behind it.
 ghost use Rattle.std.specs.Prelude.{◌≡◌, ◌*◌, ◌≤◌, length};
-ghost use Rattle.fund.specs.Listing.{cellLines, refusedLine};
+ghost use Rattle.fund.specs.Listing.{cell_lines, refused_line};
 ghost use Rattle.writing.specs.Writing.{Puts, Written};
-ghost use Rattle.answer_text.specs.Pieces.{boundedText, cellText, head, premiumLines, foot, acceptedLines, PrintableCells};
-ghost use Rattle.answer_text.specs.Shown.{most-cell-line, room, shownAnswer, bounded, printable, listingOf};
-ghost use Rattle.answer_text.specs.Level.{quantileLine, level-room, levelLineOf};
+ghost use Rattle.answer_text.specs.Pieces.{bounded_text, cell_text, head, premium_lines, foot, accepted_lines, PrintableCells};
+ghost use Rattle.answer_text.specs.Shown.{most_cell_line, room, shown_answer, bounded, printable, listing_of};
+ghost use Rattle.answer_text.specs.Level.{quantile_line, level_room, level_line_of};
 
 use fund::{Figures, Fund, Quantile, Refusal, Verdict};
 use writing::{put_figure, put_key, put_line, put_signed_figure};
@@ -28,7 +28,7 @@ pub fn listing(
     text: &mut [u8],
 ) -> usize
     ensures { Written
-        (listingOf (shownAnswer verdict figures f.now r.now sums.now) horizon (length text.old))
+        (listing_of (shown_answer verdict figures f.now r.now sums.now) horizon (length text.old))
         text.old text.new result }
 {
     if !printable(
@@ -51,7 +51,7 @@ pub fn listing(
 // Writes the line of an answer at a level from the start of the text, and returns its size. Where the text is too short, it writes
 // nothing.
 pub fn level_line(verdict: Verdict, quantile: Quantile, text: &mut [u8]) -> usize
-    ensures { Written (levelLineOf verdict quantile (length text.old)) text.old text.new result }
+    ensures { Written (level_line_of verdict quantile (length text.old)) text.old text.new result }
 {
     if text.len() < LEVEL_ROOM {
         return 0;
@@ -64,7 +64,7 @@ pub fn level_line(verdict: Verdict, quantile: Quantile, text: &mut [u8]) -> usiz
 
 // Writes a figure that may be negative, its bound behind a comma, and the byte behind both.
 fn put_bounded(z: i64, bound: u64, end: u8, text: &mut [u8], at: usize) -> usize
-    ensures { Puts text.old at (boundedText z bound end) text.new result }
+    ensures { Puts text.old at (bounded_text z bound end) text.new result }
 {
     let bound_at = put_signed_figure(z, b',', text, at);
     put_figure(bound, end, text, bound_at)
@@ -72,7 +72,7 @@ fn put_bounded(z: i64, bound: u64, end: u8, text: &mut [u8], at: usize) -> usize
 
 // Writes the line of a cell: x, f(x) and its bound, F(x) and its bound.
 fn put_cell(x: u64, f: i64, within: u64, sum: i64, bound: u64, text: &mut [u8], at: usize) -> usize
-    ensures { Puts text.old at (cellText x f within sum bound) text.new result }
+    ensures { Puts text.old at (cell_text x f within sum bound) text.new result }
 {
     let x_at = put_key(b"cell=", text, at);
     let f_at = put_figure(x, b',', text, x_at);
@@ -91,8 +91,8 @@ fn put_cells(
     at: usize,
 ) -> usize
     requires { PrintableCells truncation f.now r.now sums.now count }
-    ensures puts { Puts text.old at (cellLines truncation f.now r.now sums.now 0 count) text.new result }
-    ensures count_len_bound { length (cellLines truncation f.now r.now sums.now 0 count) ≤ most-cell-line * count }
+    ensures puts { Puts text.old at (cell_lines truncation f.now r.now sums.now 0 count) text.new result }
+    ensures count_len_bound { length (cell_lines truncation f.now r.now sums.now 0 count) ≤ most_cell_line * count }
 {
     let cut = 2 * truncation;
     let mut bound = cut;
@@ -118,7 +118,7 @@ fn put_head(figures: Figures, text: &mut [u8]) -> usize
 
 // Writes the lines of the premium and of its bound.
 fn put_premium(figures: Figures, text: &mut [u8], at: usize) -> usize
-    ensures { Puts text.old at (premiumLines figures) text.new result }
+    ensures { Puts text.old at (premium_lines figures) text.new result }
 {
     let figure = put_key(b"premium=", text, at);
     let next = put_signed_figure(figures.premium, b'\n', text, figure);
@@ -143,7 +143,7 @@ fn put_accepted(
     text: &mut [u8],
 ) -> usize
     requires { PrintableCells figures.truncation f.now r.now sums.now count × (room ≤ length text.old) }
-    ensures { Written (acceptedLines figures f.now r.now sums.now count) text.old text.new result }
+    ensures { Written (accepted_lines figures f.now r.now sums.now count) text.old text.new result }
 {
     let cells = put_head(figures, text);
     let foot = put_cells(figures.truncation, f, r, sums, count, text, cells);
@@ -152,8 +152,8 @@ fn put_accepted(
 
 // Writes the line of an answer at a level, of a fund that is accepted.
 fn put_quantile(quantile: Quantile, text: &mut [u8]) -> usize
-    requires { level-room ≤ length text.old }
-    ensures { Written (quantileLine quantile) text.old text.new result }
+    requires { level_room ≤ length text.old }
+    ensures { Written (quantile_line quantile) text.old text.new result }
 {
     match quantile {
         Quantile::At(x) => put_line(b"quantile=", x, text, 0),
@@ -163,8 +163,8 @@ fn put_quantile(quantile: Quantile, text: &mut [u8]) -> usize
 
 // Writes the line of a refusal.
 fn put_refusal(why: Refusal, place: u64, text: &mut [u8]) -> usize
-    requires { level-room ≤ length text.old }
-    ensures { Written (refusedLine why place) text.old text.new result }
+    requires { level_room ≤ length text.old }
+    ensures { Written (refused_line why place) text.old text.new result }
 {
     let number = fund::number(why);
     let number_at = put_key(b"refused=", text, 0);

@@ -1,4 +1,4 @@
--- The tests of the totals and of the limits answer as their definitions do (tested-as, kept-as).
+-- The tests of the totals and of the limits answer as their definitions do (tested_as, kept_as).
 use mathlib.Core.Path.{◌≡◌, sym}
 use mathlib.Core.List.{List}
 use Prim.Native.Nat.{ℕ}
@@ -12,18 +12,18 @@ use Rattle.fund.specs.Refusals.{Lengths, refuse, at0}
 use Rattle.recursion_limits.specs.declared.Recursed.{Recursed}
 use Rattle.recursion_limits.specs.declared.Recursed.TheVariants.{Done, Short, Outside, Wide, Large}
 use Rattle.recursion_limits.specs.Tests.{tested, Tests}
-use Rattle.recursion_limits.proofs.TestedLimits.{tested-kept}
+use Rattle.recursion_limits.proofs.TestedLimits.{tested_kept}
 use Rattle.totals.specs.declared.Totals.{Totals}
 use Rattle.totals.specs.Tests.{tested_of, Tested}
 
-pub tested-as : (fund : Fund) (t : Totals) (n : Lengths) (v : Verdict) → Tested fund t n v → v ≡ tested_of fund t n
+pub tested_as : (fund : Fund) (t : Totals) (n : Lengths) (v : Verdict) → Tested fund t n v → v ≡ tested_of fund t n
 unfolding tested_of refuse at0
-tested-as fund t n Accepted k = rw (k.inside_is, le-ltb _ _ k.load-within, le-ltb _ _ k.truncation-within, k.long)
-tested-as fund t n (Refused why place) k = sym k
+tested_as fund t n Accepted k = rw (k.inside_is, le-ltb _ _ k.load_within, le-ltb _ _ k.truncation_within, k.long)
+tested_as fund t n (Refused why place) k = sym k
 
-pub kept-as : (X : ℕ) (d : List ℤ) (h : List ℕ) (start : Cell) (nf nr : ℕ) (t : Recursed) → Tests X d h start nf nr t → t ≡ tested X d h start nf nr
-kept-as X d h start nf nr Done k = sym (tested-kept X d h start nf nr k)
-kept-as X d h start nf nr Short k = sym k
-kept-as X d h start nf nr (Outside x) k = sym k
-kept-as X d h start nf nr (Wide x) k = sym k
-kept-as X d h start nf nr (Large x) k = sym k
+pub kept_as : (X : ℕ) (d : List ℤ) (h : List ℕ) (start : Cell) (nf nr : ℕ) (t : Recursed) → Tests X d h start nf nr t → t ≡ tested X d h start nf nr
+kept_as X d h start nf nr Done k = sym (tested_kept X d h start nf nr k)
+kept_as X d h start nf nr Short k = sym k
+kept_as X d h start nf nr (Outside x) k = sym k
+kept_as X d h start nf nr (Wide x) k = sym k
+kept_as X d h start nf nr (Large x) k = sym k

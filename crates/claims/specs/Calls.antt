@@ -5,7 +5,7 @@ use Rattle.fund.specs.declared.Quantile.TheVariants.{At, None}
 use Rattle.fund.specs.Base.{if◌then◌else◌}
 use Rattle.fund.specs.Refusals.{number_in, place_in}
 use Rattle.pricing.specs.declared.Priced.{Priced}
-use Rattle.miguepo.specs.Bits.{readSigned}
+use Rattle.miguepo.specs.Bits.{read_signed}
 use Rattle.claims.specs.Demands.{Received}
 
 -- The bytes from start to end, and none where these lie outside the text.
@@ -29,9 +29,9 @@ priced text p d h f r s =
     }
 
 -- The answer at a level, from the two fields that tell it.
-abbrev pub quantileRead : ℕ → ℕ → Quantile
-quantileRead zero x = None
-quantileRead (suc reached) x = At x
+abbrev pub quantile_read : ℕ → ℕ → Quantile
+quantile_read zero x = None
+quantile_read (suc reached) x = At x
 
 -- The struct in C: it has twelve fields, and each is written. The line lies in the text. `reached` is 1 where there is an answer at the level, and `quantile` is its place; where
 -- there is none, both are 0.
@@ -49,8 +49,8 @@ hosted text result d h f r s =
       place = get_or result 1 0;
       line = take (get_or result 3 0) (drop (get_or result 2 0) text);
       horizon = get_or result 4 0;
-      figures = record { truncation = get_or result 5 0; mean = get_or result 6 0; premium = readSigned (get_or result 7 0); within = get_or result 8 0; gross = get_or result 9 0 };
-      quantile = quantileRead (get_or result 10 0) (get_or result 11 0);
+      figures = record { truncation = get_or result 5 0; mean = get_or result 6 0; premium = read_signed (get_or result 7 0); within = get_or result 8 0; gross = get_or result 9 0 };
+      quantile = quantile_read (get_or result 10 0) (get_or result 11 0);
       D = d;
       H = h;
       f = f;

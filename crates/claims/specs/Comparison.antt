@@ -4,13 +4,13 @@ use Rattle.fund.specs.Reading.{FundFile, read, reading}
 use Rattle.fund.specs.Refusals.{Lengths}
 use Rattle.moves.specs.declared.Move.{Move}
 use Rattle.moves.specs.declared.files.Differences.{Differences}
-use Rattle.moves.specs.Differences.{firstHeaderLine, firstMemberLine, memberLine}
+use Rattle.moves.specs.Differences.{first_header_line, first_member_line, member_line}
 use Rattle.moves.specs.Move.{excess}
 use Rattle.comparison.specs.declared.Comparison.{Comparison}
 use Rattle.comparison.specs.declared.Comparison.TheVariants.{Moved, Refused as Unpriced}
 use Rattle.comparison.specs.Exact.{ExactMove, RatesAlone}
-use Rattle.miguepo.specs.Bits.{readSigned}
-use Rattle.comparison_printing.specs.Printed.{comparisonOf, comparisonListing}
+use Rattle.miguepo.specs.Bits.{read_signed}
+use Rattle.comparison_printing.specs.Printed.{comparison_of, comparison_listing}
 use Rattle.claims.specs.Demands.{Received, Demands}
 use Rattle.claims.specs.Listing.{Shows}
 
@@ -22,52 +22,52 @@ pub record SaysMove (old new : FundFile) (o p : Received) (v : Move) (d : Differ
   pub least : v.least ≡ v.premium -ℤ pos v.arithmetic
   pub most : v.most ≡ v.premium +ℤ pos v.arithmetic
   pub gross : v.gross ≡ pos p.figures.gross -ℤ pos o.figures.gross
-  pub gross-least : v.gross_least ≡ v.gross -ℤ pos (excess new.header p.figures.within)
-  pub gross-most : v.gross_most ≡ v.gross +ℤ pos (excess old.header o.figures.within)
-  pub header : d.header ≡ firstHeaderLine old.header new.header
-  pub member : d.member ≡ firstMemberLine 1 old.members new.members
-  pub old-line : d.old_line ≡ memberLine old d.member
-  pub new-line : d.new_line ≡ memberLine new d.member
+  pub gross_least : v.gross_least ≡ v.gross -ℤ pos (excess new.header p.figures.within)
+  pub gross_most : v.gross_most ≡ v.gross +ℤ pos (excess old.header o.figures.within)
+  pub header : d.header ≡ first_header_line old.header new.header
+  pub member : d.member ≡ first_member_line 1 old.members new.members
+  pub old_line : d.old_line ≡ member_line old d.member
+  pub new_line : d.new_line ≡ member_line new d.member
 
 -- The same, with the theorem: the exact move is within the sum of the bounds of the premium's move, and in both intervals; and where no header line but the editions' and no member line differs, it is
 -- that of the rates alone.
 pub record TellsMove (old new : List ℕ) (o p : Received) (c : Comparison) : Type 0 where
-  pub old-fund : FundFile
-  pub new-fund : FundFile
-  pub old-read : reading old ≡ read old-fund
-  pub new-read : reading new ≡ read new-fund
+  pub old_fund : FundFile
+  pub new_fund : FundFile
+  pub old_read : reading old ≡ read old_fund
+  pub new_read : reading new ≡ read new_fund
   pub move : Move
   pub differences : Differences
   pub told : c ≡ Moved move differences
-  pub says : SaysMove old-fund new-fund o p move differences
-  pub exact : ExactMove old-fund new-fund move
-  pub rates : differences.header ≡ 0 → differences.member ≡ 0 → RatesAlone old-fund new-fund move
+  pub says : SaysMove old_fund new_fund o p move differences
+  pub exact : ExactMove old_fund new_fund move
+  pub rates : differences.header ≡ 0 → differences.member ≡ 0 → RatesAlone old_fund new_fund move
 
 -- Both funds are priced as by themselves; where one is refused no move is told, else the move.
 pub record ComparesPlainly (old new : List ℕ) (level : ℕ) (n m : Lengths) (o p : Received) (c : Comparison) : Type 0 where
-  pub old-demands : Demands old (reading old) level n o
-  pub new-demands : Demands new (reading new) level m p
+  pub old_demands : Demands old (reading old) level n o
+  pub new_demands : Demands new (reading new) level m p
   pub refused : 0 < o.number + p.number → c ≡ Unpriced
   pub moved : o.number ≡ 0 → p.number ≡ 0 → TellsMove old new o p c
 
 -- The fields of a comparison's struct in C, in their order, each read as its type there.
-abbrev pub movedRead : ℕ → List ℕ → Comparison
-movedRead zero fs = Unpriced
-movedRead (suc moved) fs =
+abbrev pub moved_read : ℕ → List ℕ → Comparison
+moved_read zero fs = Unpriced
+moved_read (suc moved) fs =
     Moved
     (record {
-      premium = readSigned (get_or fs 1 0);
+      premium = read_signed (get_or fs 1 0);
       arithmetic = get_or fs 2 0;
-      least = readSigned (get_or fs 3 0);
-      most = readSigned (get_or fs 4 0);
-      gross = readSigned (get_or fs 5 0);
-      gross_least = readSigned (get_or fs 6 0);
-      gross_most = readSigned (get_or fs 7 0);
+      least = read_signed (get_or fs 3 0);
+      most = read_signed (get_or fs 4 0);
+      gross = read_signed (get_or fs 5 0);
+      gross_least = read_signed (get_or fs 6 0);
+      gross_most = read_signed (get_or fs 7 0);
     })
     (record { header = get_or fs 8 0; member = get_or fs 9 0; old_line = get_or fs 10 0; new_line = get_or fs 11 0 })
 
-abbrev pub comparisonRead : List ℕ → Comparison
-comparisonRead fs = movedRead (get_or fs 0 0) fs
+abbrev pub comparison_read : List ℕ → Comparison
+comparison_read fs = moved_read (get_or fs 0 0) fs
 
 -- The struct of a comparison: it has twelve fields, and each is written. `moved` is 1 where both funds are accepted; where one is refused, every field is 0.
 pub record ComparisonStruct (o p : Received) (fs : List ℕ) : Type 0 where
@@ -77,6 +77,6 @@ pub record ComparisonStruct (o p : Received) (fs : List ℕ) : Type 0 where
 
 -- The listing of a comparison, in a text of at least 512 bytes; of a move that it shows, the theorem.
 pub record PrintsMove (old new before after : List ℕ) (size : ℕ) : Type 0 where
-  pub shows : Shows 512 (comparisonListing old new) before after size
-  pub exact : (f g : FundFile) → reading old ≡ read f → reading new ≡ read g → (v : Move) (d : Differences) → comparisonOf old new ≡ Moved v d → ExactMove f g v
-  pub rates : (f g : FundFile) → reading old ≡ read f → reading new ≡ read g → (v : Move) (d : Differences) → comparisonOf old new ≡ Moved v d → d.header ≡ 0 → d.member ≡ 0 → RatesAlone f g v
+  pub shows : Shows 512 (comparison_listing old new) before after size
+  pub exact : (f g : FundFile) → reading old ≡ read f → reading new ≡ read g → (v : Move) (d : Differences) → comparison_of old new ≡ Moved v d → ExactMove f g v
+  pub rates : (f g : FundFile) → reading old ≡ read f → reading new ≡ read g → (v : Move) (d : Differences) → comparison_of old new ≡ Moved v d → d.header ≡ 0 → d.member ≡ 0 → RatesAlone f g v

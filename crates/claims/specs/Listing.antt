@@ -2,14 +2,14 @@
 use Rattle.std.specs.Prelude.{◌≡◌, Bool, true, false, List, ℕ, ◌^◌, ◌<◌, ◌≤◌, length, take, drop, get_or}
 use Rattle.fund.specs.declared.Verdict.TheVariants.{Accepted}
 use Rattle.fund.specs.Reading.{FundFile, Reading, read, reading}
-use Rattle.fund.specs.Quantile.{quantileOf}
-use Rattle.fund.specs.Answer.{answerTo}
-use Rattle.fund.specs.Listing.{horizonIn, enough, listingTo}
+use Rattle.fund.specs.Quantile.{quantile_of}
+use Rattle.fund.specs.Answer.{answer_to}
+use Rattle.fund.specs.Listing.{horizon_in, enough, listing_to}
 use Rattle.fund.specs.Distance.{WithinBounds, NeverBelow, QuantileWithin}
 use Rattle.answer_text.specs.Shown.{room}
 use Rattle.fund_printing.specs.declared.Asked.{Asked}
 use Rattle.fund_printing.specs.declared.Asked.TheVariants.{Listing, AtLevel}
-use Rattle.fund_printing.specs.Printed.{levelLineTo}
+use Rattle.fund_printing.specs.Printed.{level_line_to}
 
 -- The text begins with what is shown, and what stood behind stays.
 pub record Begins (shown before after : List ℕ) (size : ℕ) : Type 0 where
@@ -30,15 +30,15 @@ pub record Shows (least : ℕ) (shown before after : List ℕ) (size : ℕ) : Ty
 -- that is accepted each f(x), each F(x) and the premium that it shows are within the bounds that it shows of the exact ones, and the gross premium is never below the
 -- exact premium's loaded worth.
 pub record PrintsTo (text : List ℕ) (r : Reading) (before after : List ℕ) (size : ℕ) : Type 0 where
-  pub shows : Shows room (listingTo text r) before after size
-  pub within : (fund : FundFile) → r ≡ read fund → (answerTo text enough r).verdict ≡ Accepted → WithinBounds fund (answerTo text enough r)
-  pub covers : (fund : FundFile) → r ≡ read fund → (answerTo text enough r).verdict ≡ Accepted → NeverBelow fund (answerTo text enough r)
+  pub shows : Shows room (listing_to text r) before after size
+  pub within : (fund : FundFile) → r ≡ read fund → (answer_to text enough r).verdict ≡ Accepted → WithinBounds fund (answer_to text enough r)
+  pub covers : (fund : FundFile) → r ≡ read fund → (answer_to text enough r).verdict ≡ Accepted → NeverBelow fund (answer_to text enough r)
 
 -- The line of the answer at a level, in a text of at least 64 bytes; and what the answer of an accepted fund says of the exact distribution function.
 pub record PrintsLevelTo (level : ℕ) (text : List ℕ) (r : Reading) (before after : List ℕ) (size : ℕ) : Type 0 where
-  pub shows : Shows 64 (levelLineTo text r level) before after size
-  pub within : (fund : FundFile) → r ≡ read fund → (answerTo text enough r).verdict ≡ Accepted → level ≤ 10 ^ 12 →
-      QuantileWithin fund (answerTo text enough r) level (quantileOf level (horizonIn r) (answerTo text enough r).F (answerTo text enough r).verdict)
+  pub shows : Shows 64 (level_line_to text r level) before after size
+  pub within : (fund : FundFile) → r ≡ read fund → (answer_to text enough r).verdict ≡ Accepted → level ≤ 10 ^ 12 →
+      QuantileWithin fund (answer_to text enough r) level (quantile_of level (horizon_in r) (answer_to text enough r).F (answer_to text enough r).verdict)
 
 -- What is asked: the listing, or the line of the answer at a level.
 abbrev pub PrintsAsked : Asked → List ℕ → Reading → List ℕ → List ℕ → ℕ → Type 0

@@ -5,24 +5,24 @@ use Rattle.fund.specs.declared.Member.{Member}
 use Rattle.fund.specs.declared.SheetRow.TheVariants.{Rate as RateRow, Member as MemberRow}
 use Rattle.fund.specs.Reading.{FundFile, read, reading}
 use Rattle.fund.specs.Refusals.{Lengths, number_in, place_in}
-use Rattle.fund.specs.Quantile.{quantileOf}
+use Rattle.fund.specs.Quantile.{quantile_of}
 use Rattle.fund.specs.Answer.{answer}
-use Rattle.fund.specs.Listing.{horizonIn}
-use Rattle.fund.specs.Sheets.{sheetRows, sheetReading, fileWith}
-use Rattle.pricing.specs.Priced.{horizonWith}
+use Rattle.fund.specs.Listing.{horizon_in}
+use Rattle.fund.specs.Sheets.{sheet_rows, sheet_reading, file_with}
+use Rattle.pricing.specs.Priced.{horizon_with}
 use Rattle.claims.specs.Demands.{Received, Method}
 
 -- Number, place, horizon, figures, every lent cell and the answer at the level are those of a file.
 pub record SameAs (file : List ℕ) (level : ℕ) (n : Lengths) (o : Received) : Type 0 where
   pub number : o.number ≡ number_in (answer file n).verdict
   pub place : o.place ≡ place_in (answer file n).verdict
-  pub horizon : o.horizon ≡ horizonWith (answer file n).verdict (horizonIn (reading file))
+  pub horizon : o.horizon ≡ horizon_with (answer file n).verdict (horizon_in (reading file))
   pub method : Method file (reading file) n o
-  pub quantile : o.quantile ≡ quantileOf level o.horizon (answer file n).F (answer file n).verdict
+  pub quantile : o.quantile ≡ quantile_of level o.horizon (answer file n).F (answer file n).verdict
 
 -- Where the header text alone is read, with two empty sheets: no line is handed back; and where every row is taken, as the rate rows rs and the
 -- member rows ms, all else is as of the file with these rows.
 pub record PricedAsFile (header rates members : List ℕ) (level : ℕ) (n : Lengths) (o : Received) : Type 0 where
-  pub no_line : (alone : FundFile) → sheetReading header [] [] ≡ read alone → o.line ≡ []
-  pub same : (alone : FundFile) (rs : List Rate) (ms : List Member) → sheetReading header [] [] ≡ read alone → sheetRows rates members ≡ map RateRow rs ++ map MemberRow ms →
-      SameAs (fileWith header rs ms) level n o
+  pub no_line_lem : (alone : FundFile) → sheet_reading header [] [] ≡ read alone → o.line ≡ []
+  pub same : (alone : FundFile) (rs : List Rate) (ms : List Member) → sheet_reading header [] [] ≡ read alone → sheet_rows rates members ≡ map RateRow rs ++ map MemberRow ms →
+      SameAs (file_with header rs ms) level n o

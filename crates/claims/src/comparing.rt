@@ -1,10 +1,10 @@
 // What a customer may hold us to where two fund files are compared.
 ghost use Rattle.std.specs.Prelude.{◌≡◌};
 ghost use Rattle.valuation.specs.Valued.{lengths};
-ghost use Rattle.moves.specs.Differences.{differences, fileIn};
-ghost use Rattle.moves.specs.Move.{movedOf};
+ghost use Rattle.moves.specs.Differences.{differences, file_in};
+ghost use Rattle.moves.specs.Move.{moved_of};
 ghost use Rattle.claims.specs.Calls.{priced, ResultStruct, hosted};
-ghost use Rattle.claims.specs.Comparison.{ComparesPlainly, PrintsMove, comparisonRead, ComparisonStruct};
+ghost use Rattle.claims.specs.Comparison.{ComparesPlainly, PrintsMove, comparison_read, ComparisonStruct};
 
 use comparison::Compared;
 use fund::{Figures, Fund};
@@ -75,7 +75,7 @@ pub fn claimed_host_comparison(
         (lengths new_transform.old new_h.old new_f.old new_r.old new_sums.old)
         (hosted old.now old_result.new old_transform.new old_h.new old_f.new old_r.new old_sums.new)
         (hosted new.now new_result.new new_transform.new new_h.new new_f.new new_r.new new_sums.new)
-        (comparisonRead comparison.new) }
+        (comparison_read comparison.new) }
     ensures result_struct { ResultStruct old.now old_result.new
         (hosted old.now old_result.new old_transform.new old_h.new old_f.new old_r.new old_sums.new) }
     ensures result_struct_2 { ResultStruct new.now new_result.new
@@ -114,14 +114,14 @@ pub fn claimed_comparison_print(old: &[u8], new: &[u8], text: &mut [u8]) -> usiz
 
 // The move of any figures, or that they are outside their ranges.
 pub fn claimed_move(old: Fund, before: Figures, new: Fund, after: Figures) -> Moved
-    ensures { result ≡ movedOf old before new after }
+    ensures { result ≡ moved_of old before new after }
 {
     moves::move_between(old, before, new, after)
 }
 
 // What differs between any two files that were read.
 pub fn claimed_differences(old: FileRead, new: FileRead) -> Differences
-    ensures { result ≡ differences (fileIn old) (fileIn new) }
+    ensures { result ≡ differences (file_in old) (file_in new) }
 {
     moves::differing(old, new)
 }

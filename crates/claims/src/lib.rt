@@ -9,7 +9,7 @@ mod steps;
 ghost use Rattle.std.specs.Prelude.{◌≡◌};
 ghost use Rattle.fund.specs.Reading.{FundFile, Reading, read, reading};
 ghost use Rattle.laws.specs.Ranges.{FundOk};
-ghost use Rattle.rows.specs.Read.{fileRead};
+ghost use Rattle.rows.specs.Read.{file_read};
 ghost use Rattle.valuation.specs.Valued.{lengths};
 ghost use Rattle.claims.specs.Demands.{Demands};
 ghost use Rattle.claims.specs.Listing.{Prints, PrintsRead, PrintsFile};
@@ -52,7 +52,7 @@ pub fn claimed_price_read(
     r: &mut [u64],
     sums: &mut [i64],
 ) -> Priced
-    ensures { (x : Reading) → found ≡ fileRead x → ((fund : FundFile) → x ≡ read fund → FundOk fund) → Demands text.now x level
+    ensures { (x : Reading) → found ≡ file_read x → ((fund : FundFile) → x ≡ read fund → FundOk fund) → Demands text.now x level
         (lengths transform.old h.old f.old r.old sums.old)
         (priced text.now result transform.new h.new f.new r.new sums.new) }
 {

@@ -1,12 +1,12 @@
 // The calls on a header text and two sheets of binary64 cells, and the calls that these are made of.
 ghost use Rattle.std.specs.Prelude.{◌≡◌};
 ghost use Rattle.fund.specs.Reading.{stopped, between};
-ghost use Rattle.fund.specs.SheetCells.{rateRowOf, memberRowOf};
-ghost use Rattle.fund.specs.Sheets.{sheetReading};
+ghost use Rattle.fund.specs.SheetCells.{rate_row_of, member_row_of};
+ghost use Rattle.fund.specs.Sheets.{sheet_reading};
 ghost use Rattle.valuation.specs.Valued.{lengths};
 ghost use Rattle.lines.specs.Header.{HeaderRead};
-ghost use Rattle.rows.specs.Rows.{rateFits, memberFits};
-ghost use Rattle.rows.specs.Read.{fileRead};
+ghost use Rattle.rows.specs.Rows.{rate_fits, member_fits};
+ghost use Rattle.rows.specs.Read.{file_read};
 ghost use Rattle.claims.specs.Demands.{Demands};
 ghost use Rattle.claims.specs.Listing.{PrintsAsked};
 ghost use Rattle.claims.specs.Calls.{priced, ResultStruct, hosted};
@@ -31,7 +31,7 @@ pub fn claimed_sheets(
     r: &mut [u64],
     sums: &mut [i64],
 ) -> Priced
-    ensures demands { Demands header.now (sheetReading header.now rates.now members.now) level
+    ensures demands { Demands header.now (sheet_reading header.now rates.now members.now) level
         (lengths transform.old h.old f.old r.old sums.old)
         (priced header.now result transform.new h.new f.new r.new sums.new) }
     ensures priced_as_file { PricedAsFile header.now rates.now members.now level
@@ -54,7 +54,7 @@ pub fn claimed_host_sheets(
     sums: &mut [i64],
     res: &mut [u64; miguepo::FIELDS],
 )
-    ensures demands { Demands header.now (sheetReading header.now rates.now members.now) level
+    ensures demands { Demands header.now (sheet_reading header.now rates.now members.now) level
         (lengths transform.old h.old f.old r.old sums.old)
         (hosted header.now res.new transform.new h.new f.new r.new sums.new) }
     ensures priced_as_file { PricedAsFile header.now rates.now members.now level
@@ -74,7 +74,7 @@ pub fn claimed_print_sheets(
     members: &[u8],
     text: &mut [u8],
 ) -> usize
-    ensures { PrintsAsked asked header.now (sheetReading header.now rates.now members.now)
+    ensures { PrintsAsked asked header.now (sheet_reading header.now rates.now members.now)
         text.old text.new result }
 {
     fund_printing::print_sheets(asked, header, rates, members, text)
@@ -82,7 +82,7 @@ pub fn claimed_print_sheets(
 
 // Refusals 1, 2 and 11, or the header and the rows.
 pub fn claimed_read_sheets(header: &[u8], rates: &[u8], members: &[u8]) -> FileRead
-    ensures { result ≡ fileRead (sheetReading header.now rates.now members.now) }
+    ensures { result ≡ file_read (sheet_reading header.now rates.now members.now) }
 {
     sheet_reader::read(header, rates, members)
 }
@@ -96,7 +96,7 @@ pub fn claimed_header(text: &[u8]) -> Header
 
 // A refusal without rows.
 pub fn claimed_without_rows(why: Refusal, place: u64) -> FileRead
-    ensures { result ≡ fileRead (stopped why place) }
+    ensures { result ≡ file_read (stopped why place) }
 {
     rows::without_rows(why, place)
 }
@@ -110,28 +110,28 @@ pub fn claimed_within(least: u64, most: u64, n: u64) -> bool
 
 // Whether a rate row is in range behind so many others and from a least age on.
 pub fn claimed_rate_in_range(rated: usize, least: u64, r: Rate) -> bool
-    ensures { result ≡ rateFits rated least r }
+    ensures { result ≡ rate_fits rated least r }
 {
     rows::rate_in_range(rated, least, r)
 }
 
 // Whether a member row is in range behind so many others with so many lives.
 pub fn claimed_member_in_range(enrolled: usize, lives: u64, m: Member) -> bool
-    ensures { result ≡ memberFits enrolled lives m }
+    ensures { result ≡ member_fits enrolled lives m }
 {
     rows::member_in_range(enrolled, lives, m)
 }
 
 // A row of the rates' sheet, from its bytes.
 pub fn claimed_rate_row(row: &[u8]) -> SheetRow
-    ensures { result ≡ rateRowOf row.now }
+    ensures { result ≡ rate_row_of row.now }
 {
     sheet_cells::rate_row(row)
 }
 
 // A row of the members' sheet.
 pub fn claimed_member_row(row: &[u8]) -> SheetRow
-    ensures { result ≡ memberRowOf row.now }
+    ensures { result ≡ member_row_of row.now }
 {
     sheet_cells::member_row(row)
 }

@@ -8,22 +8,22 @@ ghost use Rattle.fund.specs.Spelling.{behind};
 ghost use Rattle.fund.specs.Reading.{reading};
 ghost use Rattle.fund.specs.Quantile.{quantile};
 ghost use Rattle.fund.specs.Answer.{part, refused};
-ghost use Rattle.spelling.specs.Text.{before, behindIf, NumbersOf};
-ghost use Rattle.spelling.specs.Level.{levelIn};
-ghost use Rattle.rows.specs.Read.{fileRead};
+ghost use Rattle.spelling.specs.Text.{before, behind_if, NumbersOf};
+ghost use Rattle.spelling.specs.Level.{level_in};
+ghost use Rattle.rows.specs.Read.{file_read};
 ghost use Rattle.lines.specs.Row.{RowIs};
 ghost use Rattle.lines.specs.Part.{Spans};
-ghost use Rattle.matching.specs.Matching.{matchedRows};
-ghost use Rattle.recursion.specs.Recursion.{leftCells, recursion};
+ghost use Rattle.matching.specs.Matching.{matched_rows};
+ghost use Rattle.recursion.specs.Recursion.{left_cells, recursion};
 ghost use Rattle.recursion_limits.specs.Tests.{tested};
-ghost use Rattle.tariff.specs.Gross.{grossOf};
+ghost use Rattle.tariff.specs.Gross.{gross_of};
 ghost use Rattle.whole.specs.Sign.{signed};
 ghost use Rattle.totals.specs.Totals.{TotalsFor};
 ghost use Rattle.totals.specs.Tests.{tested_of};
-ghost use Rattle.transform.specs.Transformed.{lengthsOf, outcome};
-ghost use Rattle.valuation.specs.Valued.{leftValued, lengths, valuation};
-ghost use Rattle.answer_text.specs.Shown.{shownAnswer, listingOf};
-ghost use Rattle.answer_text.specs.Level.{levelLineOf};
+ghost use Rattle.transform.specs.Transformed.{lengths_of, outcome};
+ghost use Rattle.valuation.specs.Valued.{left_valued, lengths, valuation};
+ghost use Rattle.answer_text.specs.Shown.{shown_answer, listing_of};
+ghost use Rattle.answer_text.specs.Level.{level_line_of};
 ghost use Rattle.writing.specs.Writing.{Written};
 
 use fund::{Figures, Fund, ModelPoint, Quantile, Verdict};
@@ -54,7 +54,7 @@ pub fn claimed_find(text: &[u8], byte: u8, from: usize) -> usize
 
 // Whether a key begins a text.
 pub fn claimed_begins(text: &[u8], key: &[u8]) -> bool
-    ensures { behind key.now text.now ≡ behindIf result (length key.now) text.now }
+    ensures { behind key.now text.now ≡ behind_if result (length key.now) text.now }
 {
     spelling::begins(text, key)
 }
@@ -68,14 +68,14 @@ pub fn claimed_numbers(text: &[u8], count: usize) -> Numbers
 
 // The level that an argument spells, or that it does not.
 pub fn claimed_argument(text: &[u8]) -> Argument
-    ensures { result ≡ levelIn text.now }
+    ensures { result ≡ level_in text.now }
 {
     spelling::level_of(text)
 }
 
 // Refusals 1 and 2, or the header and the rows.
 pub fn claimed_read(file: &[u8]) -> FileRead
-    ensures { result ≡ fileRead (reading file.now) }
+    ensures { result ≡ file_read (reading file.now) }
 {
     reader::read(file)
 }
@@ -96,7 +96,7 @@ pub fn claimed_part(file: &[u8], verdict: Verdict) -> Part
 
 // Refusals 3 to 6, or the model points.
 pub fn claimed_match(found: FileRead) -> Matched
-    ensures { result ≡ matchedRows found }
+    ensures { result ≡ matched_rows found }
 {
     matching::matched(found)
 }
@@ -142,9 +142,9 @@ pub fn claimed_transform(
     h: &mut [u64],
 ) -> Transformed
     ensures totals_for { TotalsFor fund n (take n points) result.totals }
-    ensures verdict_value { result.verdict ≡ tested_of fund result.totals (lengthsOf transform.old h.old f r sums) }
-    ensures transform_after { transform.new ≡ (outcome fund (copies (take n points)) (lengthsOf transform.old h.old f r sums) result.verdict).D }
-    ensures h_after { h.new ≡ (outcome fund (copies (take n points)) (lengthsOf transform.old h.old f r sums) result.verdict).H }
+    ensures verdict_value { result.verdict ≡ tested_of fund result.totals (lengths_of transform.old h.old f r sums) }
+    ensures transform_after { transform.new ≡ (outcome fund (copies (take n points)) (lengths_of transform.old h.old f r sums) result.verdict).D }
+    ensures h_after { h.new ≡ (outcome fund (copies (take n points)) (lengths_of transform.old h.old f r sums) result.verdict).H }
 {
     transform::transformed(fund, points, n, f, r, sums, transform, h)
 }
@@ -160,7 +160,7 @@ pub fn claimed_value(
     r: &mut [u64],
     sums: &mut [i64],
 ) -> Valued
-    ensures { leftValued result transform.new h.new f.new r.new sums.new ≡
+    ensures { left_valued result transform.new h.new f.new r.new sums.new ≡
         valuation fund n (take n points) (lengths transform.old h.old f.old r.old sums.old) }
 {
     valuation::value(fund, points, n, transform, h, f, r, sums)
@@ -175,7 +175,7 @@ pub fn claimed_refusal(
     r: &mut [u64],
     sums: &mut [i64],
 ) -> Valued
-    ensures { leftValued result transform.new h.new f.new r.new sums.new ≡
+    ensures { left_valued result transform.new h.new f.new r.new sums.new ≡
         refused [] (lengths transform.old h.old f.old r.old sums.old) verdict }
 {
     valuation::refuse(verdict, transform, h, f, r, sums)
@@ -190,7 +190,7 @@ pub fn claimed_quantile(level: u64, horizon: usize, sums: &[i64]) -> Quantile
 
 // The gross premium of any terms, premium and bound, or that the worth is outside its range.
 pub fn claimed_gross(fund: Fund, premium: i64, within: u64) -> Gross
-    ensures { result ≡ grossOf fund premium within }
+    ensures { result ≡ gross_of fund premium within }
 {
     tariff::gross_premium(fund, premium, within)
 }
@@ -220,7 +220,7 @@ pub fn claimed_recursion(
     f: &mut [i64],
     r: &mut [u64],
 ) -> Recursed
-    ensures { leftCells result f.exit.now r.new ≡
+    ensures { left_cells result f.exit.now r.new ≡
         recursion horizon transform.now h.now (record { f = first; R = bound }) (length f.entry.now) (length r.old) }
 {
     recursion::recursion(horizon, transform, h, first, bound, f, r)
@@ -228,7 +228,7 @@ pub fn claimed_recursion(
 
 // The line of an answer at a level.
 pub fn claimed_level_line(verdict: Verdict, quantile: Quantile, text: &mut [u8]) -> usize
-    ensures { Written (levelLineOf verdict quantile (length text.old)) text.old text.new result }
+    ensures { Written (level_line_of verdict quantile (length text.old)) text.old text.new result }
 {
     answer_text::level_line(verdict, quantile, text)
 }
@@ -243,7 +243,7 @@ pub fn claimed_listing(
     sums: &[i64],
     text: &mut [u8],
 ) -> usize
-    ensures { Written (listingOf (shownAnswer verdict figures f.now r.now sums.now) horizon (length text.old))
+    ensures { Written (listing_of (shown_answer verdict figures f.now r.now sums.now) horizon (length text.old))
         text.old text.new result }
 {
     answer_text::listing(verdict, figures, horizon, f, r, sums, text)

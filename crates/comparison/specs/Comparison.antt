@@ -16,13 +16,13 @@ use Rattle.comparison.specs.declared.Compared.{Compared}
 use Rattle.comparison.specs.Exact.{ExactMove, RatesAlone}
 
 -- What is said of a fund that is accepted; a comparison with a refused one says nothing.
-abbrev pub ifAccepted : Verdict → Comparison → Comparison
-ifAccepted Accepted c = c
-ifAccepted (Refused why place) c = Unpriced
+abbrev pub if_accepted : Verdict → Comparison → Comparison
+if_accepted Accepted c = c
+if_accepted (Refused why place) c = Unpriced
 
 -- Where both funds are accepted, the move from the old one's figures to the new one's, and what differs between the files.
 unfoldable pub compared : Reading → Answer → Reading → Answer → Comparison
-compared (read old) a (read new) b = ifAccepted a.verdict (ifAccepted b.verdict (Moved (move_of old.header a.figures new.header b.figures) (differences old new)))
+compared (read old) a (read new) b = if_accepted a.verdict (if_accepted b.verdict (Moved (move_of old.header a.figures new.header b.figures) (differences old new)))
 compared (read old) a (stopped why place) b = Unpriced
 compared (stopped why place) a r b = Unpriced
 
@@ -30,8 +30,8 @@ compared (stopped why place) a r b = Unpriced
 -- What is said of both is the definition's. Where it is a move, the exact move is within the bounds of it; and where no header line but the editions' and no member line
 -- differs, the exact move is that of the rates alone.
 pub record Compares (old new : List ℕ) (level : ℕ) (n m : Lengths) (c : Compared) (a b : Answer) : Type 0 where
-  pub old-priced : Prices old (reading old) level n c.old a
-  pub new-priced : Prices new (reading new) level m c.new b
+  pub old_priced : Prices old (reading old) level n c.old a
+  pub new_priced : Prices new (reading new) level m c.new b
   pub comparison : c.comparison ≡ compared (reading old) a (reading new) b
   pub exact : (f g : FundFile) → reading old ≡ read f → reading new ≡ read g → (v : Move) (d : Differences) → c.comparison ≡ Moved v d → ExactMove f g v
   pub rates : (f g : FundFile) → reading old ≡ read f → reading new ≡ read g → (v : Move) (d : Differences) → c.comparison ≡ Moved v d → d.header ≡ 0 → d.member ≡ 0 → RatesAlone f g v

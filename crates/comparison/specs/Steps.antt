@@ -4,15 +4,15 @@ use Rattle.rows.specs.declared.FileRead.{FileRead}
 use Rattle.moves.specs.declared.Moved.{Moved as MovedBy}
 use Rattle.moves.specs.declared.Moved.TheVariants.{By, Outside}
 use Rattle.moves.specs.declared.files.Differences.{Differences}
-use Rattle.moves.specs.Differences.{differences, fileIn}
-use Rattle.moves.specs.Move.{movedOf}
+use Rattle.moves.specs.Differences.{differences, file_in}
+use Rattle.moves.specs.Move.{moved_of}
 use Rattle.comparison.specs.declared.Comparison.{Comparison}
 use Rattle.comparison.specs.declared.Comparison.TheVariants.{Moved, Refused as Unpriced}
 
 -- A move with what differs; figures outside their ranges are not compared.
-abbrev pub withDifferences : MovedBy → Differences → Comparison
-withDifferences (By m) d = Moved m d
-withDifferences Outside d = Unpriced
+abbrev pub with_differences : MovedBy → Differences → Comparison
+with_differences (By m) d = Moved m d
+with_differences Outside d = Unpriced
 
-unfoldable pub toldOf : FileRead → Figures → FileRead → Figures → Comparison
-toldOf old before new after = withDifferences (movedOf old.fund before new.fund after) (differences (fileIn old) (fileIn new))
+unfoldable pub told_of : FileRead → Figures → FileRead → Figures → Comparison
+told_of old before new after = with_differences (moved_of old.fund before new.fund after) (differences (file_in old) (file_in new))

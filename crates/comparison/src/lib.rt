@@ -2,9 +2,9 @@
 // that arithmetic can have to do with it, and what differs between the files beside the editions and the rate lines.
 ghost use Rattle.std.specs.Prelude.{◌≡◌};
 ghost use Rattle.valuation.specs.Valued.{lengths};
-ghost use Rattle.pricing.specs.Priced.{leftPriced};
-ghost use Rattle.comparison.specs.Comparison.{ifAccepted, Compares};
-ghost use Rattle.comparison.specs.Steps.{toldOf};
+ghost use Rattle.pricing.specs.Priced.{left_priced};
+ghost use Rattle.comparison.specs.Comparison.{if_accepted, Compares};
+ghost use Rattle.comparison.specs.Steps.{told_of};
 
 use fund::{Figures, Verdict};
 use moves::{Differences, Move, Moved};
@@ -28,7 +28,7 @@ pub struct Compared {
 
 // What is told of two files that were read and of their figures.
 fn told_read(old: FileRead, before: Figures, new: FileRead, after: Figures) -> Comparison
-    ensures { result ≡ toldOf old before new after }
+    ensures { result ≡ told_of old before new after }
 {
     let old_terms = old.fund;
     let new_terms = new.fund;
@@ -40,7 +40,7 @@ fn told_read(old: FileRead, before: Figures, new: FileRead, after: Figures) -> C
 
 // Nothing is told of a fund that is refused.
 fn if_accepted(verdict: Verdict, comparison: Comparison) -> Comparison
-    ensures { result ≡ ifAccepted verdict comparison }
+    ensures { result ≡ if_accepted verdict comparison }
 {
     match verdict {
         Verdict::Accepted => comparison,
@@ -50,7 +50,7 @@ fn if_accepted(verdict: Verdict, comparison: Comparison) -> Comparison
 
 // What is told of two files that are read and priced.
 fn told_priced(old: FileRead, before: Priced, new: FileRead, after: Priced) -> Comparison
-    ensures { result ≡ ifAccepted before.verdict (ifAccepted after.verdict (toldOf old before.figures new after.figures)) }
+    ensures { result ≡ if_accepted before.verdict (if_accepted after.verdict (told_of old before.figures new after.figures)) }
 {
     let old_figures = before.figures;
     let new_figures = after.figures;
@@ -79,8 +79,8 @@ pub fn compare(
     ensures { Compares old.now new.now level
         (lengths old_transform.old old_h.old old_f.old old_r.old old_sums.old)
         (lengths new_transform.old new_h.old new_f.old new_r.old new_sums.old) result
-        (leftPriced result.old old_transform.new old_h.new old_f.new old_r.new old_sums.new)
-        (leftPriced result.new new_transform.new new_h.new new_f.new new_r.new new_sums.new) }
+        (left_priced result.old old_transform.new old_h.new old_f.new old_r.new old_sums.new)
+        (left_priced result.new new_transform.new new_h.new new_f.new new_r.new new_sums.new) }
 {
     let first = reader::read(old);
     let before = pricing::price_read(

@@ -11,34 +11,34 @@ use Rattle.fund.specs.Reading.{reading}
 use Rattle.fund.specs.Answer.{answer}
 use Rattle.fund.specs.Listing.{enough}
 use Rattle.writing.specs.Writing.{Written}
-use Rattle.pricing.specs.Priced.{leftPriced}
-use Rattle.fund_printing.proofs.ShownListing.{lentLengths, answers-enough}
+use Rattle.pricing.specs.Priced.{left_priced}
+use Rattle.fund_printing.proofs.ShownListing.{lent_lengths, answers_enough}
 use Rattle.comparison.specs.declared.Compared.{Compared}
 use Rattle.comparison.specs.Comparison.{compared, Compares}
-use Rattle.comparison_printing.specs.Lines.{comparisonLines}
-use Rattle.comparison_printing.specs.Printed.{comparison-room, listingOf, comparisonOf, comparisonListing, shownComparison, PrintsComparison}
+use Rattle.comparison_printing.specs.Lines.{comparison_lines}
+use Rattle.comparison_printing.specs.Printed.{comparison_room, listing_of, comparison_of, comparison_listing, shown_comparison, PrintsComparison}
 
 module _ (old new : List ℕ) (level : ℕ) (c : Compared) (d : List ℤ) (h : List ℕ) (f : List ℤ) (r : List ℕ) (s : List ℤ) (d' : List ℤ) (h' : List ℕ) (f' : List ℤ) (r' : List ℕ) (s' : List ℤ)
-    (k : Compares old new level lentLengths lentLengths c (leftPriced c.old d h f r s) (leftPriced c.new d' h' f' r' s')) where
-  old-is : leftPriced c.old d h f r s ≡ answer old enough
-  old-is = (answers-enough old (reading old) level c.old (leftPriced c.old d h f r s) k.old-priced.answers).answer
+    (k : Compares old new level lent_lengths lent_lengths c (left_priced c.old d h f r s) (left_priced c.new d' h' f' r' s')) where
+  old_is : left_priced c.old d h f r s ≡ answer old enough
+  old_is = (answers_enough old (reading old) level c.old (left_priced c.old d h f r s) k.old_priced.answers).answer
 
-  new_is : leftPriced c.new d' h' f' r' s' ≡ answer new enough
-  new_is = (answers-enough new (reading new) level c.new (leftPriced c.new d' h' f' r' s') k.new-priced.answers).answer
+  new_is : left_priced c.new d' h' f' r' s' ≡ answer new enough
+  new_is = (answers_enough new (reading new) level c.new (left_priced c.new d' h' f' r' s') k.new_priced.answers).answer
 
-  comparison-is : c.comparison ≡ comparisonOf old new
-  unfolding comparisonOf
-  comparison-is = k.comparison ∙ ap₂ (λ a b. compared (reading old) a (reading new) b) old-is new_is
+  comparison_is : c.comparison ≡ comparison_of old new
+  unfolding comparison_of
+  comparison_is = k.comparison ∙ ap₂ (λ a b. compared (reading old) a (reading new) b) old_is new_is
 
-  shown-is : (size : ℕ) → listingOf c size ≡ shownComparison old new size
-  unfolding listingOf shownComparison comparisonListing
-  shown-is size =
-      λ i. if leb comparison-room size then comparisonLines (old-is i).verdict (old-is i).figures (new_is i).verdict (new_is i).figures (comparison-is i) else []
+  shown_is : (size : ℕ) → listing_of c size ≡ shown_comparison old new size
+  unfolding listing_of shown_comparison comparison_listing
+  shown_is size =
+      λ i. if leb comparison_room size then comparison_lines (old_is i).verdict (old_is i).figures (new_is i).verdict (new_is i).figures (comparison_is i) else []
 
-  pub prints : {before after : List ℕ} {size : ℕ} → Written (listingOf c (length before)) before after size → PrintsComparison old new before after size
+  pub prints : {before after : List ℕ} {size : ℕ} → Written (listing_of c (length before)) before after size → PrintsComparison old new before after size
   prints {before} {after} {size} w =
       record {
-        written = subst (λ (t : List ℕ). Written t before after size) (shown-is (length before)) w;
-        exact = λ fund other z y v e t. k.exact fund other z y v e (comparison-is ∙ t);
-        rates = λ fund other z y v e t. k.rates fund other z y v e (comparison-is ∙ t);
+        written = subst (λ (t : List ℕ). Written t before after size) (shown_is (length before)) w;
+        exact = λ fund other z y v e t. k.exact fund other z y v e (comparison_is ∙ t);
+        rates = λ fund other z y v e t. k.rates fund other z y v e (comparison_is ∙ t);
       }

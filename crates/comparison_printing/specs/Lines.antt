@@ -4,57 +4,57 @@ use Rattle.fund.specs.declared.Figures.{Figures}
 use Rattle.fund.specs.declared.Verdict.{Verdict}
 use Rattle.fund.specs.declared.Verdict.TheVariants.{Accepted, Refused}
 use Rattle.fund.specs.Base.{if◌then◌else◌, bytes}
-use Rattle.fund.specs.Listing.{decimal, joined, refusedLine}
-use Rattle.writing.specs.Pointed.{pointed, signedPointed}
+use Rattle.fund.specs.Listing.{decimal, joined, refused_line}
+use Rattle.writing.specs.Pointed.{pointed, signed_pointed}
 use Rattle.moves.specs.declared.Move.{Move}
 use Rattle.moves.specs.declared.files.Differences.{Differences}
 use Rattle.comparison.specs.declared.Comparison.{Comparison}
 use Rattle.comparison.specs.declared.Comparison.TheVariants.{Moved, Refused as Unpriced}
 
 -- A key, and a number with so many digits behind its point; and an interval, by its ends.
-unfoldable pub pointedLine : List ℕ → ℕ → ℕ → List ℕ
-pointedLine key places n = key ++ joined (pointed places n) []
+unfoldable pub pointed_line : List ℕ → ℕ → ℕ → List ℕ
+pointed_line key places n = key ++ joined (pointed places n) []
 
-unfoldable pub signedLine : List ℕ → ℕ → ℤ → List ℕ
-signedLine key places z = key ++ joined (signedPointed places z) []
+unfoldable pub signed_line : List ℕ → ℕ → ℤ → List ℕ
+signed_line key places z = key ++ joined (signed_pointed places z) []
 
-unfoldable pub intervalLine : List ℕ → ℕ → ℤ → ℤ → List ℕ
-intervalLine key places least most = key ++ joined (signedPointed places least) (signedPointed places most ∷ [])
+unfoldable pub interval_line : List ℕ → ℕ → ℤ → ℤ → List ℕ
+interval_line key places least most = key ++ joined (signed_pointed places least) (signed_pointed places most ∷ [])
 
 -- The lines of a fund, `old-` or `new-` before each: premium and bound in units of 10^-12 and the gross premium in centimes, all with a point; or the
 -- refusal's line.
-unfoldable pub figureLines : List ℕ → Figures → List ℕ
-figureLines name a =
-    (name ++ signedLine (bytes "premium=") 12 a.premium) ++ ((name ++ pointedLine (bytes "within=") 12 a.within) ++ (name ++ pointedLine (bytes "gross=") 2 a.gross))
+unfoldable pub figure_lines : List ℕ → Figures → List ℕ
+figure_lines name a =
+    (name ++ signed_line (bytes "premium=") 12 a.premium) ++ ((name ++ pointed_line (bytes "within=") 12 a.within) ++ (name ++ pointed_line (bytes "gross=") 2 a.gross))
 
-unfoldable pub fundLines : List ℕ → Verdict → Figures → List ℕ
-fundLines name Accepted a = figureLines name a
-fundLines name (Refused why place) a = name ++ refusedLine why place
+unfoldable pub fund_lines : List ℕ → Verdict → Figures → List ℕ
+fund_lines name Accepted a = figure_lines name a
+fund_lines name (Refused why place) a = name ++ refused_line why place
 
 -- Nothing differs beside the editions and the rate lines.
-unfoldable pub nothingElse : Differences → Bool
-nothingElse d = eqb d.header 0 && eqb d.member 0
+unfoldable pub nothing_else : Differences → Bool
+nothing_else d = eqb d.header 0 && eqb d.member 0
 
 -- What else differs: the first header line, and the first member line with its line in each file.
-unfoldable pub otherHeader : Differences → List ℕ
-otherHeader d = if eqb d.header 0 then [] else bytes "other=header," ++ joined (decimal d.header) []
+unfoldable pub other_header : Differences → List ℕ
+other_header d = if eqb d.header 0 then [] else bytes "other=header," ++ joined (decimal d.header) []
 
-unfoldable pub otherMember : Differences → List ℕ
-otherMember d = if eqb d.member 0 then [] else bytes "other=member," ++ joined (decimal d.member) (decimal d.old_line ∷ decimal d.new_line ∷ [])
+unfoldable pub other_member : Differences → List ℕ
+other_member d = if eqb d.member 0 then [] else bytes "other=member," ++ joined (decimal d.member) (decimal d.old_line ∷ decimal d.new_line ∷ [])
 
-unfoldable pub otherLines : Differences → List ℕ
-otherLines d = if nothingElse d then bytes "other=none\n" else otherHeader d ++ otherMember d
+unfoldable pub other_lines : Differences → List ℕ
+other_lines d = if nothing_else d then bytes "other=none\n" else other_header d ++ other_member d
 
 -- The key of an interval says `rates` where nothing else differs: there the exact move is that of the rates.
-unfoldable pub intervalLines : Bool → Move → List ℕ
-intervalLines ratesAlone m =
-    intervalLine (if ratesAlone then bytes "rates=" else bytes "exact=") 12 m.least m.most
-    ++ (signedLine (bytes "gross-move=") 2 m.gross
-    ++ intervalLine (if ratesAlone then bytes "gross-rates=" else bytes "gross-exact=") 2 m.gross_least m.gross_most)
+unfoldable pub interval_lines : Bool → Move → List ℕ
+interval_lines ratesAlone m =
+    interval_line (if ratesAlone then bytes "rates=" else bytes "exact=") 12 m.least m.most
+    ++ (signed_line (bytes "gross-move=") 2 m.gross
+    ++ interval_line (if ratesAlone then bytes "gross-rates=" else bytes "gross-exact=") 2 m.gross_least m.gross_most)
 
-unfoldable pub moveLines : Comparison → List ℕ
-moveLines Unpriced = []
-moveLines (Moved m d) = signedLine (bytes "move=") 12 m.premium ++ (pointedLine (bytes "arithmetic=") 12 m.arithmetic ++ (intervalLines (nothingElse d) m ++ otherLines d))
+unfoldable pub move_lines : Comparison → List ℕ
+move_lines Unpriced = []
+move_lines (Moved m d) = signed_line (bytes "move=") 12 m.premium ++ (pointed_line (bytes "arithmetic=") 12 m.arithmetic ++ (interval_lines (nothing_else d) m ++ other_lines d))
 
-unfoldable pub comparisonLines : Verdict → Figures → Verdict → Figures → Comparison → List ℕ
-comparisonLines v a w b c = fundLines (bytes "old-") v a ++ (fundLines (bytes "new-") w b ++ moveLines c)
+unfoldable pub comparison_lines : Verdict → Figures → Verdict → Figures → Comparison → List ℕ
+comparison_lines v a w b c = fund_lines (bytes "old-") v a ++ (fund_lines (bytes "new-") w b ++ move_lines c)

@@ -1,9 +1,9 @@
 // The listing of a comparison, from two fund files to its bytes.
 ghost use Rattle.std.specs.Prelude.{◌≡◌, ◌++◌, ◌+◌, ◌*◌, ◌≤◌, length, take};
-ghost use Rattle.fund.specs.Listing.{refusedLine};
+ghost use Rattle.fund.specs.Listing.{refused_line};
 ghost use Rattle.writing.specs.Writing.{Puts, Written};
-ghost use Rattle.comparison_printing.specs.Lines.{pointedLine, signedLine, intervalLine, figureLines, fundLines, nothingElse, otherHeader, otherMember, otherLines, intervalLines, moveLines};
-ghost use Rattle.comparison_printing.specs.Printed.{listingOf, PrintsComparison};
+ghost use Rattle.comparison_printing.specs.Lines.{pointed_line, signed_line, interval_line, figure_lines, fund_lines, nothing_else, other_header, other_member, other_lines, interval_lines, move_lines};
+ghost use Rattle.comparison_printing.specs.Printed.{listing_of, PrintsComparison};
 
 use comparison::{Compared, Comparison};
 use fund::{Figures, Fund, Refusal, Verdict};
@@ -23,7 +23,7 @@ const CENTIMES: u8 = 2;
 
 // Puts a line with one number that is not negative.
 fn put_pointed_line(key: &[u8], places: u8, n: u64, text: &mut [u8], at: usize) -> usize
-    ensures { Puts text.old at (pointedLine key.now places n) text.new result }
+    ensures { Puts text.old at (pointed_line key.now places n) text.new result }
 {
     let figure = put_key(key, text, at);
     let end = put_pointed(places, n, text, figure);
@@ -32,7 +32,7 @@ fn put_pointed_line(key: &[u8], places: u8, n: u64, text: &mut [u8], at: usize) 
 
 // The same for a number that may be negative.
 fn put_signed_line(key: &[u8], places: u8, z: i64, text: &mut [u8], at: usize) -> usize
-    ensures { Puts text.old at (signedLine key.now places z) text.new result }
+    ensures { Puts text.old at (signed_line key.now places z) text.new result }
 {
     let figure = put_key(key, text, at);
     let end = put_signed_pointed(places, z, text, figure);
@@ -41,7 +41,7 @@ fn put_signed_line(key: &[u8], places: u8, z: i64, text: &mut [u8], at: usize) -
 
 // Puts a line with the two ends of an interval.
 fn put_interval(key: &[u8], places: u8, least: i64, most: i64, text: &mut [u8], at: usize) -> usize
-    ensures { Puts text.old at (intervalLine key.now places least most) text.new result }
+    ensures { Puts text.old at (interval_line key.now places least most) text.new result }
 {
     let figure = put_key(key, text, at);
     let comma = put_signed_pointed(places, least, text, figure);
@@ -52,8 +52,8 @@ fn put_interval(key: &[u8], places: u8, least: i64, most: i64, text: &mut [u8], 
 
 // Puts the lines of a fund that is accepted.
 fn put_figures(name: &[u8], figures: Figures, text: &mut [u8], at: usize) -> usize
-    ensures puts { Puts text.old at (figureLines name.now figures) text.new result }
-    ensures figures_len_bound { length (figureLines name.now figures) ≤ 3 * length name.now + 87 }
+    ensures puts { Puts text.old at (figure_lines name.now figures) text.new result }
+    ensures figures_len_bound { length (figure_lines name.now figures) ≤ 3 * length name.now + 87 }
 {
     let premium = put_key(name, text, at);
     let bound = put_signed_line(b"premium=", UNITS, figures.premium, text, premium);
@@ -65,8 +65,8 @@ fn put_figures(name: &[u8], figures: Figures, text: &mut [u8], at: usize) -> usi
 
 // Puts the line of a refusal.
 fn put_refusal(name: &[u8], why: Refusal, place: u64, text: &mut [u8], at: usize) -> usize
-    ensures puts { Puts text.old at (name.now ++ refusedLine why place) text.new result }
-    ensures place_in_bounds { length (name.now ++ refusedLine why place) ≤ length name.now + 50 }
+    ensures puts { Puts text.old at (name.now ++ refused_line why place) text.new result }
+    ensures place_in_bounds { length (name.now ++ refused_line why place) ≤ length name.now + 50 }
 {
     let number = fund::number(why);
     let refused = put_key(name, text, at);
@@ -77,8 +77,8 @@ fn put_refusal(name: &[u8], why: Refusal, place: u64, text: &mut [u8], at: usize
 
 // Puts the lines of a fund.
 fn put_fund(name: &[u8], verdict: Verdict, figures: Figures, text: &mut [u8], at: usize) -> usize
-    ensures puts { Puts text.old at (fundLines name.now verdict figures) text.new result }
-    ensures figures_len_bound { length (fundLines name.now verdict figures) ≤ 3 * length name.now + 87 }
+    ensures puts { Puts text.old at (fund_lines name.now verdict figures) text.new result }
+    ensures figures_len_bound { length (fund_lines name.now verdict figures) ≤ 3 * length name.now + 87 }
 {
     match verdict {
         Verdict::Accepted => put_figures(name, figures, text, at),
@@ -87,7 +87,7 @@ fn put_fund(name: &[u8], verdict: Verdict, figures: Figures, text: &mut [u8], at
 }
 
 fn is_nothing(differences: Differences) -> bool
-    ensures { result ≡ nothingElse differences }
+    ensures { result ≡ nothing_else differences }
 {
     if differences.header != 0 {
         return false;
@@ -96,8 +96,8 @@ fn is_nothing(differences: Differences) -> bool
 }
 
 fn put_other_header(differences: Differences, text: &mut [u8], at: usize) -> usize
-    ensures puts { Puts text.old at (otherHeader differences) text.new result }
-    ensures differences_len_bound { length (otherHeader differences) ≤ 34 }
+    ensures puts { Puts text.old at (other_header differences) text.new result }
+    ensures differences_len_bound { length (other_header differences) ≤ 34 }
 {
     if differences.header == 0 {
         return at;
@@ -106,8 +106,8 @@ fn put_other_header(differences: Differences, text: &mut [u8], at: usize) -> usi
 }
 
 fn put_other_member(differences: Differences, text: &mut [u8], at: usize) -> usize
-    ensures puts { Puts text.old at (otherMember differences) text.new result }
-    ensures differences_len_bound { length (otherMember differences) ≤ 76 }
+    ensures puts { Puts text.old at (other_member differences) text.new result }
+    ensures differences_len_bound { length (other_member differences) ≤ 76 }
 {
     if differences.member == 0 {
         return at;
@@ -120,8 +120,8 @@ fn put_other_member(differences: Differences, text: &mut [u8], at: usize) -> usi
 
 // Puts the lines of what differs beside the editions and the rate lines.
 fn put_other(differences: Differences, text: &mut [u8], at: usize) -> usize
-    ensures puts { Puts text.old at (otherLines differences) text.new result }
-    ensures differences_len_bound { length (otherLines differences) ≤ 110 }
+    ensures puts { Puts text.old at (other_lines differences) text.new result }
+    ensures differences_len_bound { length (other_lines differences) ≤ 110 }
 {
     if is_nothing(differences) {
         return put_key(b"other=none\n", text, at);
@@ -132,8 +132,8 @@ fn put_other(differences: Differences, text: &mut [u8], at: usize) -> usize
 
 // Puts the lines of the intervals, in which the exact moves lie.
 fn put_intervals(rates_alone: bool, m: Move, text: &mut [u8], at: usize) -> usize
-    ensures puts { Puts text.old at (intervalLines rates_alone m) text.new result }
-    ensures m_len_bound { length (intervalLines rates_alone m) ≤ 139 }
+    ensures puts { Puts text.old at (interval_lines rates_alone m) text.new result }
+    ensures m_len_bound { length (interval_lines rates_alone m) ≤ 139 }
 {
     if rates_alone {
         let gross = put_interval(b"rates=", UNITS, m.least, m.most, text, at);
@@ -161,8 +161,8 @@ fn put_intervals(rates_alone: bool, m: Move, text: &mut [u8], at: usize) -> usiz
 
 // Puts the lines of a move, and of what differs beside the rates.
 fn put_move(m: Move, differences: Differences, text: &mut [u8], at: usize) -> usize
-    ensures puts { Puts text.old at (moveLines (Comparison.Moved m differences)) text.new result }
-    ensures differences_len_bound { length (moveLines (Comparison.Moved m differences)) ≤ 309 }
+    ensures puts { Puts text.old at (move_lines (Comparison.Moved m differences)) text.new result }
+    ensures differences_len_bound { length (move_lines (Comparison.Moved m differences)) ≤ 309 }
 {
     let bound = put_signed_line(b"move=", UNITS, m.premium, text, at);
     let intervals = put_pointed_line(b"arithmetic=", UNITS, m.arithmetic, text, bound);
@@ -172,8 +172,8 @@ fn put_move(m: Move, differences: Differences, text: &mut [u8], at: usize) -> us
 
 // Puts the lines of the move, where there is one.
 fn put_comparison(comparison: Comparison, text: &mut [u8], at: usize) -> usize
-    ensures puts { Puts text.old at (moveLines comparison) text.new result }
-    ensures comparison_len_bound { length (moveLines comparison) ≤ 309 }
+    ensures puts { Puts text.old at (move_lines comparison) text.new result }
+    ensures comparison_len_bound { length (move_lines comparison) ≤ 309 }
 {
     match comparison {
         Comparison::Moved(m, differences) => put_move(m, differences, text, at),
@@ -184,7 +184,7 @@ fn put_comparison(comparison: Comparison, text: &mut [u8], at: usize) -> usize
 // Writes the listing of a comparison from the start of the text, and returns its size. Where the text is too short for every such listing, it writes
 // nothing.
 fn listing(compared: Compared, text: &mut [u8]) -> usize
-    ensures { Written (listingOf compared (length text.old)) text.old text.new result }
+    ensures { Written (listing_of compared (length text.old)) text.old text.new result }
 {
     if text.len() < ROOM {
         return 0;

@@ -14,53 +14,53 @@ use Rattle.fund.specs.declared.Frequencies.{Frequencies}
 use Rattle.fund.specs.declared.Life.{Life}
 use Rattle.fund.specs.Base.{if◌then◌else◌}
 use Rattle.fund.specs.Reading.{FundFile}
-use Rattle.fund.specs.Folding.{rateInForce, folded, life, lives, claim, stay, single}
+use Rattle.fund.specs.Folding.{rate_in_force, folded, life, lives, claim, stay, single}
 use Rattle.fund.specs.Transform.{unit, w, lambda}
-use Rattle.fund.specs.Exact.{weightAt}
+use Rattle.fund.specs.Exact.{weight_at}
 use Rattle.laws.specs.Accepted.{All, Limited}
-use Rattle.laws.specs.Copies.{all-lives}
+use Rattle.laws.specs.Copies.{all_lives}
 
 -- a life's share of the truncation figure, in units
 abbrev pub share_of : ℕ → Life → ℕ
 share_of r m = up (w m (suc r) * stay m) ((stay m - claim m) * suc r)
 
-abbrev pub memberOf : ℕ → Life → Member
-memberOf r m = member m.q m.i (stay m) 1000000 m.d m.e (over (nat (share_of r m)) unit)
+abbrev pub member_of : ℕ → Life → Member
+member_of r m = member m.q m.i (stay m) 1000000 m.d m.e (over (nat (share_of r m)) unit)
 
 unfoldable pub members : ℕ → List Life → List Member
 members r [] = []
-members r (m ∷ ms) = if single m then memberOf r m ∷ members r ms else members r ms
+members r (m ∷ ms) = if single m then member_of r m ∷ members r ms else members r ms
 
 -- the weight at k and lambda, in whole
 unfoldable pub W : Frequencies → List Life → ℕ → ℚ
-W a ms k = over (nat (weightAt a ms k)) unit
+W a ms k = over (nat (weight_at a ms k)) unit
 
 unfoldable pub rate : Frequencies → List Life → ℚ
 rate a ms = over (nat (lambda a ms)) unit
 
 -- a rate with amount 0 is 0
 pub record FoldedLife (m : Life) : Type 0 where
-  pub q-folded : m.d ≡ 0 → m.q ≡ 0
-  pub i-folded : m.e ≡ 0 → m.i ≡ 0
+  pub q_folded : m.d ≡ 0 → m.q ≡ 0
+  pub i_folded : m.e ≡ 0 → m.i ≡ 0
 
-fold-rate : (d q : ℕ) → d ≡ 0 → (if eqb d 0 then 0 else q) ≡ 0
-fold-rate d q h = ap (λ x. if eqb x 0 then 0 else q) h
+fold_rate : (d q : ℕ) → d ≡ 0 → (if eqb d 0 then 0 else q) ≡ 0
+fold_rate d q h = ap (λ x. if eqb x 0 then 0 else q) h
 
-folded-life : (o : Option Rate) (m : MemberRow) → FoldedLife (folded o m)
+folded_life : (o : Option Rate) (m : MemberRow) → FoldedLife (folded o m)
 unfolding folded
-folded-life none m = record { q-folded = λ h. refl; i-folded = λ h. refl }
-folded-life (some r) m = record { q-folded = fold-rate m.d r.q; i-folded = fold-rate m.e r.i }
+folded_life none m = record { q_folded = λ h. refl; i_folded = λ h. refl }
+folded_life (some r) m = record { q_folded = fold_rate m.d r.q; i_folded = fold_rate m.e r.i }
 
-pub all-folded : (file : FundFile) → All FoldedLife (lives file)
+pub all_folded : (file : FundFile) → All FoldedLife (lives file)
 unfolding life
-all-folded file = all-lives FoldedLife file (go file.members)
+all_folded file = all_lives FoldedLife file (go file.members)
   where
     go : (l : List MemberRow) → All (λ m. FoldedLife (life file.rates m)) l
     go [] = tt
-    go (m ∷ rest) = (folded-life (rateInForce file.rates m.age) m, go rest)
+    go (m ∷ rest) = (folded_life (rate_in_force file.rates m.age) m, go rest)
 
 -- a group 1 life that is accepted
-pub limited-folded : (m : Life) → Limited m → FoldedLife m → single m ≡ true → Folded m.q m.i (stay m) 1000000 m.d m.e
-limited-folded m c f s =
+pub limited_folded : (m : Life) → Limited m → FoldedLife m → single m ≡ true → Folded m.q m.i (stay m) 1000000 m.d m.e
+limited_folded m c f s =
     let h = c s in
-    record { half = omega arith; total = omega arith; q-folded = f.q-folded; i-folded = f.i-folded }
+    record { half = omega arith; total = omega arith; q_folded = f.q_folded; i_folded = f.i_folded }

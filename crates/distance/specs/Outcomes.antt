@@ -1,43 +1,43 @@
--- All outcomes of the group 1 members: their weights add to 10^(6g) (weights-are), their weighted totals to the mean
--- (claims-are), and what they fall short of M by is the sum over x below M of the convolution's cells (shortfall-is). So the
--- excess over M is the totals less M, plus the shortfall (excess-is, excess-whole).
+-- All outcomes of the group 1 members: their weights add to 10^(6g) (weights_are), their weighted totals to the mean
+-- (claims_are), and what they fall short of M by is the sum over x below M of the convolution's cells (shortfall_is). So the
+-- excess over M is the totals less M, plus the shortfall (excess_is, excess_whole).
 use Rattle.std.specs.Prelude.{◌≡◌, refl, Bool, true, false, List, [], ◌∷◌, ◌++◌, ℕ, zero, suc, ◌+◌, ◌-◌, ◌*◌, ◌^◌, leb}
 use Rattle.std.proofs.Common.{sym, ◌∙◌, ap, ap₂, mul-add, add-mul, mul_assoc, mul_comm, mul_left_comm, mul-zero, zero-add, add_assoc, arith}
 use Rattle.std.proofs.Math.Nat.{pow-succ'}
 use Rattle.std.proofs.Math.Dec.{leb-zero, leb-suc-zero, leb-suc-suc}
-use Rattle.algebra.specs.NatSum.{sumN, sumN-ext, sumN-first, sumN-zero}
+use Rattle.algebra.specs.NatSum.{sum_n, sum_n_ext, sum_n_first, sum_n_zero}
 use Rattle.fund.specs.declared.Life.{Life}
 use Rattle.fund.specs.Base.{if◌then◌else◌, total}
 use Rattle.fund.specs.Folding.{stay, single}
-use Rattle.fund.specs.Exact.{singles, shifted, one, singlePart, Outcome, after, outcomes, excess}
+use Rattle.fund.specs.Exact.{singles, shifted, one, single_part, Outcome, after, outcomes, excess}
 use Rattle.laws.specs.Accepted.{All, Limited}
-use Rattle.laws.specs.Tables.{total-append}
+use Rattle.laws.specs.Tables.{total_append}
 
 -- the weighted sum of h of the totals claimed
 abbrev pub expect : (ℕ → ℕ) → List Outcome → ℕ
 expect h os = total (λ (o : Outcome). o.weight * h o.claimed) os
 
-after-expect : (h : ℕ → ℕ) (rate amount : ℕ) (os : List Outcome) → expect h (after rate amount os) ≡ rate * expect (λ c. h (amount + c)) os
+after_expect : (h : ℕ → ℕ) (rate amount : ℕ) (os : List Outcome) → expect h (after rate amount os) ≡ rate * expect (λ c. h (amount + c)) os
 unfolding total after
-after-expect h rate amount [] = sym (mul-zero rate)
-after-expect h rate amount (o ∷ os) =
-    ap₂ ◌+◌ (mul_assoc rate o.weight (h (amount + o.claimed))) (after-expect h rate amount os)
+after_expect h rate amount [] = sym (mul-zero rate)
+after_expect h rate amount (o ∷ os) =
+    ap₂ ◌+◌ (mul_assoc rate o.weight (h (amount + o.claimed))) (after_expect h rate amount os)
     ∙ sym (mul-add rate (o.weight * h (amount + o.claimed)) (expect (λ c. h (amount + c)) os))
 
-expect-ext : (h k : ℕ → ℕ) → ((c : ℕ) → h c ≡ k c) → (os : List Outcome) → expect h os ≡ expect k os
+expect_ext : (h k : ℕ → ℕ) → ((c : ℕ) → h c ≡ k c) → (os : List Outcome) → expect h os ≡ expect k os
 unfolding total
-expect-ext h k e [] = refl
-expect-ext h k e (o ∷ os) = ap₂ (λ x y. o.weight * x + y) (e o.claimed) (expect-ext h k e os)
+expect_ext h k e [] = refl
+expect_ext h k e (o ∷ os) = ap₂ (λ x y. o.weight * x + y) (e o.claimed) (expect_ext h k e os)
 
 -- one more member
-member-expect : (h : ℕ → ℕ) (m : Life) (ms : List Life) → single m ≡ true →
+member_expect : (h : ℕ → ℕ) (m : Life) (ms : List Life) → single m ≡ true →
     expect h (outcomes (m ∷ ms)) ≡ stay m * expect h (outcomes ms) + (m.q * expect (λ c. h (m.d + c)) (outcomes ms) + m.i * expect (λ c. h (m.e + c)) (outcomes ms))
 unfolding outcomes
-member-expect h m ms s =
+member_expect h m ms s =
     ap (λ b. expect h (if b then after (stay m) 0 os ++ (after m.q m.d os ++ after m.i m.e os) else os)) s
-    ∙ total-append (λ (o : Outcome). o.weight * h o.claimed) (after (stay m) 0 os) (after m.q m.d os ++ after m.i m.e os)
-    ∙ ap₂ ◌+◌ (after-expect h (stay m) 0 os ∙ ap (λ y. stay m * y) (expect-ext (λ c. h (0 + c)) h (λ c. ap h (none c)) os))
-    (total-append (λ (o : Outcome). o.weight * h o.claimed) (after m.q m.d os) (after m.i m.e os) ∙ ap₂ ◌+◌ (after-expect h m.q m.d os) (after-expect h m.i m.e os))
+    ∙ total_append (λ (o : Outcome). o.weight * h o.claimed) (after (stay m) 0 os) (after m.q m.d os ++ after m.i m.e os)
+    ∙ ap₂ ◌+◌ (after_expect h (stay m) 0 os ∙ ap (λ y. stay m * y) (expect_ext (λ c. h (0 + c)) h (λ c. ap h (none c)) os))
+    (total_append (λ (o : Outcome). o.weight * h o.claimed) (after m.q m.d os) (after m.i m.e os) ∙ ap₂ ◌+◌ (after_expect h m.q m.d os) (after_expect h m.i m.e os))
   where
     os : List Outcome
     os = outcomes ms
@@ -45,81 +45,81 @@ member-expect h m ms s =
     none : (c : ℕ) → 0 + c ≡ c
     none c = omega arith
 
-other-expect : (h : ℕ → ℕ) (m : Life) (ms : List Life) → single m ≡ false → expect h (outcomes (m ∷ ms)) ≡ expect h (outcomes ms)
+other_expect : (h : ℕ → ℕ) (m : Life) (ms : List Life) → single m ≡ false → expect h (outcomes (m ∷ ms)) ≡ expect h (outcomes ms)
 unfolding outcomes
-other-expect h m ms s = ap (λ b. expect h (if b then after (stay m) 0 (outcomes ms) ++ (after m.q m.d (outcomes ms) ++ after m.i m.e (outcomes ms)) else outcomes ms)) s
+other_expect h m ms s = ap (λ b. expect h (if b then after (stay m) 0 (outcomes ms) ++ (after m.q m.d (outcomes ms) ++ after m.i m.e (outcomes ms)) else outcomes ms)) s
 
 -- ---- what falls short of M: the sum over x below M of (M - x) g(x)
 abbrev pub below : (ℕ → ℕ) → ℕ → ℕ
-below g M = sumN M (λ x. (M - x) * g x)
+below g M = sum_n M (λ x. (M - x) * g x)
 
-shifted-below : (g : ℕ → ℕ) (d M : ℕ) → below (shifted d g) M ≡ below g (M - d)
+shifted_below : (g : ℕ → ℕ) (d M : ℕ) → below (shifted d g) M ≡ below g (M - d)
 unfolding shifted
-shifted-below g zero M =
-    sumN-ext M (λ x. (M - x) * shifted 0 g x) (λ x. (M - x) * g x) (λ x l. ap (λ b. (M - x) * (if b then g (x - 0) else 0)) (leb-zero x) ∙ ap (λ y. (M - x) * g y) (none x))
+shifted_below g zero M =
+    sum_n_ext M (λ x. (M - x) * shifted 0 g x) (λ x. (M - x) * g x) (λ x l. ap (λ b. (M - x) * (if b then g (x - 0) else 0)) (leb-zero x) ∙ ap (λ y. (M - x) * g y) (none x))
     ∙ ap (below g) (sym (none M))
   where
     none : (x : ℕ) → x - 0 ≡ x
     none x = omega arith
-shifted-below g (suc d) zero = ap (below g) e
+shifted_below g (suc d) zero = ap (below g) e
   where
     e : 0 ≡ 0 - suc d
     e = omega arith
-shifted-below g (suc d) (suc M) =
-    sumN-first M (λ x. (suc M - x) * shifted (suc d) g x)
+shifted_below g (suc d) (suc M) =
+    sum_n_first M (λ x. (suc M - x) * shifted (suc d) g x)
     ∙ ap₂ ◌+◌ (ap (λ b. (suc M - 0) * (if b then g (0 - suc d) else 0)) (leb-suc-zero d) ∙ mul-zero (suc M - 0))
-    (sumN-ext M (λ x. (suc M - suc x) * shifted (suc d) g (suc x)) (λ x. (M - x) * shifted d g x)
+    (sum_n_ext M (λ x. (suc M - suc x) * shifted (suc d) g (suc x)) (λ x. (M - x) * shifted d g x)
     (λ x l. ap₂ (λ k b. k * (if b then g (suc x - suc d) else 0)) (less M x) (leb-suc-suc d x) ∙ ap (λ y. (M - x) * (if leb d x then g y else 0)) (less x d))
-    ∙ shifted-below g d M ∙ ap (below g) (sym (less M d)))
+    ∙ shifted_below g d M ∙ ap (below g) (sym (less M d)))
     ∙ zero-add (below g (suc M - suc d))
   where
     less : (x y : ℕ) → suc x - suc y ≡ x - y
     less x y = omega arith
 
-sum-linear : (n p q i : ℕ) (k a b c : ℕ → ℕ) → sumN n (λ x. k x * (p * a x + q * b x + i * c x)) ≡ p * sumN n (λ x. k x * a x) + q * sumN n (λ x. k x * b x) + i * sumN n (λ x. k x * c x)
-sum-linear zero p q i k a b c = omega (arith, mul-zero p, mul-zero q, mul-zero i)
-sum-linear (suc n) p q i k a b c =
+sum_linear : (n p q i : ℕ) (k a b c : ℕ → ℕ) → sum_n n (λ x. k x * (p * a x + q * b x + i * c x)) ≡ p * sum_n n (λ x. k x * a x) + q * sum_n n (λ x. k x * b x) + i * sum_n n (λ x. k x * c x)
+sum_linear zero p q i k a b c = omega (arith, mul-zero p, mul-zero q, mul-zero i)
+sum_linear (suc n) p q i k a b c =
     omega (
       arith,
-      sum-linear n p q i k a b c,
+      sum_linear n p q i k a b c,
       mul-add (k n) (p * a n + q * b n) (i * c n),
       mul-add (k n) (p * a n) (q * b n),
       mul_left_comm (k n) p (a n),
       mul_left_comm (k n) q (b n),
       mul_left_comm (k n) i (c n),
-      mul-add p (sumN n (λ x. k x * a x)) (k n * a n),
-      mul-add q (sumN n (λ x. k x * b x)) (k n * b n),
-      mul-add i (sumN n (λ x. k x * c x)) (k n * c n),
+      mul-add p (sum_n n (λ x. k x * a x)) (k n * a n),
+      mul-add q (sum_n n (λ x. k x * b x)) (k n * b n),
+      mul-add i (sum_n n (λ x. k x * c x)) (k n * c n),
     )
 
 one_below : (M : ℕ) → below one M ≡ M
 unfolding one
 one_below zero = refl
-one_below (suc M) = sumN-first M (λ x. (suc M - x) * one x) ∙ omega (arith, sumN-ext M (λ x. (suc M - suc x) * 0) (λ x. 0) (λ x l. mul-zero (suc M - suc x)), sumN-zero M)
+one_below (suc M) = sum_n_first M (λ x. (suc M - x) * one x) ∙ omega (arith, sum_n_ext M (λ x. (suc M - suc x) * 0) (λ x. 0) (λ x l. mul-zero (suc M - suc x)), sum_n_zero M)
 
-pub shortfall-is : (ms : List Life) (M : ℕ) → below (singlePart ms) M ≡ expect (λ c. M - c) (outcomes ms)
-unfolding singlePart outcomes total
-shortfall-is [] M = one_below M ∙ (let e : M ≡ 1 * (M - 0) + 0 = omega arith in e)
-shortfall-is (m ∷ ms) M = go (single m) refl (shortfall-is ms)
+pub shortfall_is : (ms : List Life) (M : ℕ) → below (single_part ms) M ≡ expect (λ c. M - c) (outcomes ms)
+unfolding single_part outcomes total
+shortfall_is [] M = one_below M ∙ (let e : M ≡ 1 * (M - 0) + 0 = omega arith in e)
+shortfall_is (m ∷ ms) M = go (single m) refl (shortfall_is ms)
   where
     g : ℕ → ℕ
-    g = singlePart ms
+    g = single_part ms
 
     go : (b : Bool) → single m ≡ b → ((M : ℕ) → below g M ≡ expect (λ c. M - c) (outcomes ms)) →
         below (λ x. if b then stay m * g x + m.q * shifted m.d g x + m.i * shifted m.e g x else g x) M ≡ expect (λ c. M - c) (outcomes (m ∷ ms))
-    go false s ih = ih M ∙ sym (other-expect (λ c. M - c) m ms s)
+    go false s ih = ih M ∙ sym (other_expect (λ c. M - c) m ms s)
     go true s ih =
-        sum-linear M (stay m) m.q m.i (λ x. M - x) g (shifted m.d g) (shifted m.e g)
+        sum_linear M (stay m) m.q m.i (λ x. M - x) g (shifted m.d g) (shifted m.e g)
         ∙ ap₂ ◌+◌ (ap₂ ◌+◌ (ap (λ y. stay m * y) (ih M)) (ap (λ y. m.q * y) (moved m.d))) (ap (λ y. m.i * y) (moved m.e))
         ∙ add_assoc (stay m * expect (λ c. M - c) (outcomes ms)) (m.q * expect (λ c. M - (m.d + c)) (outcomes ms)) (m.i * expect (λ c. M - (m.e + c)) (outcomes ms))
-        ∙ sym (member-expect (λ c. M - c) m ms s)
+        ∙ sym (member_expect (λ c. M - c) m ms s)
       where
         moved : (d : ℕ) → below (shifted d g) M ≡ expect (λ c. M - (d + c)) (outcomes ms)
-        moved d = shifted-below g d M ∙ ih (M - d) ∙ expect-ext (λ c. M - d - c) (λ c. M - (d + c)) (λ c. omega arith) (outcomes ms)
+        moved d = shifted_below g d M ∙ ih (M - d) ∙ expect_ext (λ c. M - d - c) (λ c. M - (d + c)) (λ c. omega arith) (outcomes ms)
 
 -- ---- the weights and the weighted totals
-six-more : (n : ℕ) → 10 ^ (6 * (1 + n)) ≡ 1000000 * 10 ^ (6 * n)
-six-more n = ap (λ y. 10 ^ y) e ∙ simp pow-succ' (omega arith)
+six_more : (n : ℕ) → 10 ^ (6 * (1 + n)) ≡ 1000000 * 10 ^ (6 * n)
+six_more n = ap (λ y. 10 ^ y) e ∙ simp pow-succ' (omega arith)
   where
     e : 6 * (1 + n) ≡ suc (suc (suc (suc (suc (suc (6 * n))))))
     e = omega arith
@@ -131,25 +131,25 @@ whole m c s x =
     let e : stay m + (m.q + m.i) ≡ 1000000 = omega arith in
     omega (arith, ap (λ y. y * x) e, add-mul (stay m) (m.q + m.i) x, add-mul m.q m.i x)
 
-pub weights-are : (ms : List Life) → All Limited ms → expect (λ c. 1) (outcomes ms) ≡ 10 ^ (6 * singles ms)
+pub weights_are : (ms : List Life) → All Limited ms → expect (λ c. 1) (outcomes ms) ≡ 10 ^ (6 * singles ms)
 unfolding singles outcomes total
-weights-are [] c = refl
-weights-are (m ∷ ms) c = go (single m) refl (weights-are ms c.1)
+weights_are [] c = refl
+weights_are (m ∷ ms) c = go (single m) refl (weights_are ms c.1)
   where
     go : (b : Bool) → single m ≡ b → expect (λ c. 1) (outcomes ms) ≡ 10 ^ (6 * singles ms) → expect (λ c. 1) (outcomes (m ∷ ms)) ≡ 10 ^ (6 * ((if b then 1 else 0) + singles ms))
-    go false s ih = other-expect (λ c. 1) m ms s ∙ ih ∙ ap (λ y. 10 ^ (6 * y)) e
+    go false s ih = other_expect (λ c. 1) m ms s ∙ ih ∙ ap (λ y. 10 ^ (6 * y)) e
       where
         e : singles ms ≡ 0 + singles ms
         e = omega arith
-    go true s ih = member-expect (λ c. 1) m ms s ∙ whole m c.0 s (expect (λ c. 1) (outcomes ms)) ∙ ap (λ y. 1000000 * y) ih ∙ sym (six-more (singles ms))
+    go true s ih = member_expect (λ c. 1) m ms s ∙ whole m c.0 s (expect (λ c. 1) (outcomes ms)) ∙ ap (λ y. 1000000 * y) ih ∙ sym (six_more (singles ms))
 
-expect-add : (d : ℕ) (os : List Outcome) → expect (λ c. d + c) os ≡ d * expect (λ c. 1) os + expect (λ c. c) os
+expect_add : (d : ℕ) (os : List Outcome) → expect (λ c. d + c) os ≡ d * expect (λ c. 1) os + expect (λ c. c) os
 unfolding total
-expect-add d [] = omega (arith, mul-zero d)
-expect-add d (o ∷ os) =
+expect_add d [] = omega (arith, mul-zero d)
+expect_add d (o ∷ os) =
     omega (
       arith,
-      expect-add d os,
+      expect_add d os,
       mul-add o.weight d o.claimed,
       mul_comm o.weight d,
       mul-add d (o.weight * 1) (expect (λ c. 1) os),
@@ -159,10 +159,10 @@ expect-add d (o ∷ os) =
 unfoldable pub claims : List Life → ℕ
 claims ms = total (λ m. if single m then m.q * m.d + m.i * m.e else 0) ms
 
-pub claims-are : (ms : List Life) → All Limited ms → 1000000 * expect (λ c. c) (outcomes ms) ≡ claims ms * 10 ^ (6 * singles ms)
+pub claims_are : (ms : List Life) → All Limited ms → 1000000 * expect (λ c. c) (outcomes ms) ≡ claims ms * 10 ^ (6 * singles ms)
 unfolding claims singles outcomes total
-claims-are [] c = refl
-claims-are (m ∷ ms) c = go (single m) refl (weights-are ms c.1) (claims-are ms c.1)
+claims_are [] c = refl
+claims_are (m ∷ ms) c = go (single m) refl (weights_are ms c.1) (claims_are ms c.1)
   where
     C : ℕ
     C = expect (λ c. c) (outcomes ms)
@@ -175,17 +175,17 @@ claims-are (m ∷ ms) c = go (single m) refl (weights-are ms c.1) (claims-are ms
 
     go : (b : Bool) → single m ≡ b → expect (λ c. 1) (outcomes ms) ≡ G → 1000000 * C ≡ claims ms * G →
         1000000 * expect (λ c. c) (outcomes (m ∷ ms)) ≡ ((if b then A else 0) + claims ms) * 10 ^ (6 * ((if b then 1 else 0) + singles ms))
-    go false s w ih = ap (λ y. 1000000 * y) (other-expect (λ c. c) m ms s) ∙ ih ∙ ap₂ (λ x y. x * 10 ^ (6 * y)) (none (claims ms)) (none (singles ms))
+    go false s w ih = ap (λ y. 1000000 * y) (other_expect (λ c. c) m ms s) ∙ ih ∙ ap₂ (λ x y. x * 10 ^ (6 * y)) (none (claims ms)) (none (singles ms))
       where
         none : (x : ℕ) → x ≡ 0 + x
         none x = omega arith
     go true s w ih =
-        ap (λ y. 1000000 * y) (member-expect (λ c. c) m ms s ∙ ap₂ (λ x y. stay m * C + (m.q * x + m.i * y)) (moved m.d) (moved m.e))
+        ap (λ y. 1000000 * y) (member_expect (λ c. c) m ms s ∙ ap₂ (λ x y. stay m * C + (m.q * x + m.i * y)) (moved m.d) (moved m.e))
         ∙ (let e : 1000000 * (stay m * C + (m.q * (m.d * G + C) + m.i * (m.e * G + C))) ≡ (A + claims ms) * (1000000 * G) = multiplied in e)
-        ∙ ap (λ y. (A + claims ms) * y) (sym (six-more (singles ms)))
+        ∙ ap (λ y. (A + claims ms) * y) (sym (six_more (singles ms)))
       where
         moved : (d : ℕ) → expect (λ c. d + c) (outcomes ms) ≡ d * G + C
-        moved d = expect-add d (outcomes ms) ∙ ap (λ y. d * y + C) w
+        moved d = expect_add d (outcomes ms) ∙ ap (λ y. d * y + C) w
 
         multiplied : 1000000 * (stay m * C + (m.q * (m.d * G + C) + m.i * (m.e * G + C))) ≡ (A + claims ms) * (1000000 * G)
         multiplied =
@@ -203,14 +203,14 @@ claims-are (m ∷ ms) c = go (single m) refl (weights-are ms c.1) (claims-are ms
             )
 
 -- ---- the excess: c - M plus M is c plus M - c, as whole numbers that are not negative
-pub excess-is : (M : ℕ) (os : List Outcome) → excess M os + M * expect (λ c. 1) os ≡ expect (λ c. c) os + expect (λ c. M - c) os
+pub excess_is : (M : ℕ) (os : List Outcome) → excess M os + M * expect (λ c. 1) os ≡ expect (λ c. c) os + expect (λ c. M - c) os
 unfolding excess total
-excess-is M [] = omega (arith, mul-zero M)
-excess-is M (o ∷ os) =
+excess_is M [] = omega (arith, mul-zero M)
+excess_is M (o ∷ os) =
     let e : o.claimed - M + M ≡ o.claimed + (M - o.claimed) = omega arith in
     omega (
       arith,
-      excess-is M os,
+      excess_is M os,
       ap (λ y. o.weight * y) e,
       mul-add o.weight (o.claimed - M) M,
       mul-add o.weight o.claimed (M - o.claimed),
@@ -219,6 +219,6 @@ excess-is M (o ∷ os) =
     )
 
 -- over 10^(6g)
-pub excess-whole : (M : ℕ) (ms : List Life) → All Limited ms → excess M (outcomes ms) + M * 10 ^ (6 * singles ms) ≡ expect (λ c. c) (outcomes ms) + below (singlePart ms) M
-excess-whole M ms c =
-    ap (λ y. excess M (outcomes ms) + M * y) (sym (weights-are ms c)) ∙ excess-is M (outcomes ms) ∙ ap (λ y. expect (λ c. c) (outcomes ms) + y) (sym (shortfall-is ms M))
+pub excess_whole : (M : ℕ) (ms : List Life) → All Limited ms → excess M (outcomes ms) + M * 10 ^ (6 * singles ms) ≡ expect (λ c. c) (outcomes ms) + below (single_part ms) M
+excess_whole M ms c =
+    ap (λ y. excess M (outcomes ms) + M * y) (sym (weights_are ms c)) ∙ excess_is M (outcomes ms) ∙ ap (λ y. expect (λ c. c) (outcomes ms) + y) (sym (shortfall_is ms M))

@@ -19,19 +19,19 @@ use Rattle.fund.specs.declared.Verdict.{Verdict}
 use Rattle.fund.specs.declared.Verdict.TheVariants.{Accepted, Refused}
 use Rattle.fund.specs.Base.{if◌then◌else◌}
 use Rattle.fund.specs.Lines.{Line, lines}
-use Rattle.fund.specs.Reading.{FundFile, Reading, read, stopped, headerLines, rateInRange, memberInRange}
+use Rattle.fund.specs.Reading.{FundFile, Reading, read, stopped, header_lines, rate_in_range, member_in_range}
 use Rattle.fund.specs.Folding.{points, lives}
 use Rattle.fund.specs.Recursion.{Cell}
-use Rattle.fund.specs.Refusals.{first, unmatched, half_line, Lengths, refuse, firstMember, valued, matched, verdict}
-use Rattle.fund.specs.Answer.{fundCells, Part, empty, namesLine, line_at, part, Answer, refused, accepted, answer_of, answerTo, answer}
-use Rattle.fund.specs.Sheets.{sheetRows, readSheetRows, sheetReading, fileWith, sheetAnswer}
-use Rattle.laws.specs.PassedLines.{on-either}
-use Rattle.equivalence.specs.SheetFile.{header-alone, same-reading}
+use Rattle.fund.specs.Refusals.{first, unmatched, half_line, Lengths, refuse, first_member, valued, matched, verdict}
+use Rattle.fund.specs.Answer.{fund_cells, Part, empty, names_line, line_at, part, Answer, refused, accepted, answer_of, answer_to, answer}
+use Rattle.fund.specs.Sheets.{sheet_rows, read_sheet_rows, sheet_reading, file_with, sheet_answer}
+use Rattle.laws.specs.PassedLines.{on_either}
+use Rattle.equivalence.specs.SheetFile.{header_alone, same_reading}
 
 -- ---- the place of a refusal
 -- A refusal that names a line names one behind the header's.
 abbrev Behind : Refusal → ℕ → Type 0
-Behind why place = namesLine why ≡ true → suc (length headerLines) ≤ place
+Behind why place = names_line why ≡ true → suc (length header_lines) ≤ place
 
 abbrev BehindIn : Verdict → Type 0
 BehindIn Accepted = Unit {0}
@@ -41,93 +41,93 @@ abbrev BehindRead : Reading → Type 0
 BehindRead (read fund) = Unit {0}
 BehindRead (stopped why place) = Behind why place
 
-rows_behind : (rows : List SheetRow) (n : ℕ) (header : Fund) (rates : List Rate) (members : List Member) → suc (length headerLines) ≤ n → BehindRead (readSheetRows n header rates members rows)
-unfolding readSheetRows
-rows_behind [] n header rates members h = tt
-rows_behind (NotTaken ∷ rows) n header rates members h = λ e. absurd (true≢false (sym e))
-rows_behind (RateRow r ∷ rows) n header rates members h =
-    on-either (λ r. BehindRead r) (rateInRange rates r) (stopped Range n) _ (λ e. h) (rows_behind rows (suc n) header (rates ++ (r ∷ [])) members (omega arith))
-rows_behind (MemberRow m ∷ rows) n header rates members h =
-    on-either (λ r. BehindRead r) (memberInRange members m) (stopped Range n) _ (λ e. h) (rows_behind rows (suc n) header rates (members ++ (m ∷ [])) (omega arith))
+rows_behind_lem : (rows : List SheetRow) (n : ℕ) (header : Fund) (rates : List Rate) (members : List Member) → suc (length header_lines) ≤ n → BehindRead (read_sheet_rows n header rates members rows)
+unfolding read_sheet_rows
+rows_behind_lem [] n header rates members h = tt
+rows_behind_lem (NotTaken ∷ rows) n header rates members h = λ e. absurd (true≢false (sym e))
+rows_behind_lem (RateRow r ∷ rows) n header rates members h =
+    on_either (λ r. BehindRead r) (rate_in_range rates r) (stopped Range n) _ (λ e. h) (rows_behind_lem rows (suc n) header (rates ++ (r ∷ [])) members (omega arith))
+rows_behind_lem (MemberRow m ∷ rows) n header rates members h =
+    on_either (λ r. BehindRead r) (member_in_range members m) (stopped Range n) _ (λ e. h) (rows_behind_lem rows (suc n) header rates (members ++ (m ∷ [])) (omega arith))
 
-first-behind : {A : Type 0} (met : A → Bool) (at : ℕ) (l : List A) (why : Refusal) (after : Verdict) → suc (length headerLines) ≤ at → BehindIn after → BehindIn (refuse why (first met at l) after)
+first_behind : {A : Type 0} (met : A → Bool) (at : ℕ) (l : List A) (why : Refusal) (after : Verdict) → suc (length header_lines) ≤ at → BehindIn after → BehindIn (refuse why (first met at l) after)
 unfolding first refuse
-first-behind met at [] why after h k = k
-first-behind met at (a ∷ l) why after h k = go (met a) (first-behind met (suc at) l why after (omega arith) k)
+first_behind met at [] why after h k = k
+first_behind met at (a ∷ l) why after h k = go (met a) (first_behind met (suc at) l why after (omega arith) k)
   where
     go : (t : Bool) → BehindIn (refuse why (first met (suc at) l) after) → BehindIn (refuse why (if t then some at else first met (suc at) l) after)
     go true ih = λ e. h
     go false ih = ih
 
 -- a refusal that names no line
-unnamed : (why : Refusal) (o : Option ℕ) (after : Verdict) → namesLine why ≡ false → BehindIn after → BehindIn (refuse why o after)
+unnamed : (why : Refusal) (o : Option ℕ) (after : Verdict) → names_line why ≡ false → BehindIn after → BehindIn (refuse why o after)
 unfolding refuse
 unnamed why none after e k = k
 unnamed why (some place) after e k = λ z. absurd (true≢false (sym z ∙ e))
 
-verdict-behind : (fund : FundFile) (n : Lengths) (cells : List Cell) → BehindIn (verdict fund n cells)
-unfolding verdict matched valued firstMember
-verdict-behind fund n cells =
+verdict_behind : (fund : FundFile) (n : Lengths) (cells : List Cell) → BehindIn (verdict fund n cells)
+unfolding verdict matched valued first_member
+verdict_behind fund n cells =
     unnamed Edition _ _ refl
     (unnamed Deductible _ _ refl
-    (first-behind (unmatched fund.rates) (firstMember fund) fund.members Unmatched _ (omega arith)
-    (first-behind half_line (firstMember fund) (points fund) Half _ (omega arith)
+    (first_behind (unmatched fund.rates) (first_member fund) fund.members Unmatched _ (omega arith)
+    (first_behind half_line (first_member fund) (points fund) Half _ (omega arith)
     (unnamed Load _ _ refl (unnamed Order _ _ refl (unnamed Short _ _ refl (unnamed Wide _ _ refl tt)))))))
 
 -- ---- the part
-no-such-line : (header : List ℕ) (place : ℕ) → length (lines header) ≡ length headerLines → suc (length headerLines) ≤ place → line_at header place ≡ empty
+no_such_line : (header : List ℕ) (place : ℕ) → length (lines header) ≡ length header_lines → suc (length header_lines) ≤ place → line_at header place ≡ empty
 unfolding line_at
-no-such-line header zero e h = refl
-no-such-line header (suc before) e h =
+no_such_line header zero e h = refl
+no_such_line header (suc before) e h =
     let part_of : Line → Part = λ l. record { start = l.start; size = length l.text } in
     get_or-eq_default (map part_of (lines header)) empty {n = before} (omega (arith, length-map (lines header) part_of))
 
-module _ (header : List ℕ) (as_many : length (lines header) ≡ length headerLines) (n : Lengths) where
-  refused-part : (why : Refusal) (place : ℕ) → Behind why place → (refused header n (Refused why place)).part ≡ empty
+module _ (header : List ℕ) (as_many : length (lines header) ≡ length header_lines) (n : Lengths) where
+  refused_part : (why : Refusal) (place : ℕ) → Behind why place → (refused header n (Refused why place)).part ≡ empty
   unfolding refused part
-  refused-part why place h = go (namesLine why) h
+  refused_part why place h = go (names_line why) h
     where
-      go : (t : Bool) → (t ≡ true → suc (length headerLines) ≤ place) → (if t then line_at header place else empty) ≡ empty
-      go true k = no-such-line header place as_many (k refl)
+      go : (t : Bool) → (t ≡ true → suc (length header_lines) ≤ place) → (if t then line_at header place else empty) ≡ empty
+      go true k = no_such_line header place as_many (k refl)
       go false k = refl
 
-  verdict-part : (fund : FundFile) (v : Verdict) → BehindIn v → (answer_of header n fund v).part ≡ empty
+  verdict_part : (fund : FundFile) (v : Verdict) → BehindIn v → (answer_of header n fund v).part ≡ empty
   unfolding answer_of accepted
-  verdict-part fund Accepted h = refl
-  verdict-part fund (Refused why place) h = refused-part why place h
+  verdict_part fund Accepted h = refl
+  verdict_part fund (Refused why place) h = refused_part why place h
 
-  reading-part : (r : Reading) → BehindRead r → (answerTo header n r).part ≡ empty
-  unfolding answerTo
-  reading-part (read fund) h = verdict-part fund _ (verdict-behind fund n (fundCells fund.header (lives fund)))
-  reading-part (stopped why place) h = refused-part why place h
+  reading_part : (r : Reading) → BehindRead r → (answer_to header n r).part ≡ empty
+  unfolding answer_to
+  reading_part (read fund) h = verdict_part fund _ (verdict_behind fund n (fund_cells fund.header (lives fund)))
+  reading_part (stopped why place) h = refused_part why place h
 
-pub no_part : (header : List ℕ) (alone : FundFile) → sheetReading header [] [] ≡ read alone → (rates members : List ℕ) (n : Lengths) → (sheetAnswer header rates members n).part ≡ empty
+pub no_part : (header : List ℕ) (alone : FundFile) → sheet_reading header [] [] ≡ read alone → (rates members : List ℕ) (n : Lengths) → (sheet_answer header rates members n).part ≡ empty
 no_part header alone e rates members n =
-    let a = header-alone header alone e in
-    ap (λ r. (answerTo header n r).part) (a.sheets rates members)
-    ∙ reading-part header a.as_many n _ (rows_behind (sheetRows rates members) (suc (length headerLines)) a.fund [] [] (omega arith))
+    let a = header_alone header alone e in
+    ap (λ r. (answer_to header n r).part) (a.sheets rates members)
+    ∙ reading_part header a.as_many n _ (rows_behind_lem (sheet_rows rates members) (suc (length header_lines)) a.fund [] [] (omega arith))
 
 -- ---- the rest of the answer
 -- The answer with no part.
-abbrev pub withoutPart : Answer → Answer
-withoutPart a = record { verdict = a.verdict; part = empty; figures = a.figures; D = a.D; H = a.H; f = a.f; R = a.R; F = a.F }
+abbrev pub without_part : Answer → Answer
+without_part a = record { verdict = a.verdict; part = empty; figures = a.figures; D = a.D; H = a.H; f = a.f; R = a.R; F = a.F }
 
-without : (a : Answer) → a.part ≡ empty → a ≡ withoutPart a
+without : (a : Answer) → a.part ≡ empty → a ≡ without_part a
 without a e = λ i. record { verdict = a.verdict; part = e i; figures = a.figures; D = a.D; H = a.H; f = a.f; R = a.R; F = a.F }
 
 -- only the part shows the bytes that were read
-same-but-part : (s t : List ℕ) (n : Lengths) (r : Reading) → withoutPart (answerTo s n r) ≡ withoutPart (answerTo t n r)
-unfolding answerTo answer_of refused
-same-but-part s t n (read fund) = go (verdict fund n (fundCells fund.header (lives fund)))
+same_but_part : (s t : List ℕ) (n : Lengths) (r : Reading) → without_part (answer_to s n r) ≡ without_part (answer_to t n r)
+unfolding answer_to answer_of refused
+same_but_part s t n (read fund) = go (verdict fund n (fund_cells fund.header (lives fund)))
   where
-    go : (v : Verdict) → withoutPart (answer_of s n fund v) ≡ withoutPart (answer_of t n fund v)
+    go : (v : Verdict) → without_part (answer_of s n fund v) ≡ without_part (answer_of t n fund v)
     go Accepted = refl
     go (Refused why place) = refl
-same-but-part s t n (stopped why place) = refl
+same_but_part s t n (stopped why place) = refl
 
-pub same_answer : (header rates members : List ℕ) (rs : List Rate) (ms : List Member) (alone : FundFile) → sheetReading header [] [] ≡ read alone →
-    sheetRows rates members ≡ map RateRow rs ++ map MemberRow ms → (n : Lengths) → sheetAnswer header rates members n ≡ withoutPart (answer (fileWith header rs ms) n)
+pub same_answer : (header rates members : List ℕ) (rs : List Rate) (ms : List Member) (alone : FundFile) → sheet_reading header [] [] ≡ read alone →
+    sheet_rows rates members ≡ map RateRow rs ++ map MemberRow ms → (n : Lengths) → sheet_answer header rates members n ≡ without_part (answer (file_with header rs ms) n)
 same_answer header rates members rs ms alone e t n =
-    without (sheetAnswer header rates members n) (no_part header alone e rates members n)
-    ∙ same-but-part header (fileWith header rs ms) n (sheetReading header rates members)
-    ∙ ap (λ r. withoutPart (answerTo (fileWith header rs ms) n r)) (same-reading header rates members rs ms alone e t)
+    without (sheet_answer header rates members n) (no_part header alone e rates members n)
+    ∙ same_but_part header (file_with header rs ms) n (sheet_reading header rates members)
+    ∙ ap (λ r. without_part (answer_to (file_with header rs ms) n r)) (same_reading header rates members rs ms alone e t)

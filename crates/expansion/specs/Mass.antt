@@ -1,63 +1,63 @@
 -- The mass of the exact distribution: each member's own distribution has no negative place and adds to at most 1 (Share), and so has
--- their product; hence Σ |P x| ≤ |s| Σ λⁿ / n! (distribution-mass).
+-- their product; hence Σ |P x| ≤ |s| Σ λⁿ / n! (distribution_mass).
 use Rattle.std.specs.Prelude.{◌≡◌, List, [], ◌∷◌, ℕ}
 use Rattle.std.proofs.Common.{sym, ◌∙◌, ap}
-use Rattle.algebra.specs.Q.{ℚ, ℚ-ring, zeroQ, oneQ, ◌+◌, ◌*◌, ◌≤◌, abs, ≤_trans, ≤-of-eq, ≤-add, ≤-mul-left, mul_mono, one-nn, add-nn}
-use Rattle.algebra.specs.Q.{mul-nn, abs-nn, abs-of-nn, abs-mul}
-use Rattle.algebra.specs.RationalSum.{sum, sum-ext, sum-add, sum-mul, sum-nn}
-use Rattle.algebra.specs.PowerSeries.{Ser, ◌⋆◌, ◌⊞◌, oneS, const-product}
-use Rattle.algebra.specs.SeriesOrder.{NonNeg, product-nn, one-series-nn, sum-product, sum-one-le, absS}
-use Rattle.expansion.specs.Member.{Member, All, own, ownProduct, distribution}
-use Rattle.expansion.specs.Poisson.{poisson, poisson-nn, poisson-sum}
-use Rattle.expansion.specs.Exponential.{expTerm}
+use Rattle.algebra.specs.Q.{ℚ, ℚ_ring, zero_q, one_q, ◌+◌, ◌*◌, ◌≤◌, abs, ≤_trans, ≤_of_eq, ≤_add, ≤_mul_left, mul_mono, one_nn, add_nn}
+use Rattle.algebra.specs.Q.{mul_nn, abs_nn, abs_of_nn, abs_mul}
+use Rattle.algebra.specs.RationalSum.{sum, sum_ext, sum_add, sum_mul, sum_nn}
+use Rattle.algebra.specs.PowerSeries.{Ser, ◌⋆◌, ◌⊞◌, one_s, const_product}
+use Rattle.algebra.specs.SeriesOrder.{NonNeg, product_nn, one_series_nn, sum_product, sum_one_le, abs_s}
+use Rattle.expansion.specs.Member.{Member, All, own, own_product, distribution}
+use Rattle.expansion.specs.Poisson.{poisson, poisson_nn, poisson_sum}
+use Rattle.expansion.specs.Exponential.{exp_term}
 
 pub record Share (m : Member) : Type 0 where
-  pub z-nn : (x : ℕ) → zeroQ ≤ m.z x
-  pub z-sum : (n : ℕ) → sum n m.z ≤ m.ρ
-  pub c-nn : zeroQ ≤ m.c
-  pub c-le : m.c * (oneQ + m.ρ) ≤ oneQ
+  pub z_nn : (x : ℕ) → zero_q ≤ m.z x
+  pub z_sum : (n : ℕ) → sum n m.z ≤ m.ρ
+  pub c_nn : zero_q ≤ m.c
+  pub c_le : m.c * (one_q + m.ρ) ≤ one_q
 
-own-nn : (m : Member) → Share m → NonNeg (own m)
-own-nn m h x = ≤_trans (mul-nn h.c-nn (add-nn (one-series-nn x) (h.z-nn x))) (≤-of-eq (sym (const-product m.c (oneS ⊞ m.z) x)))
+own_nn : (m : Member) → Share m → NonNeg (own m)
+own_nn m h x = ≤_trans (mul_nn h.c_nn (add_nn (one_series_nn x) (h.z_nn x))) (≤_of_eq (sym (const_product m.c (one_s ⊞ m.z) x)))
 
-own-sum : (m : Member) → Share m → (X : ℕ) → sum X (own m) ≤ oneQ
-own-sum m h X = ≤_trans (≤-of-eq e) (≤_trans (≤-mul-left m.c h.c-nn (≤-add (sum-one-le X) (h.z-sum X))) h.c-le)
+own_sum : (m : Member) → Share m → (X : ℕ) → sum X (own m) ≤ one_q
+own_sum m h X = ≤_trans (≤_of_eq e) (≤_trans (≤_mul_left m.c h.c_nn (≤_add (sum_one_le X) (h.z_sum X))) h.c_le)
   where
-    e : sum X (own m) ≡ m.c * (sum X oneS + sum X m.z)
-    e = sum-ext X (own m) (λ x. m.c * (oneS x + m.z x)) (λ x _. const-product m.c (oneS ⊞ m.z) x)
-        ∙ sum-mul X m.c (oneS ⊞ m.z) ∙ ap (λ y. m.c * y) (sum-add X oneS m.z)
+    e : sum X (own m) ≡ m.c * (sum X one_s + sum X m.z)
+    e = sum_ext X (own m) (λ x. m.c * (one_s x + m.z x)) (λ x _. const_product m.c (one_s ⊞ m.z) x)
+        ∙ sum_mul X m.c (one_s ⊞ m.z) ∙ ap (λ y. m.c * y) (sum_add X one_s m.z)
 
-pub ownProduct-nn : (ms : List Member) → All Share ms → NonNeg (ownProduct ms)
-ownProduct-nn [] h x = one-series-nn x
-ownProduct-nn (m ∷ ms) h x = product-nn x (own m) (ownProduct ms) (own-nn m h.0) (ownProduct-nn ms h.1)
+pub own_product_nn : (ms : List Member) → All Share ms → NonNeg (own_product ms)
+own_product_nn [] h x = one_series_nn x
+own_product_nn (m ∷ ms) h x = product_nn x (own m) (own_product ms) (own_nn m h.0) (own_product_nn ms h.1)
 
-pub ownProduct-sum : (ms : List Member) → All Share ms → (X : ℕ) → sum X (ownProduct ms) ≤ oneQ
-ownProduct-sum [] h X = sum-one-le X
-ownProduct-sum (m ∷ ms) h X = ≤_trans (sum-product X (own m) (ownProduct ms) (own-nn m h.0) (ownProduct-nn ms h.1))
-    (≤_trans (mul_mono (sum-nn X (own m) (own-nn m h.0)) one-nn (own-sum m h.0 X) (ownProduct-sum ms h.1 X))
-    (≤-of-eq (ℚ-ring.mul-one oneQ)))
+pub own_product_sum : (ms : List Member) → All Share ms → (X : ℕ) → sum X (own_product ms) ≤ one_q
+own_product_sum [] h X = sum_one_le X
+own_product_sum (m ∷ ms) h X = ≤_trans (sum_product X (own m) (own_product ms) (own_nn m h.0) (own_product_nn ms h.1))
+    (≤_trans (mul_mono (sum_nn X (own m) (own_nn m h.0)) one_nn (own_sum m h.0 X) (own_product_sum ms h.1 X))
+    (≤_of_eq (ℚ_ring.mul-one one_q)))
 
-pub distribution-mass : (s : ℚ) (W : Ser) (ƛ : ℚ) (ms : List Member) → All Share ms → W 0 ≡ zeroQ → NonNeg W → zeroQ ≤ ƛ → (X : ℕ) →
+pub distribution_mass : (s : ℚ) (W : Ser) (ƛ : ℚ) (ms : List Member) → All Share ms → W 0 ≡ zero_q → NonNeg W → zero_q ≤ ƛ → (X : ℕ) →
     sum X W ≤ ƛ →
-    sum X (absS (distribution s (poisson W) ms)) ≤ abs s * sum X (expTerm ƛ)
-distribution-mass s W ƛ ms h z w p X k =
-    ≤_trans (≤-of-eq (sum-ext X (absS (distribution s Q ms)) (λ x. abs s * (Q ⋆ R) x) (λ x _. abs-place x) ∙ sum-mul X (abs s) (Q ⋆ R)))
-    (≤-mul-left (abs s) (abs-nn s) (≤_trans (sum-product X Q R Q-nn R-nn)
-    (≤_trans (≤-mul-left (sum X Q) (sum-nn X Q Q-nn) (ownProduct-sum ms h X))
-    (≤_trans (≤-of-eq (ℚ-ring.mul-one (sum X Q))) (poisson-sum W ƛ z w p X k)))))
+    sum X (abs_s (distribution s (poisson W) ms)) ≤ abs s * sum X (exp_term ƛ)
+distribution_mass s W ƛ ms h z w p X k =
+    ≤_trans (≤_of_eq (sum_ext X (abs_s (distribution s Q ms)) (λ x. abs s * (Q ⋆ R) x) (λ x _. abs_place x) ∙ sum_mul X (abs s) (Q ⋆ R)))
+    (≤_mul_left (abs s) (abs_nn s) (≤_trans (sum_product X Q R Q_nn R_nn)
+    (≤_trans (≤_mul_left (sum X Q) (sum_nn X Q Q_nn) (own_product_sum ms h X))
+    (≤_trans (≤_of_eq (ℚ_ring.mul-one (sum X Q))) (poisson_sum W ƛ z w p X k)))))
   where
     Q : Ser
     Q = poisson W
 
     R : Ser
-    R = ownProduct ms
+    R = own_product ms
 
-    Q-nn : NonNeg Q
-    Q-nn = poisson-nn W w
+    Q_nn : NonNeg Q
+    Q_nn = poisson_nn W w
 
-    R-nn : NonNeg R
-    R-nn = ownProduct-nn ms h
+    R_nn : NonNeg R
+    R_nn = own_product_nn ms h
 
-    abs-place : (x : ℕ) → abs (distribution s Q ms x) ≡ abs s * (Q ⋆ R) x
-    abs-place x = ap abs (const-product s (Q ⋆ R) x) ∙ abs-mul s ((Q ⋆ R) x)
-        ∙ ap (λ y. abs s * y) (abs-of-nn ((Q ⋆ R) x) (product-nn x Q R Q-nn R-nn))
+    abs_place : (x : ℕ) → abs (distribution s Q ms x) ≡ abs s * (Q ⋆ R) x
+    abs_place x = ap abs (const_product s (Q ⋆ R) x) ∙ abs_mul s ((Q ⋆ R) x)
+        ∙ ap (λ y. abs s * y) (abs_of_nn ((Q ⋆ R) x) (product_nn x Q R Q_nn R_nn))

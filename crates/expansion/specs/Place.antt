@@ -1,22 +1,22 @@
 -- A weight at a place: δ d is 1 at d and 0 elsewhere, place d a is the weight a at d. A product with δ d moves a series by d
--- (δ-product). A placed weight is not negative, adds to at most itself, and its transform is d a at d (θ-place).
+-- (δ_product). A placed weight is not negative, adds to at most itself, and its transform is d a at d (θ_place).
 use Rattle.std.specs.Prelude.{◌≡◌, refl, Bool, true, false, cond, ℕ, zero, suc, ◌+◌ as ◌+ⁿ◌, ◌*◌ as ◌*ⁿ◌, ◌<◌, T, eqb}
 use Rattle.std.proofs.Common.{sym, ◌∙◌, ap, ap₂, arith, eqb→eq}
 use Rattle.std.proofs.Math.Dec.{eqb-zero-suc, eqb-suc-zero, eqb-suc-suc}
 use Rattle.algebra.specs.Laws as L
 use Rattle.algebra.specs.SeriesRing as SR
 use Rattle.algebra.specs.Solver.{ring2, ring3, 𝟎, ◌⊗◌, ◌:=◌}
-use Rattle.algebra.specs.Q.{ℚ, ℚ-ring, zeroQ, oneQ, ◌+◌, ◌*◌, ◌≤◌, ≤-refl, ≤_trans, ≤-of-eq, ≤-mul-left, one-nn, mul-nn}
-use Rattle.algebra.specs.Embedding.{nat, nat-zero, nat-mul}
-use Rattle.algebra.specs.Quotient.{over, over-ok}
-use Rattle.algebra.specs.RationalSum.{sum, sum-ext, sum-mul, sum_first}
-use Rattle.algebra.specs.PowerSeries.{Ser, ◌⋆◌, θ, oneS, product-ext, product-scale}
-use Rattle.algebra.specs.SeriesOrder.{NonNeg, sum-one-le}
+use Rattle.algebra.specs.Q.{ℚ, ℚ_ring, zero_q, one_q, ◌+◌, ◌*◌, ◌≤◌, ≤_refl, ≤_trans, ≤_of_eq, ≤_mul_left, one_nn, mul_nn}
+use Rattle.algebra.specs.Embedding.{nat, nat_zero, nat_mul}
+use Rattle.algebra.specs.Quotient.{over, over_ok}
+use Rattle.algebra.specs.RationalSum.{sum, sum_ext, sum_mul, sum_first}
+use Rattle.algebra.specs.PowerSeries.{Ser, ◌⋆◌, θ, one_s, product_ext, product_scale}
+use Rattle.algebra.specs.SeriesOrder.{NonNeg, sum_one_le}
 
 abbrev pub δ : ℕ → Ser
-δ zero zero = oneQ
-δ zero (suc k) = zeroQ
-δ (suc d) zero = zeroQ
+δ zero zero = one_q
+δ zero (suc k) = zero_q
+δ (suc d) zero = zero_q
 δ (suc d) (suc k) = δ d k
 
 abbrev pub place : ℕ → ℚ → Ser
@@ -25,78 +25,78 @@ place d a k = a * δ d k
 -- g moved by d, 0 below
 abbrev pub shift : ℕ → Ser → Ser
 shift zero g k = g k
-shift (suc d) g zero = zeroQ
+shift (suc d) g zero = zero_q
 shift (suc d) g (suc k) = shift d g k
 
-pub δ-cond : (d k : ℕ) → δ d k ≡ cond (eqb d k) oneQ zeroQ
-δ-cond zero zero = refl
-δ-cond zero (suc k) = sym (ap (λ b. cond b oneQ zeroQ) (eqb-zero-suc k))
-δ-cond (suc d) zero = sym (ap (λ b. cond b oneQ zeroQ) (eqb-suc-zero d))
-δ-cond (suc d) (suc k) = δ-cond d k ∙ sym (ap (λ b. cond b oneQ zeroQ) (eqb-suc-suc d k))
+pub δ_cond : (d k : ℕ) → δ d k ≡ cond (eqb d k) one_q zero_q
+δ_cond zero zero = refl
+δ_cond zero (suc k) = sym (ap (λ b. cond b one_q zero_q) (eqb-zero-suc k))
+δ_cond (suc d) zero = sym (ap (λ b. cond b one_q zero_q) (eqb-suc-zero d))
+δ_cond (suc d) (suc k) = δ_cond d k ∙ sym (ap (λ b. cond b one_q zero_q) (eqb-suc-suc d k))
 
-pub one-δ : (k : ℕ) → oneS k ≡ δ 0 k
-one-δ zero = refl
-one-δ (suc k) = refl
+pub one_δ : (k : ℕ) → one_s k ≡ δ 0 k
+one_δ zero = refl
+one_δ (suc k) = refl
 
 -- ---- products
-pub δ-product : (d : ℕ) (g : Ser) (k : ℕ) → (δ d ⋆ g) k ≡ shift d g k
-δ-product zero g k = product-ext k (δ zero) oneS g g (λ j l. sym (one-δ j)) (λ j l. refl) ∙ SR.one_product ℚ-ring k g
-δ-product (suc d) g zero = L.zero-mul ℚ-ring (g 0)
-δ-product (suc d) g (suc k) = ap₂ ◌+◌ (L.zero-mul ℚ-ring (g (suc k))) (δ-product d g k) ∙ L.zero-add ℚ-ring (shift d g k)
+pub δ_product : (d : ℕ) (g : Ser) (k : ℕ) → (δ d ⋆ g) k ≡ shift d g k
+δ_product zero g k = product_ext k (δ zero) one_s g g (λ j l. sym (one_δ j)) (λ j l. refl) ∙ SR.one_product ℚ_ring k g
+δ_product (suc d) g zero = L.zero-mul ℚ_ring (g 0)
+δ_product (suc d) g (suc k) = ap₂ ◌+◌ (L.zero-mul ℚ_ring (g (suc k))) (δ_product d g k) ∙ L.zero-add ℚ_ring (shift d g k)
 
-pub place-product : (d : ℕ) (a : ℚ) (g : Ser) (k : ℕ) → (place d a ⋆ g) k ≡ a * shift d g k
-place-product d a g k = product-scale k a (δ d) g ∙ ap (λ x. a * x) (δ-product d g k)
+pub place_product : (d : ℕ) (a : ℚ) (g : Ser) (k : ℕ) → (place d a ⋆ g) k ≡ a * shift d g k
+place_product d a g k = product_scale k a (δ d) g ∙ ap (λ x. a * x) (δ_product d g k)
 
-pub shift-δ : (d s k : ℕ) → shift d (δ s) k ≡ δ (d +ⁿ s) k
-shift-δ zero s k = ap (λ x. δ x k) e
+pub shift_δ : (d s k : ℕ) → shift d (δ s) k ≡ δ (d +ⁿ s) k
+shift_δ zero s k = ap (λ x. δ x k) e
   where
     e : s ≡ 0 +ⁿ s
     e = omega arith
-shift-δ (suc d) s zero = ap (λ x. δ x 0) e
+shift_δ (suc d) s zero = ap (λ x. δ x 0) e
   where
     e : suc (d +ⁿ s) ≡ suc d +ⁿ s
     e = omega arith
-shift-δ (suc d) s (suc k) = shift-δ d s k ∙ ap (λ x. δ x (suc k)) e
+shift_δ (suc d) s (suc k) = shift_δ d s k ∙ ap (λ x. δ x (suc k)) e
   where
     e : suc (d +ⁿ s) ≡ suc d +ⁿ s
     e = omega arith
 
 -- ---- sums
-δ-nn : (d : ℕ) → NonNeg (δ d)
-δ-nn zero zero = one-nn
-δ-nn zero (suc k) = ≤-refl zeroQ
-δ-nn (suc d) zero = ≤-refl zeroQ
-δ-nn (suc d) (suc k) = δ-nn d k
+δ_nn : (d : ℕ) → NonNeg (δ d)
+δ_nn zero zero = one_nn
+δ_nn zero (suc k) = ≤_refl zero_q
+δ_nn (suc d) zero = ≤_refl zero_q
+δ_nn (suc d) (suc k) = δ_nn d k
 
-δ-sum : (d n : ℕ) → sum n (δ d) ≤ oneQ
-δ-sum zero n = ≤_trans (≤-of-eq (sum-ext n (δ 0) oneS (λ k l. sym (one-δ k)))) (sum-one-le n)
-δ-sum (suc d) zero = one-nn
-δ-sum (suc d) (suc n) = ≤_trans (≤-of-eq (sum_first n (δ (suc d)) ∙ L.zero-add ℚ-ring (sum n (δ d)))) (δ-sum d n)
+δ_sum : (d n : ℕ) → sum n (δ d) ≤ one_q
+δ_sum zero n = ≤_trans (≤_of_eq (sum_ext n (δ 0) one_s (λ k l. sym (one_δ k)))) (sum_one_le n)
+δ_sum (suc d) zero = one_nn
+δ_sum (suc d) (suc n) = ≤_trans (≤_of_eq (sum_first n (δ (suc d)) ∙ L.zero-add ℚ_ring (sum n (δ d)))) (δ_sum d n)
 
-pub place-nn : (d : ℕ) (a : ℚ) → zeroQ ≤ a → NonNeg (place d a)
-place-nn d a h x = mul-nn h (δ-nn d x)
+pub place_nn : (d : ℕ) (a : ℚ) → zero_q ≤ a → NonNeg (place d a)
+place_nn d a h x = mul_nn h (δ_nn d x)
 
-pub place-sum : (d : ℕ) (a : ℚ) → zeroQ ≤ a → (n : ℕ) → sum n (place d a) ≤ a
-place-sum d a h n = ≤_trans (≤-of-eq (sum-mul n a (δ d))) (≤_trans (≤-mul-left a h (δ-sum d n)) (≤-of-eq (ℚ-ring.mul-one a)))
+pub place_sum : (d : ℕ) (a : ℚ) → zero_q ≤ a → (n : ℕ) → sum n (place d a) ≤ a
+place_sum d a h n = ≤_trans (≤_of_eq (sum_mul n a (δ d))) (≤_trans (≤_mul_left a h (δ_sum d n)) (≤_of_eq (ℚ_ring.mul-one a)))
 
 -- nothing stands at 0 where the weight is 0 or the place is not
-pub place-zero : (d : ℕ) (a : ℚ) → (d ≡ 0 → a ≡ zeroQ) → place d a 0 ≡ zeroQ
-place-zero zero a h = ap (λ x. x * oneQ) (h refl) ∙ L.zero-mul ℚ-ring oneQ
-place-zero (suc d) a h = L.mul-zero ℚ-ring a
+pub place_zero : (d : ℕ) (a : ℚ) → (d ≡ 0 → a ≡ zero_q) → place d a 0 ≡ zero_q
+place_zero zero a h = ap (λ x. x * one_q) (h refl) ∙ L.zero-mul ℚ_ring one_q
+place_zero (suc d) a h = L.mul-zero ℚ_ring a
 
 -- ---- the transform
-pub θ-place : (d : ℕ) (a : ℚ) (k : ℕ) → θ (place d a) k ≡ cond (eqb d k) (nat d * a) zeroQ
-θ-place d a k = ap (λ y. nat k * (a * y)) (δ-cond d k) ∙ go (eqb d k) (eqb→eq d k)
+pub θ_place : (d : ℕ) (a : ℚ) (k : ℕ) → θ (place d a) k ≡ cond (eqb d k) (nat d * a) zero_q
+θ_place d a k = ap (λ y. nat k * (a * y)) (δ_cond d k) ∙ go (eqb d k) (eqb→eq d k)
   where
-    go : (b : Bool) → (T b → d ≡ k) → nat k * (a * cond b oneQ zeroQ) ≡ cond b (nat d * a) zeroQ
-    go true h = ap (λ y. nat k * y) (ℚ-ring.mul-one a) ∙ ap (λ y. nat y * a) (sym (h tt))
-    go false h = ring2 ℚ-ring (λ k a. k ⊗ (a ⊗ 𝟎) := 𝟎) tt (nat k) a
+    go : (b : Bool) → (T b → d ≡ k) → nat k * (a * cond b one_q zero_q) ≡ cond b (nat d * a) zero_q
+    go true h = ap (λ y. nat k * y) (ℚ_ring.mul-one a) ∙ ap (λ y. nat y * a) (sym (h tt))
+    go false h = ring2 ℚ_ring (λ k a. k ⊗ (a ⊗ 𝟎) := 𝟎) tt (nat k) a
 
 -- a weight of u units, of U to one
-pub θ-place-units : (U d u : ℕ) → 0 < U → (k : ℕ) → nat U * θ (place d (over (nat u) U)) k ≡ nat (cond (eqb d k) (u *ⁿ d) 0)
-θ-place-units U d u h k = ap (λ y. nat U * y) (θ-place d (over (nat u) U) k) ∙ go (eqb d k)
+pub θ_place_units : (U d u : ℕ) → 0 < U → (k : ℕ) → nat U * θ (place d (over (nat u) U)) k ≡ nat (cond (eqb d k) (u *ⁿ d) 0)
+θ_place_units U d u h k = ap (λ y. nat U * y) (θ_place d (over (nat u) U) k) ∙ go (eqb d k)
   where
-    go : (b : Bool) → nat U * cond b (nat d * over (nat u) U) zeroQ ≡ nat (cond b (u *ⁿ d) 0)
-    go true = ring3 ℚ-ring (λ u d o. u ⊗ (d ⊗ o) := (u ⊗ o) ⊗ d) tt (nat U) (nat d) (over (nat u) U)
-        ∙ ap (λ y. y * nat d) (over-ok (nat u) U h) ∙ sym (nat-mul u d)
-    go false = L.mul-zero ℚ-ring (nat U) ∙ sym nat-zero
+    go : (b : Bool) → nat U * cond b (nat d * over (nat u) U) zero_q ≡ nat (cond b (u *ⁿ d) 0)
+    go true = ring3 ℚ_ring (λ u d o. u ⊗ (d ⊗ o) := (u ⊗ o) ⊗ d) tt (nat U) (nat d) (over (nat u) U)
+        ∙ ap (λ y. y * nat d) (over_ok (nat u) U h) ∙ sym (nat_mul u d)
+    go false = L.mul-zero ℚ_ring (nat U) ∙ sym nat_zero

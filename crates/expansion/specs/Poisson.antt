@@ -1,59 +1,59 @@
--- The compound Poisson part without its factor: poisson W = Σ Wⁿ / n! for weights W with nothing at 0. It obeys θQ = θW ⋆ Q (poisson-θ),
--- and its sum is at most Σ λⁿ / n! where the weights add to at most λ (poisson-sum).
+-- The compound Poisson part without its factor: poisson W = Σ Wⁿ / n! for weights W with nothing at 0. It obeys θQ = θW ⋆ Q (poisson_θ),
+-- and its sum is at most Σ λⁿ / n! where the weights add to at most λ (poisson_sum).
 use Rattle.std.specs.Prelude.{◌≡◌, refl, ℕ, zero, suc, ◌<◌, ◌+◌ as ◌+ⁿ◌, ◌-◌ as ◌∸◌}
 use Rattle.std.proofs.Common.{sym, ◌∙◌, ap, ap₂, arith}
 use Rattle.std.proofs.Math.Path.{fun_ext}
 use Rattle.algebra.specs.Laws as L
 use Rattle.algebra.specs.Solver.{ring1, ring3, ring4, 𝟎, 𝟏, ◌⊕◌, ◌⊗◌, ◌:=◌}
-use Rattle.algebra.specs.Q.{ℚ, ℚ-ring, zeroQ, oneQ, ◌+◌, ◌*◌, ◌≤◌, ≤_trans, ≤-of-eq, ≤-mul-left, mul-nn}
+use Rattle.algebra.specs.Q.{ℚ, ℚ_ring, zero_q, one_q, ◌+◌, ◌*◌, ◌≤◌, ≤_trans, ≤_of_eq, ≤_mul_left, mul_nn}
 use Rattle.algebra.specs.Embedding.{nat}
-use Rattle.algebra.specs.Quotient.{inv, inv-cancel}
-use Rattle.algebra.specs.RationalSum.{sum, sum-ext, sum-zero, sum-mul, sum-swap, sum-split, sum_mono, sum-nn}
-use Rattle.algebra.specs.Power.{powQ, ifact, ifact-nn}
-use Rattle.algebra.specs.PowerSeries.{Ser, 𝕊, ◌⋆◌, ◌⊞◌, θ, const, oneS, pow, product-ext, const-product, const-mul, θ-add, θ-const}
-use Rattle.algebra.specs.PowerSeries.{θ-scale, θ-pow, vanishes-pow}
-use Rattle.algebra.specs.SeriesOrder.{NonNeg, pow-nn, sum-pow}
+use Rattle.algebra.specs.Quotient.{inv, inv_cancel}
+use Rattle.algebra.specs.RationalSum.{sum, sum_ext, sum_zero, sum_mul, sum_swap, sum_split, sum_mono, sum_nn}
+use Rattle.algebra.specs.Power.{pow_q, ifact, ifact_nn}
+use Rattle.algebra.specs.PowerSeries.{Ser, 𝕊, ◌⋆◌, ◌⊞◌, θ, const, one_s, pow, product_ext, const_product, const_mul, θ_add, θ_const}
+use Rattle.algebra.specs.PowerSeries.{θ_scale, θ_pow, vanishes_pow}
+use Rattle.algebra.specs.SeriesOrder.{NonNeg, pow_nn, sum_pow}
 
 -- the first N terms
-abbrev pub expS : Ser → ℕ → Ser
-expS W N = λ x. sum N (λ n. ifact n * pow W n x)
+abbrev pub exp_s : Ser → ℕ → Ser
+exp_s W N = λ x. sum N (λ n. ifact n * pow W n x)
 
 -- at place x the terms n ≤ x count
 abbrev pub poisson : Ser → Ser
-poisson W x = expS W (suc x) x
+poisson W x = exp_s W (suc x) x
 
 scaled : (c : ℚ) (P : Ser) → (λ x. c * P x) ≡ const c ⋆ P
-scaled c P = fun_ext (λ x. sym (const-product c P x))
+scaled c P = fun_ext (λ x. sym (const_product c P x))
 
-θ-expTerm : (W : Ser) (n : ℕ) → θ (λ x. ifact (suc n) * pow W (suc n) x) ≡ const (ifact n) ⋆ (pow W n ⋆ θ W)
-θ-expTerm W n =
+θ_exp_term : (W : Ser) (n : ℕ) → θ (λ x. ifact (suc n) * pow W (suc n) x) ≡ const (ifact n) ⋆ (pow W n ⋆ θ W)
+θ_exp_term W n =
     ap θ (scaled c (pow W (suc n)))
-    ∙ θ-scale c (pow W (suc n))
-    ∙ ap (λ x. const c ⋆ x) (θ-pow W n)
+    ∙ θ_scale c (pow W (suc n))
+    ∙ ap (λ x. const c ⋆ x) (θ_pow W n)
     ∙ ring3 𝕊 (λ a b t. a ⊗ (b ⊗ t) := (a ⊗ b) ⊗ t) tt (const c) (const (nat (suc n))) (pow W n ⋆ θ W)
-    ∙ ap (λ x. x ⋆ (pow W n ⋆ θ W)) (const-mul c (nat (suc n)) ∙ ap const e)
+    ∙ ap (λ x. x ⋆ (pow W n ⋆ θ W)) (const_mul c (nat (suc n)) ∙ ap const e)
   where
     c : ℚ
     c = ifact (suc n)
 
     e : inv n * ifact n * nat (suc n) ≡ ifact n
-    e = ring3 ℚ-ring (λ i f m. i ⊗ f ⊗ m := i ⊗ (m ⊗ f)) tt (inv n) (ifact n) (nat (suc n)) ∙ inv-cancel n (ifact n)
+    e = ring3 ℚ_ring (λ i f m. i ⊗ f ⊗ m := i ⊗ (m ⊗ f)) tt (inv n) (ifact n) (nat (suc n)) ∙ inv_cancel n (ifact n)
 
-exp-θ : (W : Ser) (N : ℕ) → θ (expS W (suc N)) ≡ θ W ⋆ expS W N
-exp-θ W zero = ap θ (fun_ext (λ x. ring1 ℚ-ring (λ a. 𝟎 ⊕ 𝟏 ⊗ a := a) tt (oneS x))) ∙ θ-const oneQ ∙ ring1 𝕊 (λ w. 𝟎 := w ⊗ 𝟎) tt (θ W)
-exp-θ W (suc N) =
-    θ-add (expS W (suc N)) (λ x. ifact (suc N) * pow W (suc N) x)
-    ∙ ap₂ ◌⊞◌ (exp-θ W N) (θ-expTerm W N)
-    ∙ ring4 𝕊 (λ w e c p. w ⊗ e ⊕ c ⊗ (p ⊗ w) := w ⊗ (e ⊕ c ⊗ p)) tt (θ W) (expS W N) (const (ifact N)) (pow W N)
-    ∙ ap (λ x. θ W ⋆ (expS W N ⊞ x)) (sym (scaled (ifact N) (pow W N)))
+exp_θ : (W : Ser) (N : ℕ) → θ (exp_s W (suc N)) ≡ θ W ⋆ exp_s W N
+exp_θ W zero = ap θ (fun_ext (λ x. ring1 ℚ_ring (λ a. 𝟎 ⊕ 𝟏 ⊗ a := a) tt (one_s x))) ∙ θ_const one_q ∙ ring1 𝕊 (λ w. 𝟎 := w ⊗ 𝟎) tt (θ W)
+exp_θ W (suc N) =
+    θ_add (exp_s W (suc N)) (λ x. ifact (suc N) * pow W (suc N) x)
+    ∙ ap₂ ◌⊞◌ (exp_θ W N) (θ_exp_term W N)
+    ∙ ring4 𝕊 (λ w e c p. w ⊗ e ⊕ c ⊗ (p ⊗ w) := w ⊗ (e ⊕ c ⊗ p)) tt (θ W) (exp_s W N) (const (ifact N)) (pow W N)
+    ∙ ap (λ x. θ W ⋆ (exp_s W N ⊞ x)) (sym (scaled (ifact N) (pow W N)))
 
 -- the terms past x add nothing at x
-pub exp-poisson : (W : Ser) → W 0 ≡ zeroQ → (N x : ℕ) → x < N → expS W N x ≡ poisson W x
-exp-poisson W z N x l =
-    ap (λ n. expS W n x) e
-    ∙ sum-split (suc x) (N ∸ suc x) f
-    ∙ ap (λ y. poisson W x + y) (sum-ext (N ∸ suc x) (λ k. f (suc x +ⁿ k)) (λ k. zeroQ) none ∙ sum-zero (N ∸ suc x))
-    ∙ ℚ-ring.add-zero (poisson W x)
+pub exp_poisson : (W : Ser) → W 0 ≡ zero_q → (N x : ℕ) → x < N → exp_s W N x ≡ poisson W x
+exp_poisson W z N x l =
+    ap (λ n. exp_s W n x) e
+    ∙ sum_split (suc x) (N ∸ suc x) f
+    ∙ ap (λ y. poisson W x + y) (sum_ext (N ∸ suc x) (λ k. f (suc x +ⁿ k)) (λ k. zero_q) none ∙ sum_zero (N ∸ suc x))
+    ∙ ℚ_ring.add-zero (poisson W x)
   where
     f : ℕ → ℚ
     f n = ifact n * pow W n x
@@ -61,23 +61,23 @@ exp-poisson W z N x l =
     e : N ≡ suc x +ⁿ (N ∸ suc x)
     e = omega arith
 
-    none : (k : ℕ) → k < N ∸ suc x → f (suc x +ⁿ k) ≡ zeroQ
-    none k _ = ap (λ y. ifact (suc x +ⁿ k) * y) (vanishes-pow W z (suc x +ⁿ k) x (omega arith)) ∙ L.mul-zero ℚ-ring (ifact (suc x +ⁿ k))
+    none : (k : ℕ) → k < N ∸ suc x → f (suc x +ⁿ k) ≡ zero_q
+    none k _ = ap (λ y. ifact (suc x +ⁿ k) * y) (vanishes_pow W z (suc x +ⁿ k) x (omega arith)) ∙ L.mul-zero ℚ_ring (ifact (suc x +ⁿ k))
 
-pub poisson-θ : (W : Ser) → W 0 ≡ zeroQ → θ (poisson W) ≡ θ W ⋆ poisson W
-poisson-θ W z = fun_ext go
+pub poisson_θ : (W : Ser) → W 0 ≡ zero_q → θ (poisson W) ≡ θ W ⋆ poisson W
+poisson_θ W z = fun_ext go
   where
     go : (x : ℕ) → θ (poisson W) x ≡ (θ W ⋆ poisson W) x
-    go x = ap (λ y. nat x * y) (sym (exp-poisson W z (suc (suc x)) x (omega arith)))
-        ∙ ap (λ s. s x) (exp-θ W (suc x))
-        ∙ product-ext x (θ W) (θ W) (expS W (suc x)) (poisson W) (λ k l. refl) (λ k l. exp-poisson W z (suc x) k (omega arith))
+    go x = ap (λ y. nat x * y) (sym (exp_poisson W z (suc (suc x)) x (omega arith)))
+        ∙ ap (λ s. s x) (exp_θ W (suc x))
+        ∙ product_ext x (θ W) (θ W) (exp_s W (suc x)) (poisson W) (λ k l. refl) (λ k l. exp_poisson W z (suc x) k (omega arith))
 
-pub poisson-nn : (W : Ser) → NonNeg W → NonNeg (poisson W)
-poisson-nn W h x = sum-nn (suc x) (λ n. ifact n * pow W n x) (λ n. mul-nn (ifact-nn n) (pow-nn n W h x))
+pub poisson_nn : (W : Ser) → NonNeg W → NonNeg (poisson W)
+poisson_nn W h x = sum_nn (suc x) (λ n. ifact n * pow W n x) (λ n. mul_nn (ifact_nn n) (pow_nn n W h x))
 
-pub poisson-sum : (W : Ser) (ƛ : ℚ) → W 0 ≡ zeroQ → NonNeg W → zeroQ ≤ ƛ → (X : ℕ) → sum X W ≤ ƛ →
-    sum X (poisson W) ≤ sum X (λ n. ifact n * powQ ƛ n)
-poisson-sum W ƛ z h p X s =
-    ≤_trans (≤-of-eq (sum-ext X (poisson W) (expS W X) (λ x l. sym (exp-poisson W z X x l)) ∙ sum-swap X X (λ x n. ifact n * pow W n x)))
-    (sum_mono X (λ n. sum X (λ x. ifact n * pow W n x)) (λ n. ifact n * powQ ƛ n)
-    (λ n l. ≤_trans (≤-of-eq (sum-mul X (ifact n) (pow W n))) (≤-mul-left (ifact n) (ifact-nn n) (sum-pow W ƛ h p X s n))))
+pub poisson_sum : (W : Ser) (ƛ : ℚ) → W 0 ≡ zero_q → NonNeg W → zero_q ≤ ƛ → (X : ℕ) → sum X W ≤ ƛ →
+    sum X (poisson W) ≤ sum X (λ n. ifact n * pow_q ƛ n)
+poisson_sum W ƛ z h p X s =
+    ≤_trans (≤_of_eq (sum_ext X (poisson W) (exp_s W X) (λ x l. sym (exp_poisson W z X x l)) ∙ sum_swap X X (λ x n. ifact n * pow W n x)))
+    (sum_mono X (λ n. sum X (λ x. ifact n * pow W n x)) (λ n. ifact n * pow_q ƛ n)
+    (λ n l. ≤_trans (≤_of_eq (sum_mul X (ifact n) (pow W n))) (≤_mul_left (ifact n) (ifact_nn n) (sum_pow W ƛ h p X s n))))

@@ -1,5 +1,5 @@
 -- The powers and the logarithm of a member's series odds, with q / p at d and i / p at e: the n-th power has the triangle's row n, its
--- entry l at the place d l + e (n - l) (pow-rows). So θ of the logarithm cut at order r is the sum of the placed terms (log-rows).
+-- entry l at the place d l + e (n - l) (pow_rows). So θ of the logarithm cut at order r is the sum of the placed terms (log_rows).
 use Rattle.std.specs.Prelude.{◌≡◌, refl, Bool, true, false, cond, T, eqb}
 use Rattle.std.proofs.Common.{sym, ◌∙◌, ap₂, eqb→eq}
 use Rattle.std.proofs.Math.Path.{ap}
@@ -8,42 +8,42 @@ use native.Mathlib.Omega.{arith}
 use Rattle.algebra.specs.Series as S
 use Rattle.algebra.specs.SeriesRing as SR
 use Rattle.algebra.specs.Solver.{ring1, ring2, ring4, ring5, 𝟎, 𝟏, ◌⊕◌, ◌⊗◌, ◌:=◌}
-use Rattle.algebra.specs.Q.{ℚ, ℚ-ring, zeroQ, oneQ, ◌+◌, ◌*◌}
+use Rattle.algebra.specs.Q.{ℚ, ℚ_ring, zero_q, one_q, ◌+◌, ◌*◌}
 use Rattle.algebra.specs.Embedding.{nat}
-use Rattle.algebra.specs.Quotient.{inv, over, over-suc}
-use Rattle.algebra.specs.RationalSum.{sum, sum-ext, sum-add, sum-mul, sum_first}
+use Rattle.algebra.specs.Quotient.{inv, over, over_suc}
+use Rattle.algebra.specs.RationalSum.{sum, sum_ext, sum_add, sum_mul, sum_first}
 use Rattle.algebra.specs.Power.{sgn}
-use Rattle.algebra.specs.PowerSeries.{Ser, ◌⋆◌, ◌⊞◌, θ, zeroS, pow, product-ext, product-scale, const-product}
-use Rattle.expansion.specs.Logarithm.{logS}
-use Rattle.expansion.specs.Place.{δ, place, δ-cond, one-δ, δ-product, shift-δ}
-use Rattle.expansion.specs.Triangle.{leftQ, rowsQ, termPlace, rowsQ-split, rowsQ-beyond}
+use Rattle.algebra.specs.PowerSeries.{Ser, ◌⋆◌, ◌⊞◌, θ, zero_s, pow, product_ext, product_scale, const_product}
+use Rattle.expansion.specs.Logarithm.{log_s}
+use Rattle.expansion.specs.Place.{δ, place, δ_cond, one_δ, δ_product, shift_δ}
+use Rattle.expansion.specs.Triangle.{left_q, rows_q, term_place, rows_q_split, rows_q_beyond}
 
 abbrev pub odds : ℕ → ℕ → ℕ → ℕ → ℕ → Ser
 odds q i p d e = place d (over (nat q) p) ⊞ place e (over (nat i) p)
 
 -- ---- powers
-abbrev pub rowSeries : ℕ → ℕ → ℕ → ℕ → ℕ → ℕ → Ser
-rowSeries q i p d e n k = sum (suc n) (λ l. rowsQ q i p n l * δ (termPlace d e n l) k)
+abbrev pub row_series : ℕ → ℕ → ℕ → ℕ → ℕ → ℕ → Ser
+row_series q i p d e n k = sum (suc n) (λ l. rows_q q i p n l * δ (term_place d e n l) k)
 
 -- a sum of weights, moved by d
-δ-product-sum : (N : ℕ) (c : ℕ → ℚ) (s : ℕ → ℕ) (d k : ℕ) → (δ d ⋆ (λ j. sum N (λ l. c l * δ (s l) j))) k ≡ sum N (λ l. c l * δ (d +ⁿ s l) k)
-δ-product-sum zero c s d k = S.product-comm ℚ-ring k (δ d) zeroS ∙ SR.product-zero ℚ-ring k (δ d)
-δ-product-sum (suc N) c s d k =
-    SR.product-distrib ℚ-ring (δ d) (λ j. sum N (λ l. c l * δ (s l) j)) (place (s N) (c N)) k
-    ∙ ap₂ ◌+◌ (δ-product-sum N c s d k) (S.product-comm ℚ-ring k (δ d) (place (s N) (c N)) ∙ product-scale k (c N) (δ (s N)) (δ d)
+δ_product_sum : (N : ℕ) (c : ℕ → ℚ) (s : ℕ → ℕ) (d k : ℕ) → (δ d ⋆ (λ j. sum N (λ l. c l * δ (s l) j))) k ≡ sum N (λ l. c l * δ (d +ⁿ s l) k)
+δ_product_sum zero c s d k = S.product_comm ℚ_ring k (δ d) zero_s ∙ SR.product_zero ℚ_ring k (δ d)
+δ_product_sum (suc N) c s d k =
+    SR.product_distrib ℚ_ring (δ d) (λ j. sum N (λ l. c l * δ (s l) j)) (place (s N) (c N)) k
+    ∙ ap₂ ◌+◌ (δ_product_sum N c s d k) (S.product_comm ℚ_ring k (δ d) (place (s N) (c N)) ∙ product_scale k (c N) (δ (s N)) (δ d)
     ∙ ap (λ x. c N * x) one)
   where
     one : (δ (s N) ⋆ δ d) k ≡ δ (d +ⁿ s N) k
-    one = S.product-comm ℚ-ring k (δ (s N)) (δ d) ∙ δ-product d (δ (s N)) k ∙ shift-δ d (s N) k
+    one = S.product_comm ℚ_ring k (δ (s N)) (δ d) ∙ δ_product d (δ (s N)) k ∙ shift_δ d (s N) k
 
-place-q : (d e n l : ℕ) → d +ⁿ termPlace d e n l ≡ termPlace d e (suc n) (suc l)
-place-q d e n l = go (n ∸ l) (suc n ∸ suc l) (omega arith)
+place_q : (d e n l : ℕ) → d +ⁿ term_place d e n l ≡ term_place d e (suc n) (suc l)
+place_q d e n l = go (n ∸ l) (suc n ∸ suc l) (omega arith)
   where
     go : (a b : ℕ) → a ≡ b → d +ⁿ (d *ⁿ l +ⁿ e *ⁿ a) ≡ d *ⁿ suc l +ⁿ e *ⁿ b
     go a b h = ap (λ x. d +ⁿ (d *ⁿ l +ⁿ e *ⁿ x)) h ∙ (let g : d +ⁿ (d *ⁿ l +ⁿ e *ⁿ b) ≡ d *ⁿ suc l +ⁿ e *ⁿ b = omega arith in g)
 
-place-i : (d e n l : ℕ) → l ≤ⁿ n → e +ⁿ termPlace d e n l ≡ termPlace d e (suc n) l
-place-i d e n l h = go (n ∸ l) (suc n ∸ l) (omega arith)
+place_i : (d e n l : ℕ) → l ≤ⁿ n → e +ⁿ term_place d e n l ≡ term_place d e (suc n) l
+place_i d e n l h = go (n ∸ l) (suc n ∸ l) (omega arith)
   where
     go : (a b : ℕ) → suc a ≡ b → e +ⁿ (d *ⁿ l +ⁿ e *ⁿ a) ≡ d *ⁿ l +ⁿ e *ⁿ b
     go a b h = (let g : e +ⁿ (d *ⁿ l +ⁿ e *ⁿ a) ≡ d *ⁿ l +ⁿ e *ⁿ suc a = omega arith in g) ∙ ap (λ x. d *ⁿ l +ⁿ e *ⁿ x) h
@@ -56,93 +56,93 @@ module _ (q i p d e : ℕ) where
   b = over (nat i) p
 
   abbrev v : ℕ → ℕ → ℚ
-  v n l = rowsQ q i p n l
+  v n l = rows_q q i p n l
 
   -- 1 at the place of the term (n, l)
   abbrev at_place : ℕ → ℕ → Ser
-  at_place n l = δ (termPlace d e n l)
+  at_place n l = δ (term_place d e n l)
 
-  row-q : (n k : ℕ) → (δ d ⋆ rowSeries q i p d e n) k ≡ sum (suc (suc n)) (λ l. leftQ (v n) l * at_place (suc n) l k)
-  row-q n k =
-      δ-product-sum (suc n) (v n) (termPlace d e n) d k
-      ∙ sum-ext (suc n) (λ l. v n l * δ (d +ⁿ termPlace d e n l) k) (λ l. v n l * at_place (suc n) (suc l) k)
-      (λ l h. ap (λ x. v n l * δ x k) (place-q d e n l))
-      ∙ ring2 ℚ-ring (λ x y. x := 𝟎 ⊗ y ⊕ x) tt (sum (suc n) (λ l. v n l * at_place (suc n) (suc l) k)) (at_place (suc n) 0 k)
-      ∙ sym (sum_first (suc n) (λ l. leftQ (v n) l * at_place (suc n) l k))
+  row_q : (n k : ℕ) → (δ d ⋆ row_series q i p d e n) k ≡ sum (suc (suc n)) (λ l. left_q (v n) l * at_place (suc n) l k)
+  row_q n k =
+      δ_product_sum (suc n) (v n) (term_place d e n) d k
+      ∙ sum_ext (suc n) (λ l. v n l * δ (d +ⁿ term_place d e n l) k) (λ l. v n l * at_place (suc n) (suc l) k)
+      (λ l h. ap (λ x. v n l * δ x k) (place_q d e n l))
+      ∙ ring2 ℚ_ring (λ x y. x := 𝟎 ⊗ y ⊕ x) tt (sum (suc n) (λ l. v n l * at_place (suc n) (suc l) k)) (at_place (suc n) 0 k)
+      ∙ sym (sum_first (suc n) (λ l. left_q (v n) l * at_place (suc n) l k))
 
-  row-i : (n k : ℕ) → (δ e ⋆ rowSeries q i p d e n) k ≡ sum (suc (suc n)) (λ l. v n l * at_place (suc n) l k)
-  row-i n k =
-      δ-product-sum (suc n) (v n) (termPlace d e n) e k
-      ∙ sum-ext (suc n) (λ l. v n l * δ (e +ⁿ termPlace d e n l) k) (λ l. v n l * at_place (suc n) l k)
-      (λ l h. ap (λ x. v n l * δ x k) (place-i d e n l (omega arith)))
-      ∙ ring2 ℚ-ring (λ x y. x := x ⊕ 𝟎 ⊗ y) tt (sum (suc n) (λ l. v n l * at_place (suc n) l k)) (at_place (suc n) (suc n) k)
+  row_i : (n k : ℕ) → (δ e ⋆ row_series q i p d e n) k ≡ sum (suc (suc n)) (λ l. v n l * at_place (suc n) l k)
+  row_i n k =
+      δ_product_sum (suc n) (v n) (term_place d e n) e k
+      ∙ sum_ext (suc n) (λ l. v n l * δ (e +ⁿ term_place d e n l) k) (λ l. v n l * at_place (suc n) l k)
+      (λ l h. ap (λ x. v n l * δ x k) (place_i d e n l (omega arith)))
+      ∙ ring2 ℚ_ring (λ x y. x := x ⊕ 𝟎 ⊗ y) tt (sum (suc n) (λ l. v n l * at_place (suc n) l k)) (at_place (suc n) (suc n) k)
       ∙ ap (λ x. sum (suc n) (λ l. v n l * at_place (suc n) l k) + x * at_place (suc n) (suc n) k)
-      (sym (rowsQ-beyond q i p n (suc n) (omega arith)))
+      (sym (rows_q_beyond q i p n (suc n) (omega arith)))
 
-  row_next : (n k : ℕ) → (odds q i p d e ⋆ rowSeries q i p d e n) k ≡ rowSeries q i p d e (suc n) k
+  row_next : (n k : ℕ) → (odds q i p d e ⋆ row_series q i p d e n) k ≡ row_series q i p d e (suc n) k
   row_next n k =
-      S.product-add ℚ-ring k (place d a) (place e b) (rowSeries q i p d e n)
-      ∙ ap₂ ◌+◌ (product-scale k a (δ d) (rowSeries q i p d e n) ∙ ap (λ x. a * x) (row-q n k))
-      (product-scale k b (δ e) (rowSeries q i p d e n) ∙ ap (λ x. b * x) (row-i n k))
-      ∙ ap₂ ◌+◌ (sym (sum-mul (suc (suc n)) a f)) (sym (sum-mul (suc (suc n)) b g))
-      ∙ sym (sum-add (suc (suc n)) (λ l. a * f l) (λ l. b * g l))
-      ∙ sum-ext (suc (suc n)) (λ l. a * f l + b * g l) (λ l. v (suc n) l * at_place (suc n) l k) (λ l h.
-      ring5 ℚ-ring (λ a b x y t. a ⊗ (x ⊗ t) ⊕ b ⊗ (y ⊗ t) := (a ⊗ x ⊕ b ⊗ y) ⊗ t) tt a b (leftQ (v n) l) (v n l) (at_place (suc n) l k)
-      ∙ ap (λ x. x * at_place (suc n) l k) (sym (rowsQ-split q i p n l)))
+      S.product_add ℚ_ring k (place d a) (place e b) (row_series q i p d e n)
+      ∙ ap₂ ◌+◌ (product_scale k a (δ d) (row_series q i p d e n) ∙ ap (λ x. a * x) (row_q n k))
+      (product_scale k b (δ e) (row_series q i p d e n) ∙ ap (λ x. b * x) (row_i n k))
+      ∙ ap₂ ◌+◌ (sym (sum_mul (suc (suc n)) a f)) (sym (sum_mul (suc (suc n)) b g))
+      ∙ sym (sum_add (suc (suc n)) (λ l. a * f l) (λ l. b * g l))
+      ∙ sum_ext (suc (suc n)) (λ l. a * f l + b * g l) (λ l. v (suc n) l * at_place (suc n) l k) (λ l h.
+      ring5 ℚ_ring (λ a b x y t. a ⊗ (x ⊗ t) ⊕ b ⊗ (y ⊗ t) := (a ⊗ x ⊕ b ⊗ y) ⊗ t) tt a b (left_q (v n) l) (v n l) (at_place (suc n) l k)
+      ∙ ap (λ x. x * at_place (suc n) l k) (sym (rows_q_split q i p n l)))
     where
       f : ℕ → ℚ
-      f l = leftQ (v n) l * at_place (suc n) l k
+      f l = left_q (v n) l * at_place (suc n) l k
 
       g : ℕ → ℚ
       g l = v n l * at_place (suc n) l k
 
-  pub pow-rows : (n k : ℕ) → pow (odds q i p d e) n k ≡ rowSeries q i p d e n k
-  unfolding rowsQ
-  pow-rows zero k = one-δ k ∙ ap (λ x. δ x k) first ∙ ring1 ℚ-ring (λ x. x := 𝟎 ⊕ 𝟏 ⊗ x) tt (δ (termPlace d e 0 0) k)
+  pub pow_rows : (n k : ℕ) → pow (odds q i p d e) n k ≡ row_series q i p d e n k
+  unfolding rows_q
+  pow_rows zero k = one_δ k ∙ ap (λ x. δ x k) first ∙ ring1 ℚ_ring (λ x. x := 𝟎 ⊕ 𝟏 ⊗ x) tt (δ (term_place d e 0 0) k)
     where
       first : 0 ≡ d *ⁿ 0 +ⁿ e *ⁿ (0 ∸ 0)
       first = omega arith
-  pow-rows (suc n) k = product-ext k z z (pow z n) (rowSeries q i p d e n) (λ j l. refl) (λ j l. pow-rows n j) ∙ row_next n k
+  pow_rows (suc n) k = product_ext k z z (pow z n) (row_series q i p d e n) (λ j l. refl) (λ j l. pow_rows n j) ∙ row_next n k
     where
       z : Ser
       z = odds q i p d e
 
 -- ---- the logarithm
-pub log-sum : (z : Ser) (r k : ℕ) → logS z r k ≡ sum r (λ n. sgn n * inv n * pow z (suc n) k)
-log-sum z zero k = refl
-log-sum z (suc r) k = ap₂ ◌+◌ (log-sum z r k) (const-product (sgn r * inv r) (pow z (suc r)) k)
+pub log_sum : (z : Ser) (r k : ℕ) → log_s z r k ≡ sum r (λ n. sgn n * inv n * pow z (suc n) k)
+log_sum z zero k = refl
+log_sum z (suc r) k = ap₂ ◌+◌ (log_sum z r k) (const_product (sgn r * inv r) (pow z (suc r)) k)
 
 -- what the term (n + 1, l) adds at k
-abbrev pub logEntry : ℕ → ℕ → ℕ → ℕ → ℕ → ℕ → ℕ → ℕ → ℚ
-logEntry q i p d e k n l = let x = termPlace d e (suc n) l in cond (eqb x k) (sgn n * over (nat x * rowsQ q i p (suc n) l) (suc n)) zeroQ
+abbrev pub log_entry : ℕ → ℕ → ℕ → ℕ → ℕ → ℕ → ℕ → ℕ → ℚ
+log_entry q i p d e k n l = let x = term_place d e (suc n) l in cond (eqb x k) (sgn n * over (nat x * rows_q q i p (suc n) l) (suc n)) zero_q
 
-entry-is : (k n x : ℕ) (v : ℚ) → nat k * (sgn n * inv n) * (v * δ x k) ≡ cond (eqb x k) (sgn n * over (nat x * v) (suc n)) zeroQ
-entry-is k n x v = ap (λ y. nat k * (sgn n * inv n) * (v * y)) (δ-cond x k) ∙ go (eqb x k) (eqb→eq x k)
+entry_is : (k n x : ℕ) (v : ℚ) → nat k * (sgn n * inv n) * (v * δ x k) ≡ cond (eqb x k) (sgn n * over (nat x * v) (suc n)) zero_q
+entry_is k n x v = ap (λ y. nat k * (sgn n * inv n) * (v * y)) (δ_cond x k) ∙ go (eqb x k) (eqb→eq x k)
   where
-    go : (b : Bool) → (T b → x ≡ k) → nat k * (sgn n * inv n) * (v * cond b oneQ zeroQ) ≡ cond b (sgn n * over (nat x * v) (suc n)) zeroQ
-    go true h = ring4 ℚ-ring (λ k s i v. k ⊗ (s ⊗ i) ⊗ (v ⊗ 𝟏) := s ⊗ (k ⊗ v ⊗ i)) tt (nat k) (sgn n) (inv n) v
-        ∙ ap (λ y. sgn n * (nat y * v * inv n)) (sym (h tt)) ∙ ap (λ y. sgn n * y) (sym (over-suc (nat x * v) n))
-    go false h = ring2 ℚ-ring (λ c v. c ⊗ (v ⊗ 𝟎) := 𝟎) tt (nat k * (sgn n * inv n)) v
+    go : (b : Bool) → (T b → x ≡ k) → nat k * (sgn n * inv n) * (v * cond b one_q zero_q) ≡ cond b (sgn n * over (nat x * v) (suc n)) zero_q
+    go true h = ring4 ℚ_ring (λ k s i v. k ⊗ (s ⊗ i) ⊗ (v ⊗ 𝟏) := s ⊗ (k ⊗ v ⊗ i)) tt (nat k) (sgn n) (inv n) v
+        ∙ ap (λ y. sgn n * (nat y * v * inv n)) (sym (h tt)) ∙ ap (λ y. sgn n * y) (sym (over_suc (nat x * v) n))
+    go false h = ring2 ℚ_ring (λ c v. c ⊗ (v ⊗ 𝟎) := 𝟎) tt (nat k * (sgn n * inv n)) v
 
-pub log-rows : (q i p d e r k : ℕ) → θ (logS (odds q i p d e) r) k ≡ sum r (λ n. sum (suc (suc n)) (logEntry q i p d e k n))
-log-rows q i p d e r k =
-    ap (λ x. nat k * x) (log-sum z r k)
-    ∙ sym (sum-mul r (nat k) (λ n. sgn n * inv n * pow z (suc n) k))
-    ∙ sum-ext r (λ n. nat k * (sgn n * inv n * pow z (suc n) k)) (λ n. sum (suc (suc n)) (logEntry q i p d e k n)) (λ n h. order n)
+pub log_rows : (q i p d e r k : ℕ) → θ (log_s (odds q i p d e) r) k ≡ sum r (λ n. sum (suc (suc n)) (log_entry q i p d e k n))
+log_rows q i p d e r k =
+    ap (λ x. nat k * x) (log_sum z r k)
+    ∙ sym (sum_mul r (nat k) (λ n. sgn n * inv n * pow z (suc n) k))
+    ∙ sum_ext r (λ n. nat k * (sgn n * inv n * pow z (suc n) k)) (λ n. sum (suc (suc n)) (log_entry q i p d e k n)) (λ n h. order n)
   where
     z : Ser
     z = odds q i p d e
 
-    order : (n : ℕ) → nat k * (sgn n * inv n * pow z (suc n) k) ≡ sum (suc (suc n)) (logEntry q i p d e k n)
+    order : (n : ℕ) → nat k * (sgn n * inv n * pow z (suc n) k) ≡ sum (suc (suc n)) (log_entry q i p d e k n)
     order n =
-        sym (ℚ-ring.mul_assoc (nat k) c (pow z (suc n) k))
-        ∙ ap (λ x. nat k * c * x) (pow-rows q i p d e (suc n) k)
-        ∙ sym (sum-mul (suc (suc n)) (nat k * c) f)
-        ∙ sum-ext (suc (suc n)) (λ l. nat k * c * f l) (logEntry q i p d e k n)
-        (λ l h. entry-is k n (termPlace d e (suc n) l) (rowsQ q i p (suc n) l))
+        sym (ℚ_ring.mul_assoc (nat k) c (pow z (suc n) k))
+        ∙ ap (λ x. nat k * c * x) (pow_rows q i p d e (suc n) k)
+        ∙ sym (sum_mul (suc (suc n)) (nat k * c) f)
+        ∙ sum_ext (suc (suc n)) (λ l. nat k * c * f l) (log_entry q i p d e k n)
+        (λ l h. entry_is k n (term_place d e (suc n) l) (rows_q q i p (suc n) l))
       where
         c : ℚ
         c = sgn n * inv n
 
         f : ℕ → ℚ
-        f l = rowsQ q i p (suc n) l * δ (termPlace d e (suc n) l) k
+        f l = rows_q q i p (suc n) l * δ (term_place d e (suc n) l) k

@@ -1,39 +1,39 @@
 -- The sequence F with F 0 = c and x F x = Σ_{k=1..x} A k F (x - k), which is θF = A ⋆ F where A 0 = 0: there is one (solution,
--- solution-θ, solution-step), and only one (solution-unique).
+-- solution_θ, solution_step), and only one (solution_unique).
 use Rattle.std.specs.Prelude.{◌≡◌, refl, ℕ, zero, suc, ◌<◌, ◌≤◌ as ◌≤ⁿ◌, ◌-◌ as ◌∸◌}
 use Rattle.std.proofs.Common.{sym, ◌∙◌, ap, arith}
 use Rattle.std.proofs.Math.Path.{fun_ext}
 use Rattle.algebra.specs.Laws as L
 use Rattle.algebra.specs.History as H
 use Rattle.algebra.specs.Solver.{ring2, ring3, 𝟎, ◌⊕◌, ◌⊗◌, ◌:=◌}
-use Rattle.algebra.specs.Q.{ℚ, ℚ-ring, zeroQ, ◌+◌, ◌*◌}
+use Rattle.algebra.specs.Q.{ℚ, ℚ_ring, zero_q, ◌+◌, ◌*◌}
 use Rattle.algebra.specs.Embedding.{nat}
-use Rattle.algebra.specs.Quotient.{inv, inv-cancel}
+use Rattle.algebra.specs.Quotient.{inv, inv_cancel}
 use Rattle.algebra.specs.RationalSum.{sum, sum_first}
-use Rattle.algebra.specs.PowerSeries.{Ser, ◌⋆◌, θ, product-sum, product-ext, θ-zero, Upto}
+use Rattle.algebra.specs.PowerSeries.{Ser, ◌⋆◌, θ, product_sum, product_ext, θ_zero, Upto}
 
 abbrev tail : Ser → Ser
 tail A = λ k. A (suc k)
 
 -- ---- one step
 -- where A 0 = 0, F at the last place does not stand on the right
-drop-first : (A F : Ser) (n : ℕ) → A 0 ≡ zeroQ → (A ⋆ F) (suc n) ≡ (tail A ⋆ F) n
-drop-first A F n z = ap (λ x. x * F (suc n) + (tail A ⋆ F) n) z ∙ ring2 ℚ-ring (λ f y. 𝟎 ⊗ f ⊕ y := y) tt (F (suc n)) ((tail A ⋆ F) n)
+drop_first : (A F : Ser) (n : ℕ) → A 0 ≡ zero_q → (A ⋆ F) (suc n) ≡ (tail A ⋆ F) n
+drop_first A F n z = ap (λ x. x * F (suc n) + (tail A ⋆ F) n) z ∙ ring2 ℚ_ring (λ f y. 𝟎 ⊗ f ⊕ y := y) tt (F (suc n)) ((tail A ⋆ F) n)
 
-step_sum : (A F : Ser) → A 0 ≡ zeroQ → (x : ℕ) → (A ⋆ F) x ≡ sum x (λ k. A (suc k) * F (x ∸ suc k))
-step_sum A F z x =
-    product-sum x A F
+step_sum_lem : (A F : Ser) → A 0 ≡ zero_q → (x : ℕ) → (A ⋆ F) x ≡ sum x (λ k. A (suc k) * F (x ∸ suc k))
+step_sum_lem A F z x =
+    product_sum x A F
     ∙ sum_first x (λ k. A k * F (x ∸ k))
     ∙ ap (λ y. y * F (x ∸ 0) + others) z
-    ∙ ring2 ℚ-ring (λ a b. 𝟎 ⊗ a ⊕ b := b) tt (F (x ∸ 0)) others
+    ∙ ring2 ℚ_ring (λ a b. 𝟎 ⊗ a ⊕ b := b) tt (F (x ∸ 0)) others
   where
     others : ℚ
     others = sum x (λ k. A (suc k) * F (x ∸ suc k))
 
 -- the recursion as a product
-pub recursion-upto : (X : ℕ) (A F : Ser) → A 0 ≡ zeroQ →
+pub recursion_upto : (X : ℕ) (A F : Ser) → A 0 ≡ zero_q →
     ((x : ℕ) → x ≤ⁿ X → nat x * F x ≡ sum x (λ k. A (suc k) * F (x ∸ suc k))) → Upto X (θ F) (A ⋆ F)
-recursion-upto X A F z h x l = h x l ∙ sym (step_sum A F z x)
+recursion_upto X A F z h x l = h x l ∙ sym (step_sum_lem A F z x)
 
 -- ---- there is one
 abbrev pub next : Ser → ℚ → ℕ → Ser → ℚ
@@ -41,41 +41,41 @@ next A c zero f = c
 next A c (suc n) f = inv n * (tail A ⋆ f) n
 
 pub solution : Ser → ℚ → Ser
-solution A c = H.seq zeroQ (next A c)
+solution A c = H.seq zero_q (next A c)
 
-next-local : (A : Ser) (c : ℚ) (n : ℕ) (f g : Ser) → ((k : ℕ) → k < n → f k ≡ g k) → next A c n f ≡ next A c n g
-next-local A c zero f g h = refl
-next-local A c (suc n) f g h = ap (λ x. inv n * x) (product-ext n (tail A) (tail A) f g (λ k l. refl) (λ k l. h k (omega arith)))
+next_local : (A : Ser) (c : ℚ) (n : ℕ) (f g : Ser) → ((k : ℕ) → k < n → f k ≡ g k) → next A c n f ≡ next A c n g
+next_local A c zero f g h = refl
+next_local A c (suc n) f g h = ap (λ x. inv n * x) (product_ext n (tail A) (tail A) f g (λ k l. refl) (λ k l. h k (omega arith)))
 
-pub solution-zero : (A : Ser) (c : ℚ) → solution A c 0 ≡ c
+pub solution_zero : (A : Ser) (c : ℚ) → solution A c 0 ≡ c
 unfolding solution
-solution-zero A c = H.seq-step zeroQ (next A c) (next-local A c) 0
+solution_zero A c = H.seq_step zero_q (next A c) (next_local A c) 0
 
-pub solution-suc : (A : Ser) (c : ℚ) (n : ℕ) → solution A c (suc n) ≡ inv n * (tail A ⋆ solution A c) n
+pub solution_suc : (A : Ser) (c : ℚ) (n : ℕ) → solution A c (suc n) ≡ inv n * (tail A ⋆ solution A c) n
 unfolding solution
-solution-suc A c n = H.seq-step zeroQ (next A c) (next-local A c) (suc n)
+solution_suc A c n = H.seq_step zero_q (next A c) (next_local A c) (suc n)
 
-pub solution-θ : (A : Ser) (c : ℚ) → A 0 ≡ zeroQ → θ (solution A c) ≡ A ⋆ solution A c
-solution-θ A c z = fun_ext go
+pub solution_θ : (A : Ser) (c : ℚ) → A 0 ≡ zero_q → θ (solution A c) ≡ A ⋆ solution A c
+solution_θ A c z = fun_ext go
   where
     F : Ser
     F = solution A c
 
     go : (n : ℕ) → θ F n ≡ (A ⋆ F) n
-    go zero = θ-zero F ∙ sym (ap (λ x. x * F 0) z ∙ L.zero-mul ℚ-ring (F 0))
-    go (suc n) = ap (λ x. nat (suc n) * x) (solution-suc A c n)
-        ∙ ring3 ℚ-ring (λ m i y. m ⊗ (i ⊗ y) := i ⊗ (m ⊗ y)) tt (nat (suc n)) (inv n) ((tail A ⋆ F) n)
-        ∙ inv-cancel n ((tail A ⋆ F) n) ∙ sym (drop-first A F n z)
+    go zero = θ_zero F ∙ sym (ap (λ x. x * F 0) z ∙ L.zero-mul ℚ_ring (F 0))
+    go (suc n) = ap (λ x. nat (suc n) * x) (solution_suc A c n)
+        ∙ ring3 ℚ_ring (λ m i y. m ⊗ (i ⊗ y) := i ⊗ (m ⊗ y)) tt (nat (suc n)) (inv n) ((tail A ⋆ F) n)
+        ∙ inv_cancel n ((tail A ⋆ F) n) ∙ sym (drop_first A F n z)
 
-pub solution-step : (A : Ser) (c : ℚ) → A 0 ≡ zeroQ → (x : ℕ) → nat x * solution A c x ≡ sum x (λ k. A (suc k) * solution A c (x ∸ suc k))
-solution-step A c z x = ap (λ s. s x) (solution-θ A c z) ∙ step_sum A (solution A c) z x
+pub solution_step : (A : Ser) (c : ℚ) → A 0 ≡ zero_q → (x : ℕ) → nat x * solution A c x ≡ sum x (λ k. A (suc k) * solution A c (x ∸ suc k))
+solution_step A c z x = ap (λ s. s x) (solution_θ A c z) ∙ step_sum_lem A (solution A c) z x
 
 -- ---- and only one
-one-step : (A F : Ser) (n : ℕ) → A 0 ≡ zeroQ → θ F (suc n) ≡ (A ⋆ F) (suc n) → F (suc n) ≡ inv n * (tail A ⋆ F) n
-one-step A F n z h = sym (inv-cancel n (F (suc n))) ∙ ap (λ x. inv n * x) (h ∙ drop-first A F n z)
+one_step : (A F : Ser) (n : ℕ) → A 0 ≡ zero_q → θ F (suc n) ≡ (A ⋆ F) (suc n) → F (suc n) ≡ inv n * (tail A ⋆ F) n
+one_step A F n z h = sym (inv_cancel n (F (suc n))) ∙ ap (λ x. inv n * x) (h ∙ drop_first A F n z)
 
-pub solution-unique : (X : ℕ) (A F G : Ser) → A 0 ≡ zeroQ → F 0 ≡ G 0 → Upto X (θ F) (A ⋆ F) → Upto X (θ G) (A ⋆ G) → Upto X F G
-solution-unique X A F G z e f g x l = go x x (omega arith) l
+pub solution_unique : (X : ℕ) (A F G : Ser) → A 0 ≡ zero_q → F 0 ≡ G 0 → Upto X (θ F) (A ⋆ F) → Upto X (θ G) (A ⋆ G) → Upto X F G
+solution_unique X A F G z e f g x l = go x x (omega arith) l
   where
     go : (n x : ℕ) → x ≤ⁿ n → x ≤ⁿ X → F x ≡ G x
     go zero zero k l = e
@@ -84,6 +84,6 @@ solution-unique X A F G z e f g x l = go x x (omega arith) l
         none : suc x ≤ⁿ 0 → ⊥
         none k = omega arith
     go (suc n) zero k l = e
-    go (suc n) (suc x) k l = one-step A F x z (f (suc x) l)
-        ∙ ap (λ y. inv x * y) (product-ext x (tail A) (tail A) F G (λ k l. refl) (λ y m. go n y (omega arith) (omega arith)))
-        ∙ sym (one-step A G x z (g (suc x) l))
+    go (suc n) (suc x) k l = one_step A F x z (f (suc x) l)
+        ∙ ap (λ y. inv x * y) (product_ext x (tail A) (tail A) F G (λ k l. refl) (λ y m. go n y (omega arith) (omega arith)))
+        ∙ sym (one_step A G x z (g (suc x) l))

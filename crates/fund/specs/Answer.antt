@@ -16,46 +16,46 @@ use Rattle.fund.specs.Recursion.{Cell, start, start_bound, entries, cells}
 use Rattle.fund.specs.Premium.{premium, within}
 use Rattle.fund.specs.Tariff.{gross}
 use Rattle.fund.specs.Refusals.{Lengths, verdict}
-use Rattle.fund.specs.Quantile.{runningSum}
+use Rattle.fund.specs.Quantile.{running_sum}
 
 -- The figures of the method's steps, whether the fund is accepted or not, from the header's figures and the lives: the terms,
 -- the first cell, and the cells of 0 to X.
-unfoldable pub fundTerms : Fund → List Life → List Term
-fundTerms fund ms = terms fund.horizon fund.order fund.frequency ms
+unfoldable pub fund_terms : Fund → List Life → List Term
+fund_terms fund ms = terms fund.horizon fund.order fund.frequency ms
 
-unfoldable pub fundStart : Fund → List Life → Cell
-fundStart fund ms =
+unfoldable pub fund_start : Fund → List Life → Cell
+fund_start fund ms =
     let l = lambda fund.frequency ms in
     record { f = start l ms; R = start_bound l ms }
 
-unfoldable pub fundCells : Fund → List Life → List Cell
-fundCells fund ms = reverse (cells (entries (fundTerms fund ms) fund.horizon) (fundStart fund ms) fund.horizon)
+unfoldable pub fund_cells : Fund → List Life → List Cell
+fund_cells fund ms = reverse (cells (entries (fund_terms fund ms) fund.horizon) (fund_start fund ms) fund.horizon)
 
-unfoldable pub fundTruncation : Fund → List Life → ℕ
-fundTruncation fund ms = truncation fund.order ms
+unfoldable pub fund_truncation : Fund → List Life → ℕ
+fund_truncation fund ms = truncation fund.order ms
 
-unfoldable pub fundMean : Fund → List Life → ℕ
-fundMean fund ms = mean fund.frequency ms
+unfoldable pub fund_mean : Fund → List Life → ℕ
+fund_mean fund ms = mean fund.frequency ms
 
-unfoldable pub fundPremium : Fund → List Life → ℤ
-fundPremium fund ms = premium fund.deductible (fundMean fund ms) (fundCells fund ms)
+unfoldable pub fund_premium : Fund → List Life → ℤ
+fund_premium fund ms = premium fund.deductible (fund_mean fund ms) (fund_cells fund ms)
 
-unfoldable pub fundWithin : Fund → List Life → ℕ
-fundWithin fund ms = within fund.deductible (fundTruncation fund ms) (fundCells fund ms)
+unfoldable pub fund_within : Fund → List Life → ℕ
+fund_within fund ms = within fund.deductible (fund_truncation fund ms) (fund_cells fund ms)
 
-unfoldable pub fundFigures : Fund → List Life → Figures
-fundFigures fund ms =
+unfoldable pub fund_figures : Fund → List Life → Figures
+fund_figures fund ms =
     record {
-      truncation = fundTruncation fund ms;
-      mean = fundMean fund ms;
-      premium = fundPremium fund ms;
-      within = fundWithin fund ms;
-      gross = gross fund.deductible fund.worth (fundPremium fund ms) (fundWithin fund ms);
+      truncation = fund_truncation fund ms;
+      mean = fund_mean fund ms;
+      premium = fund_premium fund ms;
+      within = fund_within fund ms;
+      gross = gross fund.deductible fund.worth (fund_premium fund ms) (fund_within fund ms);
     }
 
 -- "zero for every figure"
-abbrev pub noFigures : Figures
-noFigures = record { truncation = 0; mean = 0; premium = pos 0; within = 0; gross = 0 }
+abbrev pub no_figures : Figures
+no_figures = record { truncation = 0; mean = 0; premium = pos 0; within = 0; gross = 0 }
 
 -- A part of the host's bytes.
 pub record Part : Type 0 where
@@ -67,18 +67,18 @@ empty = record { start = 0; size = 0 }
 
 -- "For a line's refusal the host is handed that line itself, a part of its own bytes without the line feed; for place 0,
 -- for number 10 and for a missing line, an empty part."
-abbrev pub namesLine : Refusal → Bool
-namesLine Form = true
-namesLine Range = true
-namesLine Edition = false
-namesLine Deductible = false
-namesLine Unmatched = true
-namesLine Half = true
-namesLine Load = false
-namesLine Order = false
-namesLine Short = false
-namesLine Wide = false
-namesLine CellRefusal = false
+abbrev pub names_line : Refusal → Bool
+names_line Form = true
+names_line Range = true
+names_line Edition = false
+names_line Deductible = false
+names_line Unmatched = true
+names_line Half = true
+names_line Load = false
+names_line Order = false
+names_line Short = false
+names_line Wide = false
+names_line CellRefusal = false
 
 unfoldable pub line_at : List ℕ → ℕ → Part
 line_at file zero = empty
@@ -86,7 +86,7 @@ line_at file (suc before) = get_or (map (λ (l : Line). record { start = l.start
 
 unfoldable pub part : List ℕ → Verdict → Part
 part file Accepted = empty
-part file (Refused why place) = if namesLine why then line_at file place else empty
+part file (Refused why place) = if names_line why then line_at file place else empty
 
 pub record Answer : Type 0 where
   pub verdict : Verdict
@@ -104,7 +104,7 @@ refused file n v =
     record {
       verdict = v;
       part = part file v;
-      figures = noFigures;
+      figures = no_figures;
       D = replicate n.D (pos 0);
       H = replicate n.H 0;
       f = replicate n.f (pos 0);
@@ -119,18 +119,18 @@ lent blank n values = values ++ replicate (n - length values) blank
 unfoldable pub accepted : Fund → List Life → Lengths → Answer
 accepted fund ms n =
     let X = fund.horizon in
-    let ts = fundTerms fund ms in
-    let cells = fundCells fund ms in
+    let ts = fund_terms fund ms in
+    let cells = fund_cells fund ms in
     let fs = map (λ (y : Cell). y.f) cells in
     record {
       verdict = Accepted;
       part = empty;
-      figures = fundFigures fund ms;
+      figures = fund_figures fund ms;
       D = lent (pos 0) n.D (table (suc X) (D ts));
       H = lent 0 n.H (table (suc X) (H ts));
       f = lent (pos 0) n.f fs;
       R = lent 0 n.R (map (λ (y : Cell). y.R) cells);
-      F = lent (pos 0) n.F (table (suc X) (runningSum fs));
+      F = lent (pos 0) n.F (table (suc X) (running_sum fs));
     }
 
 unfoldable pub answer_of : List ℕ → Lengths → FundFile → Verdict → Answer
@@ -138,9 +138,9 @@ answer_of file n fund Accepted = accepted fund.header (lives fund) n
 answer_of file n fund (Refused why place) = refused file n (Refused why place)
 
 -- Reading first (1 and 2), then 3 to 10.
-unfoldable pub answerTo : List ℕ → Lengths → Reading → Answer
-answerTo file n (read fund) = answer_of file n fund (verdict fund n (fundCells fund.header (lives fund)))
-answerTo file n (stopped why place) = refused file n (Refused why place)
+unfoldable pub answer_to : List ℕ → Lengths → Reading → Answer
+answer_to file n (read fund) = answer_of file n fund (verdict fund n (fund_cells fund.header (lives fund)))
+answer_to file n (stopped why place) = refused file n (Refused why place)
 
 abbrev pub answer : List ℕ → Lengths → Answer
-answer file n = answerTo file n (reading file)
+answer file n = answer_to file n (reading file)

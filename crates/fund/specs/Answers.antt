@@ -8,7 +8,7 @@ use Rattle.fund.specs.declared.Verdict.TheVariants.{Accepted, Refused}
 use Rattle.fund.specs.Base.{bytes}
 use Rattle.fund.specs.Refusals.{Lengths}
 use Rattle.fund.specs.Answer.{Part, empty, Answer}
-use Rattle.fund.specs.Starred.{text, file, oneMember}
+use Rattle.fund.specs.Starred.{text, file, one_member}
 
 pub record AnswerRow : Type 0 where
   pub file : List ℕ
@@ -19,10 +19,10 @@ abbrev pub five : ℕ → ℕ → ℕ → ℕ → ℕ → Lengths
 five d h f r s = record { D = d; H = h; f = f; R = r; F = s }
 
 -- The first fund, with the cells behind its horizon.
-abbrev pub firstAnswer : Lengths → List ℤ → List ℕ → AnswerRow
-firstAnswer lengths beyond bounds =
+abbrev pub first_answer : Lengths → List ℤ → List ℕ → AnswerRow
+first_answer lengths beyond bounds =
     record {
-      file = file "horizon=2" "order=3" "deductible=2" oneMember;
+      file = file "horizon=2" "order=3" "deductible=2" one_member;
       lengths = lengths;
       answer =
           record {
@@ -58,31 +58,31 @@ zeros bytes why place part =
 
 -- A fund with horizon 0 or more, whose slices are of 1 to 5 cells.
 abbrev pub short_at : String → AnswerRow
-short_at horizon = zeros (file horizon "order=3" "deductible=1" oneMember) Short 0 empty
+short_at horizon = zeros (file horizon "order=3" "deductible=1" one_member) Short 0 empty
 
-abbrev pub behindHeader : List String → List ℕ
-behindHeader rows = file "horizon=0" "order=3" "deductible=1" rows
+abbrev pub behind_header : List String → List ℕ
+behind_header rows = file "horizon=0" "order=3" "deductible=1" rows
 
 unfoldable pub answers : List AnswerRow
 answers =
     -- Slices of just X + 1 cells, and longer ones: zeros beyond X.
-    firstAnswer (five 3 3 3 3 3) [] []
-    ∷ firstAnswer (five 5 5 5 5 5) (pos 0 ∷ pos 0 ∷ []) (0 ∷ 0 ∷ [])
+    first_answer (five 3 3 3 3 3) [] []
+    ∷ first_answer (five 5 5 5 5 5) (pos 0 ∷ pos 0 ∷ []) (0 ∷ 0 ∷ [])
     -- One slice of X cells, whichever, is short: that of D with X = 1.
     ∷ short_at "horizon=1"
     -- A line's refusal hands back that line: bytes after `end=`, with a line feed and without; a number outside its limits; 5, which comes before an earlier line's
     -- 6; and 6.
-    ∷ zeros (behindHeader ("rate=40,100000,0" ∷ "member=40,1,1,0,1" ∷ "end=1" ∷ "more" ∷ [])) Form 11 (record { start = 126; size = 4 })
-    ∷ zeros (behindHeader ("rate=40,100000,0" ∷ "member=40,1,1,0,1" ∷ "end=1" ∷ []) ++ bytes "x") Form 11 (record { start = 126; size = 1 })
-    ∷ zeros (behindHeader ("rate=40,100000,0" ∷ "member=40,3,1,0,1" ∷ "end=1" ∷ [])) Range 9 (record { start = 102; size = 17 })
-    ∷ zeros (behindHeader ("rate=40,500000,0" ∷ "member=40,1,1,0,1" ∷ "member=39,1,1,0,1" ∷ "end=2" ∷ [])) Unmatched 10 (record { start = 120; size = 17 })
-    ∷ zeros (behindHeader ("rate=40,500000,0" ∷ "member=40,1,1,0,1" ∷ "end=1" ∷ [])) Half 9 (record { start = 102; size = 17 })
+    ∷ zeros (behind_header ("rate=40,100000,0" ∷ "member=40,1,1,0,1" ∷ "end=1" ∷ "more" ∷ [])) Form 11 (record { start = 126; size = 4 })
+    ∷ zeros (behind_header ("rate=40,100000,0" ∷ "member=40,1,1,0,1" ∷ "end=1" ∷ []) ++ bytes "x") Form 11 (record { start = 126; size = 1 })
+    ∷ zeros (behind_header ("rate=40,100000,0" ∷ "member=40,3,1,0,1" ∷ "end=1" ∷ [])) Range 9 (record { start = 102; size = 17 })
+    ∷ zeros (behind_header ("rate=40,500000,0" ∷ "member=40,1,1,0,1" ∷ "member=39,1,1,0,1" ∷ "end=2" ∷ [])) Unmatched 10 (record { start = 120; size = 17 })
+    ∷ zeros (behind_header ("rate=40,500000,0" ∷ "member=40,1,1,0,1" ∷ "end=1" ∷ [])) Half 9 (record { start = 102; size = 17 })
     -- No line: a missing one, and the refusals whose place is 0.
-    ∷ zeros (behindHeader ("rate=40,100000,0" ∷ "member=40,1,1,0,1" ∷ [])) Form 10 empty
+    ∷ zeros (behind_header ("rate=40,100000,0" ∷ "member=40,1,1,0,1" ∷ [])) Form 10 empty
     ∷ zeros (text ("rates=2030" ∷ "members=2031" ∷ "horizon=0" ∷ "order=3" ∷ "frequency=1000,1000" ∷ "deductible=0" ∷ "worth=100" ∷ "end=0" ∷ [])) Edition 0 empty
-    ∷ zeros (file "horizon=0" "order=3" "deductible=2" oneMember) Deductible 0 empty
-    ∷ zeros (behindHeader ("rate=40,1000000,0" ∷ "member=40,2,1,0,9" ∷ "end=1" ∷ [])) Load 0 empty
-    ∷ zeros (file "horizon=0" "order=2" "deductible=1" oneMember) Order 0 empty
+    ∷ zeros (file "horizon=0" "order=3" "deductible=2" one_member) Deductible 0 empty
+    ∷ zeros (behind_header ("rate=40,1000000,0" ∷ "member=40,2,1,0,9" ∷ "end=1" ∷ [])) Load 0 empty
+    ∷ zeros (file "horizon=0" "order=2" "deductible=1" one_member) Order 0 empty
     -- 10 hands back no line, though its place could be one.
     ∷ record {
       file = file "horizon=6" "order=3" "deductible=2" ("rate=40,1000000,0" ∷ "member=40,2,1,0,8" ∷ "end=1" ∷ []);

@@ -5,7 +5,7 @@ use Rattle.fund.specs.declared.Frequencies.{Frequencies}
 use Rattle.fund.specs.declared.Life.{Life}
 use Rattle.fund.specs.Base.{if◌then◌else◌, total, sum, sumℤ}
 use Rattle.fund.specs.Folding.{stay, single}
-use Rattle.fund.specs.Transform.{deathWeight, disabilityWeight, lambda}
+use Rattle.fund.specs.Transform.{death_weight, disability_weight, lambda}
 
 unfoldable pub factorial : ℕ → ℕ
 factorial zero = 1
@@ -28,18 +28,18 @@ unfoldable pub one : ℕ → ℕ
 one zero = 1
 one (suc x) = 0
 
-unfoldable pub singlePart : List Life → ℕ → ℕ
-singlePart [] x = one x
-singlePart (m ∷ ms) x =
-    let g = singlePart ms in
+unfoldable pub single_part : List Life → ℕ → ℕ
+single_part [] x = one x
+single_part (m ∷ ms) x =
+    let g = single_part ms in
     if single m then stay m * g x + m.q * shifted m.d g x + m.i * shifted m.e g x else g x
 
 -- "The weight at k, from 1 on, is the sum over group 2 of" the death weight "where d = k and of" the disability weight "where e = k":
 -- numerators over 10^12. METHOD 10 (§5): "the exact Poisson weights follow".
-unfoldable pub weightAt : Frequencies → List Life → ℕ → ℕ
-weightAt ab ms zero = 0
-weightAt ab ms (suc k) =
-    total (λ m. if single m then 0 else (if eqb m.d (suc k) then deathWeight ab m else 0) + (if eqb m.e (suc k) then disabilityWeight ab m else 0)) ms
+unfoldable pub weight_at : Frequencies → List Life → ℕ → ℕ
+weight_at ab ms zero = 0
+weight_at ab ms (suc k) =
+    total (λ m. if single m then 0 else (if eqb m.d (suc k) then death_weight ab m else 0) + (if eqb m.e (suc k) then disability_weight ab m else 0)) ms
 
 -- the convolution of g and h: the sum of g(k)×h(x-k)
 unfoldable pub convolved : (ℕ → ℕ) → (ℕ → ℕ) → ℕ → ℕ
@@ -57,8 +57,8 @@ series u (suc n) = series u n *ℤ pos (10 ^ 12 * suc n) +ℤ u (suc n)
 
 -- "The Poisson part is the sum over n from 0 of the n-fold convolution of its weights divided by n!, times the sum of
 -- (-lambda)^j/j! for j to 63." "No weight stands at 0, so at place x only n up to x counts": n to X is enough for each x to X.
-unfoldable pub replacedPart : ℕ → Frequencies → List Life → ℕ → ℤ
-replacedPart X ab ms x = series (λ n. pos (fold n (weightAt ab ms) x)) X
+unfoldable pub replaced_part : ℕ → Frequencies → List Life → ℕ → ℤ
+replaced_part X ab ms x = series (λ n. pos (fold n (weight_at ab ms) x)) X
 
 -- (z)^j, "for j = 0: 1"
 unfoldable pub power : ℤ → ℕ → ℤ
@@ -70,11 +70,11 @@ exponential ab ms = series (power (neg_ℤ (pos (lambda ab ms)))) 63
 
 -- "Convolve the two." The exact value at x, times the denominator.
 unfoldable pub exact : ℕ → Frequencies → List Life → ℕ → ℤ
-exact X ab ms x = exponential ab ms *ℤ sumℤ (suc x) (λ k. pos (singlePart ms k) *ℤ replacedPart X ab ms (x - k))
+exact X ab ms x = exponential ab ms *ℤ sumℤ (suc x) (λ k. pos (single_part ms k) *ℤ replaced_part X ab ms (x - k))
 
 -- "The exact premium is the premium formula with 10^12 times the exact value at x in place of f(x)", times the denominator.
-unfoldable pub exactPremium : ℕ → ℕ → ℕ → Frequencies → List Life → ℤ
-exactPremium X M mean ab ms =
+unfoldable pub exact_premium : ℕ → ℕ → ℕ → Frequencies → List Life → ℤ
+exact_premium X M mean ab ms =
     (pos mean -ℤ pos (M * 10 ^ 12)) *ℤ pos (denominator X ms) +ℤ sumℤ M (λ x. pos ((M - x) * 10 ^ 12) *ℤ exact X ab ms x)
 
 -- All outcomes of the group 1 members: a weight, over 10^(6g), and the total claimed.

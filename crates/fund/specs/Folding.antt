@@ -5,19 +5,19 @@ use Rattle.fund.specs.declared.Rate.{Rate}
 use Rattle.fund.specs.declared.Member.{Member}
 use Rattle.fund.specs.declared.Life.{Life}
 use Rattle.fund.specs.declared.ModelPoint.{ModelPoint}
-use Rattle.fund.specs.Limits.{most-rate, least-group}
+use Rattle.fund.specs.Limits.{most_rate, least_group}
 use Rattle.fund.specs.Base.{if◌then◌else◌}
 use Rattle.fund.specs.Reading.{FundFile}
 
 -- METHOD 3 (§2): "A rate row now holds from its age until the next row's age." The rows are gone through in their order: the row that is
 -- held, if any, until a row is above the age.
-unfoldable pub heldUntil : Option Rate → List Rate → ℕ → Option Rate
-heldUntil held [] age = held
-heldUntil held (r ∷ rs) age = if leb r.age age then heldUntil (some r) rs age else held
+unfoldable pub held_until : Option Rate → List Rate → ℕ → Option Rate
+held_until held [] age = held
+held_until held (r ∷ rs) age = if leb r.age age then held_until (some r) rs age else held
 
 -- The rate in force at an age: none below the first row, and none in an empty table.
-unfoldable pub rateInForce : List Rate → ℕ → Option Rate
-rateInForce rates age = heldUntil none rates age
+unfoldable pub rate_in_force : List Rate → ℕ → Option Rate
+rate_in_force rates age = held_until none rates age
 
 -- "If d = 0, q counts as 0; if e = 0, i counts as 0." Where no rate is in force, both are 0.
 unfoldable pub folded : Option Rate → Member → Life
@@ -32,7 +32,7 @@ folded (some r) m =
     }
 
 unfoldable pub life : List Rate → Member → Life
-life rates m = folded (rateInForce rates m.age) m
+life rates m = folded (rate_in_force rates m.age) m
 
 -- A member line: what each of its lives is, and how many there are.
 unfoldable pub point : List Rate → Member → ModelPoint
@@ -54,8 +54,8 @@ abbrev pub claim : Life → ℕ
 claim m = m.q + m.i
 
 abbrev pub stay : Life → ℕ
-stay m = most-rate - claim m
+stay m = most_rate - claim m
 
 -- Group 1 is taken one by one, group 2 replaced on leaving.
 abbrev pub single : Life → Bool
-single m = eqb m.group least-group
+single m = eqb m.group least_group

@@ -6,40 +6,40 @@ use Rattle.fund.specs.declared.Quantile.TheVariants.{At, None}
 use Rattle.fund.specs.declared.Verdict.{Verdict}
 use Rattle.fund.specs.declared.Verdict.TheVariants.{Accepted, Refused}
 use Rattle.fund.specs.Base.{if◌then◌else◌, sumℤ}
-use Rattle.fund.specs.Limits.{most-level}
+use Rattle.fund.specs.Limits.{most_level}
 use Rattle.fund.specs.Refusals.{first}
 
 -- "F(x) is f(0) + .. + f(x)."
-unfoldable pub runningSum : List ℤ → ℕ → ℤ
-runningSum fs x = sumℤ (suc x) (λ y. get_or fs y (pos 0))
+unfoldable pub running_sum : List ℤ → ℕ → ℤ
+running_sum fs x = sumℤ (suc x) (λ y. get_or fs y (pos 0))
 
 -- "F(x) at least the level"
 unfoldable pub reaches : ℕ → ℤ → Bool
 reaches level (pos n) = leb level n
 reaches level (negsuc n) = false
 
-abbrev pub orNone : Option ℕ → Quantile
-orNone none = None
-orNone (some x) = At x
+abbrev pub or_none : Option ℕ → Quantile
+or_none none = None
+or_none (some x) = At x
 
 -- "Given a level from 0 to 10^12 units, give the smallest x with F(x) at least the level, or "none up to the horizon". Since f may
 -- be slightly negative, F need not rise; the answer is still the first x." "A level above 10^12 .. answers none."
 unfoldable pub quantile : ℕ → ℕ → List ℤ → Quantile
-quantile level X F = if ltb most-level level then None else orNone (first (reaches level) 0 (take (suc X) F))
+quantile level X F = if ltb most_level level then None else or_none (first (reaches level) 0 (take (suc X) F))
 
 -- ".. or a refused fund answers none."
-abbrev pub quantileOf : ℕ → ℕ → List ℤ → Verdict → Quantile
-quantileOf level X F Accepted = quantile level X F
-quantileOf level X F (Refused why at) = None
+abbrev pub quantile_of : ℕ → ℕ → List ℤ → Verdict → Quantile
+quantile_of level X F Accepted = quantile level X F
+quantile_of level X F (Refused why at) = None
 
 -- The answer's values: whether the level is reached, 1 or 0, and the place, 0 where it is not.
-abbrev pub reachedIn : Quantile → ℕ
-reachedIn (At x) = 1
-reachedIn None = 0
+abbrev pub reached_in : Quantile → ℕ
+reached_in (At x) = 1
+reached_in None = 0
 
-abbrev pub quantileIn : Quantile → ℕ
-quantileIn (At x) = x
-quantileIn None = 0
+abbrev pub quantile_in : Quantile → ℕ
+quantile_in (At x) = x
+quantile_in None = 0
 
 -- What the answer at a level of at most 10^12 says of the sums up to X: the first place where they reach the level, or that they reach it
 -- at none.

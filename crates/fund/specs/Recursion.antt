@@ -46,24 +46,24 @@ unfoldable pub entries : List Term → ℕ → List Entry
 entries ts X = table X (λ k. record { D = D ts (suc k); H = H ts (suc k) })
 
 -- The sums over k = 1 to x: D(1), D(2), .. meet f(x-1), f(x-2), .. to f(0).
-unfoldable pub sumR : List Entry → List Cell → ℕ
-sumR [] cells = 0
-sumR (k ∷ ks) [] = 0
-sumR (k ∷ ks) (y ∷ ys) = up (nat_abs k.D * y.R) unit + up (k.H * (nat_abs y.f + y.R)) unit + sumR ks ys
+unfoldable pub sum_r : List Entry → List Cell → ℕ
+sum_r [] cells = 0
+sum_r (k ∷ ks) [] = 0
+sum_r (k ∷ ks) (y ∷ ys) = up (nat_abs k.D * y.R) unit + up (k.H * (nat_abs y.f + y.R)) unit + sum_r ks ys
 
-unfoldable pub sumF : List Entry → List Cell → ℤ
-sumF [] cells = pos 0
-sumF (k ∷ ks) [] = pos 0
-sumF (k ∷ ks) (y ∷ ys) = nearest (k.D *ℤ y.f) unit +ℤ sumF ks ys
+unfoldable pub sum_f : List Entry → List Cell → ℤ
+sum_f [] cells = pos 0
+sum_f (k ∷ ks) [] = pos 0
+sum_f (k ∷ ks) (y ∷ ys) = nearest (k.D *ℤ y.f) unit +ℤ sum_f ks ys
 
 -- "R(x) = up((sum of up(|D(k)|×R(x-k)/10^12) + up(H(k)×(|f(x-k)| + R(x-k))/10^12))/x) + 1.
 -- f(x) = nearest((sum of nearest(D(k)×f(x-k)/10^12))/x)."
-unfoldable pub nextCell : List Entry → ℕ → List Cell → Cell
-nextCell ks x before = record { f = nearest (sumF ks before) x; R = up (sumR ks before) x + 1 }
+unfoldable pub next_cell : List Entry → ℕ → List Cell → Cell
+next_cell ks x before = record { f = nearest (sum_f ks before) x; R = up (sum_r ks before) x + 1 }
 
 -- The cells of x, x-1, .. to 0.
 unfoldable pub cells : List Entry → Cell → ℕ → List Cell
 cells ks first zero = first ∷ []
 cells ks first (suc x) =
     let before = cells ks first x in
-    nextCell ks (suc x) before ∷ before
+    next_cell ks (suc x) before ∷ before

@@ -10,10 +10,10 @@ use Rattle.fund.specs.declared.Refusal.{Refusal}
 use Rattle.fund.specs.declared.Refusal.TheVariants.{Form, Range, Edition, Deductible, Unmatched, Half, Load, Order, Short, Wide, Cell as CellRefusal}
 use Rattle.fund.specs.declared.Verdict.{Verdict}
 use Rattle.fund.specs.declared.Verdict.TheVariants.{Accepted, Refused}
-use Rattle.fund.specs.Limits.{half-rate, most_load, most-truncation, most-bound}
+use Rattle.fund.specs.Limits.{half_rate, most_load, most_truncation, most_bound}
 use Rattle.fund.specs.Base.{if◌then◌else◌}
-use Rattle.fund.specs.Reading.{FundFile, headerLines}
-use Rattle.fund.specs.Folding.{rateInForce, points, lives, claim, single}
+use Rattle.fund.specs.Reading.{FundFile, header_lines}
+use Rattle.fund.specs.Folding.{rate_in_force, points, lives, claim, single}
 use Rattle.fund.specs.Transform.{load, truncation}
 use Rattle.fund.specs.Recursion.{Cell}
 
@@ -48,11 +48,11 @@ first met at (a ∷ rest) =
 
 -- 5 (§2): "left only for an age below the first row, or an empty rate table", where no rate is in force.
 unfoldable pub unmatched : List Rate → Member → Bool
-unmatched rates m = elim (rateInForce rates m.age) [ none ↦ true | some r ↦ false ]
+unmatched rates m = elim (rate_in_force rates m.age) [ none ↦ true | some r ↦ false ]
 
 -- 6: "group 1, q + i at least 500,000 after folding"
 unfoldable pub half : Life → Bool
-half m = single m && leb half-rate (claim m)
+half m = single m && leb half_rate (claim m)
 
 -- The lives of a line are alike, and the place is the line's.
 unfoldable pub half_line : ModelPoint → Bool
@@ -60,7 +60,7 @@ half_line p = half p.life
 
 -- 10: "some R(x) above 250,000 units"
 unfoldable pub wide : Cell → Bool
-wide y = ltb most-bound y.R
+wide y = ltb most_bound y.R
 
 -- The lengths of the five result slices.
 pub record Lengths : Type 0 where
@@ -72,12 +72,12 @@ pub record Lengths : Type 0 where
 
 -- 9: "one of the four result slices has fewer than X + 1 cells"; §1, of the running sums: "their slice counts under
 -- short (9)".
-unfoldable pub anyShort : List ℕ → ℕ → Bool
-anyShort [] X = false
-anyShort (n ∷ rest) X = leb n X || anyShort rest X
+unfoldable pub any_short : List ℕ → ℕ → Bool
+any_short [] X = false
+any_short (n ∷ rest) X = leb n X || any_short rest X
 
 unfoldable pub short : Lengths → ℕ → Bool
-short n X = anyShort (n.D ∷ n.H ∷ n.f ∷ n.R ∷ n.F ∷ []) X
+short n X = any_short (n.D ∷ n.H ∷ n.f ∷ n.R ∷ n.F ∷ []) X
 
 -- A refusal where the condition holds at a place, else what follows.
 unfoldable pub refuse : Refusal → Option ℕ → Verdict → Verdict
@@ -89,14 +89,14 @@ unfoldable pub at0 : Bool → Option ℕ
 at0 holds = if holds then some 0 else none
 
 -- The line of the first member: the header lines and the rate lines stand before it.
-unfoldable pub firstMember : FundFile → ℕ
-firstMember file = suc (length headerLines) + length file.rates
+unfoldable pub first_member : FundFile → ℕ
+first_member file = suc (length header_lines) + length file.rates
 
 -- 7 to 10, of the header's figures, the lives and the cells of 0, 1, .. to X.
 unfoldable pub valued : Fund → List Life → Lengths → List Cell → Verdict
 valued fund ms n cells =
     refuse Load (at0 (ltb most_load (load fund.frequency ms)))
-    (refuse Order (at0 (ltb most-truncation (truncation fund.order ms)))
+    (refuse Order (at0 (ltb most_truncation (truncation fund.order ms)))
     (refuse Short (at0 (short n fund.horizon))
     (refuse Wide (first wide 0 cells) Accepted)))
 
@@ -106,8 +106,8 @@ matched file after =
     let fund = file.header in
     refuse Edition (at0 (not (eqb fund.rates fund.members)))
     (refuse Deductible (at0 (ltb (suc fund.horizon) fund.deductible))
-    (refuse Unmatched (first (unmatched file.rates) (firstMember file) file.members)
-    (refuse Half (first half_line (firstMember file) (points file)) after)))
+    (refuse Unmatched (first (unmatched file.rates) (first_member file) file.members)
+    (refuse Half (first half_line (first_member file) (points file)) after)))
 
 -- 3 to 10.
 unfoldable pub verdict : FundFile → Lengths → List Cell → Verdict

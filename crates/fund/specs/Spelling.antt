@@ -1,7 +1,7 @@
 -- METHOD 1: how a line is spelled: a key, then numbers between commas.
 use Rattle.std.specs.Prelude.{Bool, true, false, not, ◌&&◌, ◌||◌, List, [], ◌∷◌, map, ℕ, ◌+◌, ◌-◌, ◌*◌, eqb, leb, length}
 use Rattle.std.proofs.Math.Option.{Option, none, some}
-use Rattle.fund.specs.Limits.{most-digits}
+use Rattle.fund.specs.Limits.{most_digits}
 use Rattle.fund.specs.Base.{if◌then◌else◌}
 use Rattle.fund.specs.Lines.{Line}
 
@@ -12,35 +12,35 @@ digits (b ∷ bs) = leb 48 b && leb b 57 && digits bs
 
 unfoldable pub is_number : List ℕ → Bool
 is_number [] = false
-is_number (b ∷ bs) = digits (b ∷ bs) && leb (length (b ∷ bs)) most-digits && (not (eqb b 48) || eqb (length bs) 0)
+is_number (b ∷ bs) = digits (b ∷ bs) && leb (length (b ∷ bs)) most_digits && (not (eqb b 48) || eqb (length bs) 0)
 
-unfoldable pub valueFrom : ℕ → List ℕ → ℕ
-valueFrom n [] = n
-valueFrom n (b ∷ bs) = valueFrom (10 * n + (b - 48)) bs
+unfoldable pub value_from : ℕ → List ℕ → ℕ
+value_from n [] = n
+value_from n (b ∷ bs) = value_from (10 * n + (b - 48)) bs
 
 unfoldable pub value : List ℕ → ℕ
-value text = valueFrom 0 text
+value text = value_from 0 text
 
 -- What stands between commas (byte 44).
-unfoldable pub inFirst : ℕ → List (List ℕ) → List (List ℕ)
-inFirst b [] = (b ∷ []) ∷ []
-inFirst b (t ∷ ts) = (b ∷ t) ∷ ts
+unfoldable pub in_first : ℕ → List (List ℕ) → List (List ℕ)
+in_first b [] = (b ∷ []) ∷ []
+in_first b (t ∷ ts) = (b ∷ t) ∷ ts
 
 unfoldable pub fields : List ℕ → List (List ℕ)
 fields [] = [] ∷ []
 fields (b ∷ bs) =
     let after = fields bs in
-    if eqb b 44 then [] ∷ after else inFirst b after
+    if eqb b 44 then [] ∷ after else in_first b after
 
-unfoldable pub allNumbers : List (List ℕ) → Bool
-allNumbers [] = true
-allNumbers (t ∷ ts) = is_number t && allNumbers ts
+unfoldable pub all_numbers : List (List ℕ) → Bool
+all_numbers [] = true
+all_numbers (t ∷ ts) = is_number t && all_numbers ts
 
 -- The numbers of a text of just so many, or none where it is not spelled so.
 unfoldable pub numbers : ℕ → List ℕ → Option (List ℕ)
 numbers count text =
     let between = fields text in
-    if eqb (length between) count && allNumbers between then some (map value between) else none
+    if eqb (length between) count && all_numbers between then some (map value between) else none
 
 -- What stands behind the key, or none where the text does not begin with it.
 unfoldable pub behind : List ℕ → List ℕ → Option (List ℕ)

@@ -20,11 +20,11 @@ text (l ∷ ls) = bytes l ++ (10 ∷ text ls)
 unfoldable pub file : String → String → String → List String → List ℕ
 file horizon order deductible rows = text ("rates=2030" ∷ "members=2030" ∷ horizon ∷ order ∷ "frequency=1000,1000" ∷ deductible ∷ "worth=100" ∷ rows)
 
-abbrev pub oneMember : List String
-oneMember = "rate=40,100000,0" ∷ "member=40,1,1,0,1" ∷ "end=1" ∷ []
+abbrev pub one_member : List String
+one_member = "rate=40,100000,0" ∷ "member=40,1,1,0,1" ∷ "end=1" ∷ []
 
-abbrev pub oneMemberWith : String → List String
-oneMemberWith gross =
+abbrev pub one_member_with : String → List String
+one_member_with gross =
     "truncation=42866942"
     ∷ "mean=100000000000"
     ∷ "cell=0,900000000000,85733885,900000000000,85733885"
@@ -35,8 +35,8 @@ oneMemberWith gross =
     ∷ gross
     ∷ []
 
-abbrev pub oneMemberListing : List String
-oneMemberListing = oneMemberWith "gross=1"
+abbrev pub one_member_listing : List String
+one_member_listing = one_member_with "gross=1"
 
 -- Eight group 2 members with q = 1,000,000, i = 0, d = 1, and what follows them.
 unfoldable pub eight : List String → List String
@@ -52,8 +52,8 @@ eight rows =
     ∷ rows
 
 -- The funds of these members, whatever lines they stand on: X = 5, X = 6, and with a ninth.
-unfoldable pub eightListed : List String → StarredRow
-eightListed rows =
+unfoldable pub eight_listed : List String → StarredRow
+eight_listed rows =
     record {
       file = file "horizon=5" "order=3" "deductible=2" ("rate=40,1000000,0" ∷ rows);
       listing =
@@ -73,16 +73,16 @@ eightListed rows =
       bounds = 691 ∷ 5529 ∷ 22117 ∷ 58980 ∷ 117961 ∷ 188739 ∷ [];
     }
 
-unfoldable pub eightWide : List String → StarredRow
-eightWide rows =
+unfoldable pub eight_wide : List String → StarredRow
+eight_wide rows =
     record {
       file = file "horizon=6" "order=3" "deductible=2" ("rate=40,1000000,0" ∷ rows);
       listing = text ("refused=10,6" ∷ []);
       bounds = 691 ∷ 5529 ∷ 22117 ∷ 58980 ∷ 117961 ∷ 188739 ∷ 251653 ∷ [];
     }
 
-unfoldable pub eightAndOne : List String → StarredRow
-eightAndOne rows =
+unfoldable pub eight_and_one : List String → StarredRow
+eight_and_one rows =
     record {
       file = file "horizon=5" "order=3" "deductible=2" ("rate=40,1000000,0" ∷ "rate=41,1,0" ∷ rows);
       listing = text ("refused=7,0" ∷ []);
@@ -90,8 +90,8 @@ eightAndOne rows =
     }
 
 -- Group 1, q = i = 400,000, d = 0, e = 1, at an order: passes 6, then refused 8.
-unfoldable pub atOrder : String → StarredRow
-atOrder order =
+unfoldable pub at_order : String → StarredRow
+at_order order =
     record {
       file = file "horizon=2" order "deductible=2" ("rate=40,400000,400000" ∷ "member=40,1,0,1,1" ∷ "end=1" ∷ []);
       listing = text ("refused=8,0" ∷ []);
@@ -102,11 +102,11 @@ unfoldable pub starred : List StarredRow
 starred =
     -- The fund of the listing; order 2: refused 8.
     record {
-      file = file "horizon=2" "order=3" "deductible=2" oneMember;
-      listing = text oneMemberListing;
+      file = file "horizon=2" "order=3" "deductible=2" one_member;
+      listing = text one_member_listing;
       bounds = 1 ∷ 3 ∷ 4 ∷ [];
     }
-    ∷ record { file = file "horizon=2" "order=2" "deductible=2" oneMember; listing = text ("refused=8,0" ∷ []); bounds = [] }
+    ∷ record { file = file "horizon=2" "order=2" "deductible=2" one_member; listing = text ("refused=8,0" ∷ []); bounds = [] }
     -- No rates, no members, X = 1, M = 2.
     ∷ record {
       file = file "horizon=1" "order=3" "deductible=2" ("end=0" ∷ []);
@@ -114,9 +114,9 @@ starred =
       bounds = 0 ∷ 1 ∷ [];
     }
     -- Eight group 2 members: X = 5 accepted; X = 6 refused 10 at 6; a ninth with q = 1: refused 7.
-    ∷ eightListed (eight ("end=8" ∷ []))
-    ∷ eightWide (eight ("end=8" ∷ []))
-    ∷ eightAndOne (eight ("member=41,2,1,0,1" ∷ "end=9" ∷ []))
+    ∷ eight_listed (eight ("end=8" ∷ []))
+    ∷ eight_wide (eight ("end=8" ∷ []))
+    ∷ eight_and_one (eight ("member=41,2,1,0,1" ∷ "end=9" ∷ []))
     -- Group 1, q = 500,000, d = 1: refused 6. The same with d = 0, i = 0: passes 6, accepted.
     ∷ record {
       file = file "horizon=2" "order=3" "deductible=2" ("rate=40,500000,0" ∷ "member=40,1,1,0,1" ∷ "end=1" ∷ []);
@@ -131,13 +131,13 @@ starred =
     }
     -- Editions 2030 and 2031: refused 3. M = 4 with X = 2: refused 4; M = 3 accepted.
     ∷ record {
-      file = text ("rates=2030" ∷ "members=2031" ∷ "horizon=2" ∷ "order=3" ∷ "frequency=1000,1000" ∷ "deductible=2" ∷ "worth=100" ∷ oneMember);
+      file = text ("rates=2030" ∷ "members=2031" ∷ "horizon=2" ∷ "order=3" ∷ "frequency=1000,1000" ∷ "deductible=2" ∷ "worth=100" ∷ one_member);
       listing = text ("refused=3,0" ∷ []);
       bounds = [];
     }
-    ∷ record { file = file "horizon=2" "order=3" "deductible=4" oneMember; listing = text ("refused=4,0" ∷ []); bounds = [] }
+    ∷ record { file = file "horizon=2" "order=3" "deductible=4" one_member; listing = text ("refused=4,0" ∷ []); bounds = [] }
     ∷ record {
-      file = file "horizon=2" "order=3" "deductible=3" oneMember;
+      file = file "horizon=2" "order=3" "deductible=3" one_member;
       listing =
           text
           ("truncation=42866942"
@@ -152,11 +152,11 @@ starred =
       bounds = 1 ∷ 3 ∷ 4 ∷ [];
     }
     -- Group 1, q = i = 400,000, d = 0, e = 1: refused 8 at any order.
-    ∷ map atOrder ("order=1" ∷ "order=2" ∷ "order=3" ∷ "order=4" ∷ "order=5" ∷ "order=6" ∷ "order=7" ∷ "order=8" ∷ "order=9" ∷ "order=10" ∷ "order=11" ∷ "order=12" ∷ [])
+    ∷ map at_order ("order=1" ∷ "order=2" ∷ "order=3" ∷ "order=4" ∷ "order=5" ∷ "order=6" ∷ "order=7" ∷ "order=8" ∷ "order=9" ∷ "order=10" ∷ "order=11" ∷ "order=12" ∷ [])
 
 -- Rows that the document does not print, one for each wrong turn that its own funds would not show.
-unfoldable pub wrongTurns : List StarredRow
-wrongTurns =
+unfoldable pub wrong_turns : List StarredRow
+wrong_turns =
     -- An amount beyond X counts in p and in the mean: group 1, d = 5 and X = 3.
     record {
       file = file "horizon=3" "order=12" "deductible=2" ("rate=40,100000,100000" ∷ "member=40,1,5,1,1" ∷ "end=1" ∷ []);
@@ -190,17 +190,17 @@ wrongTurns =
     ∷ []
 
 -- METHOD 3 (§2): the first fund with other rate rows, and a member of some age whose rate in force is that of the first fund.
-unfoldable pub inForce : List String → StarredRow
-inForce rows = record { file = file "horizon=2" "order=3" "deductible=2" rows; listing = text oneMemberListing; bounds = 1 ∷ 3 ∷ 4 ∷ [] }
+unfoldable pub in_force : List String → StarredRow
+in_force rows = record { file = file "horizon=2" "order=3" "deductible=2" rows; listing = text one_member_listing; bounds = 1 ∷ 3 ∷ 4 ∷ [] }
 
-unfoldable pub someAges : List StarredRow
-someAges =
+unfoldable pub some_ages : List StarredRow
+some_ages =
     -- A row holds from its age, and no longer the row before it; until the next row's age; the last row to 120, also where it stands at 120.
-    inForce ("rate=30,0,0" ∷ "rate=40,100000,0" ∷ "rate=50,0,0" ∷ "member=40,1,1,0,1" ∷ "end=1" ∷ [])
-    ∷ inForce ("rate=30,0,0" ∷ "rate=40,100000,0" ∷ "rate=50,0,0" ∷ "member=49,1,1,0,1" ∷ "end=1" ∷ [])
-    ∷ inForce ("rate=30,0,0" ∷ "rate=40,100000,0" ∷ "member=120,1,1,0,1" ∷ "end=1" ∷ [])
-    ∷ inForce ("rate=119,0,0" ∷ "rate=120,100000,0" ∷ "member=120,1,1,0,1" ∷ "end=1" ∷ [])
-    ∷ inForce ("rate=0,100000,0" ∷ "rate=120,0,0" ∷ "member=119,1,1,0,1" ∷ "end=1" ∷ [])
+    in_force ("rate=30,0,0" ∷ "rate=40,100000,0" ∷ "rate=50,0,0" ∷ "member=40,1,1,0,1" ∷ "end=1" ∷ [])
+    ∷ in_force ("rate=30,0,0" ∷ "rate=40,100000,0" ∷ "rate=50,0,0" ∷ "member=49,1,1,0,1" ∷ "end=1" ∷ [])
+    ∷ in_force ("rate=30,0,0" ∷ "rate=40,100000,0" ∷ "member=120,1,1,0,1" ∷ "end=1" ∷ [])
+    ∷ in_force ("rate=119,0,0" ∷ "rate=120,100000,0" ∷ "member=120,1,1,0,1" ∷ "end=1" ∷ [])
+    ∷ in_force ("rate=0,100000,0" ∷ "rate=120,0,0" ∷ "member=119,1,1,0,1" ∷ "end=1" ∷ [])
     -- Unmatched: an age below the first row, an empty table.
     ∷ record {
       file = file "horizon=2" "order=3" "deductible=2" ("rate=40,100000,0" ∷ "member=40,1,1,0,1" ∷ "member=39,1,1,0,1" ∷ "end=2" ∷ []);
@@ -221,8 +221,8 @@ someAges =
     ∷ []
 
 -- METHOD 1 (§3): the first fund with other lines where the worth should stand.
-unfoldable pub withLines : List String → List String → StarredRow
-withLines lines listed =
+unfoldable pub with_lines : List String → List String → StarredRow
+with_lines lines listed =
     record {
       file = text ("rates=2030" ∷ "members=2030" ∷ "horizon=2" ∷ "order=3" ∷ "frequency=1000,1000" ∷ "deductible=2" ∷ lines);
       listing = text listed;
@@ -232,23 +232,23 @@ withLines lines listed =
 unfoldable pub worths : List StarredRow
 worths =
     -- Its limits, and range at line 7.
-    withLines ("worth=1" ∷ oneMember) (oneMemberWith "gross=1")
-    ∷ withLines ("worth=9999999" ∷ oneMember) (oneMemberWith "gross=2573")
-    ∷ withLines ("worth=0" ∷ oneMember) ("refused=2,7" ∷ [])
+    with_lines ("worth=1" ∷ one_member) (one_member_with "gross=1")
+    ∷ with_lines ("worth=9999999" ∷ one_member) (one_member_with "gross=2573")
+    ∷ with_lines ("worth=0" ∷ one_member) ("refused=2,7" ∷ [])
     -- Form at line 7: a number of eight digits, two numbers, no line of the worth, one that stands elsewhere, the file's end.
-    ∷ withLines ("worth=10000000" ∷ oneMember) ("refused=1,7" ∷ [])
-    ∷ withLines ("worth=100,100" ∷ oneMember) ("refused=1,7" ∷ [])
-    ∷ withLines oneMember ("refused=1,7" ∷ [])
-    ∷ withLines ("rate=40,100000,0" ∷ "worth=100" ∷ "member=40,1,1,0,1" ∷ "end=1" ∷ []) ("refused=1,7" ∷ [])
-    ∷ withLines [] ("refused=1,7" ∷ [])
+    ∷ with_lines ("worth=10000000" ∷ one_member) ("refused=1,7" ∷ [])
+    ∷ with_lines ("worth=100,100" ∷ one_member) ("refused=1,7" ∷ [])
+    ∷ with_lines one_member ("refused=1,7" ∷ [])
+    ∷ with_lines ("rate=40,100000,0" ∷ "worth=100" ∷ "member=40,1,1,0,1" ∷ "end=1" ∷ []) ("refused=1,7" ∷ [])
+    ∷ with_lines [] ("refused=1,7" ∷ [])
     -- Rows begin at line 8.
-    ∷ withLines ("worth=100" ∷ "rate=121,0,0" ∷ []) ("refused=2,8" ∷ [])
-    ∷ withLines ("worth=100" ∷ []) ("refused=1,8" ∷ [])
+    ∷ with_lines ("worth=100" ∷ "rate=121,0,0" ∷ []) ("refused=2,8" ∷ [])
+    ∷ with_lines ("worth=100" ∷ []) ("refused=1,8" ∷ [])
     ∷ []
 
 -- METHOD 4 (§5): a fund with one member of group 2 and a line of frequencies.
-unfoldable pub replacedAt : String → String → String → List String → List ℕ → StarredRow
-replacedAt frequency rate member listed bounds =
+unfoldable pub replaced_at : String → String → String → List String → List ℕ → StarredRow
+replaced_at frequency rate member listed bounds =
     record {
       file = text ("rates=2030" ∷ "members=2030" ∷ "horizon=4" ∷ "order=3" ∷ frequency ∷ "deductible=2" ∷ "worth=100" ∷ rate ∷ member ∷ "end=1" ∷ []);
       listing = text listed;
@@ -256,43 +256,43 @@ replacedAt frequency rate member listed bounds =
     }
 
 -- The same for a line that is refused.
-unfoldable pub refusedAt : String → String → StarredRow
-refusedAt frequency refused = replacedAt frequency "rate=40,30000,10000" "member=40,2,1,3,1" (refused ∷ []) []
+unfoldable pub refused_at : String → String → StarredRow
+refused_at frequency refused = replaced_at frequency "rate=40,30000,10000" "member=40,2,1,3,1" (refused ∷ []) []
 
 unfoldable pub frequencies : List StarredRow
 frequencies =
     -- a with q and b with i. In lambda: amounts beyond X, and q×d = i×e, so that the mean does not tell a from b. In the mean: amounts beyond X, and q = i.
     -- In D: q×d = i×e again, D(1) = 30,000,000,000 and D(3) = 15,000,000,000.
-    replacedAt "frequency=1000,500" "rate=40,20000,30000" "member=40,2,9,6,1"
+    replaced_at "frequency=1000,500" "rate=40,20000,30000" "member=40,2,9,6,1"
     ("truncation=0" ∷ "mean=270000000000" ∷ "cell=0,965605416258,125,965605416258,125" ∷ "cell=1,0,1,965605416258,126" ∷ "cell=2,0,1,965605416258,127" ∷ "cell=3,0,1,965605416258,128" ∷ "cell=4,0,1,965605416258,129" ∷ "premium=201210832516" ∷ "within=251" ∷ "gross=31" ∷ [])
     (125 ∷ 1 ∷ 1 ∷ 1 ∷ 1 ∷ [])
-    ∷ replacedAt "frequency=1000,500" "rate=40,20000,20000" "member=40,2,6,9,1"
+    ∷ replaced_at "frequency=1000,500" "rate=40,20000,20000" "member=40,2,6,9,1"
     ("truncation=0" ∷ "mean=210000000000" ∷ "cell=0,970445533548,125,970445533548,125" ∷ "cell=1,0,1,970445533548,126" ∷ "cell=2,0,1,970445533548,127" ∷ "cell=3,0,1,970445533548,128" ∷ "cell=4,0,1,970445533548,129" ∷ "premium=150891067096" ∷ "within=251" ∷ "gross=23" ∷ [])
     (125 ∷ 1 ∷ 1 ∷ 1 ∷ 1 ∷ [])
-    ∷ replacedAt "frequency=1000,500" "rate=40,30000,10000" "member=40,2,1,3,1"
+    ∷ replaced_at "frequency=1000,500" "rate=40,30000,10000" "member=40,2,1,3,1"
     ("truncation=0" ∷ "mean=45000000000" ∷ "cell=0,965605416258,125,965605416258,125" ∷ "cell=1,28968162488,5,994573578746,130" ∷ "cell=2,434522438,2,995008101184,132" ∷ "cell=3,4832372306,2,999840473490,134" ∷ "cell=4,144873402,2,999985346892,136" ∷ "premium=5178995004" ∷ "within=255" ∷ "gross=1" ∷ [])
     (125 ∷ 5 ∷ 2 ∷ 2 ∷ 2 ∷ [])
     -- Only a disabled member's place is filled, only a deceased member's.
-    ∷ replacedAt "frequency=0,1000" "rate=40,30000,10000" "member=40,2,1,3,1"
+    ∷ replaced_at "frequency=0,1000" "rate=40,30000,10000" "member=40,2,1,3,1"
     ("truncation=0" ∷ "mean=30000000000" ∷ "cell=0,990049833749,125,990049833749,125" ∷ "cell=1,0,1,990049833749,126" ∷ "cell=2,0,1,990049833749,127" ∷ "cell=3,9900498337,3,999950332086,130" ∷ "cell=4,0,2,999950332086,132" ∷ "premium=10099667498" ∷ "within=251" ∷ "gross=2" ∷ [])
     (125 ∷ 1 ∷ 1 ∷ 3 ∷ 2 ∷ [])
-    ∷ replacedAt "frequency=1000,0" "rate=40,30000,10000" "member=40,2,1,3,1"
+    ∷ replaced_at "frequency=1000,0" "rate=40,30000,10000" "member=40,2,1,3,1"
     ("truncation=0" ∷ "mean=30000000000" ∷ "cell=0,970445533548,125,970445533548,125" ∷ "cell=1,29113366006,5,999558899554,130" ∷ "cell=2,436700490,2,999995600044,132" ∷ "cell=3,4367005,2,999999967049,134" ∷ "cell=4,32753,2,999999999802,136" ∷ "premium=4433102" ∷ "within=255" ∷ "gross=1" ∷ [])
     (125 ∷ 5 ∷ 2 ∷ 2 ∷ 2 ∷ [])
     -- Lambda 0: a = 0, and no disability.
-    ∷ replacedAt "frequency=0,5000" "rate=40,30000,10000" "member=40,2,1,0,1"
+    ∷ replaced_at "frequency=0,5000" "rate=40,30000,10000" "member=40,2,1,0,1"
     ("truncation=0" ∷ "mean=0" ∷ "cell=0,1000000000000,0,1000000000000,0" ∷ "cell=1,0,1,1000000000000,1" ∷ "cell=2,0,1,1000000000000,2" ∷ "cell=3,0,1,1000000000000,3" ∷ "cell=4,0,1,1000000000000,4" ∷ "premium=0" ∷ "within=1" ∷ "gross=1" ∷ [])
     (0 ∷ 1 ∷ 1 ∷ 1 ∷ 1 ∷ [])
     -- The limits, and range at line 5.
-    ∷ replacedAt "frequency=5000,5000" "rate=40,30000,10000" "member=40,2,1,3,1"
+    ∷ replaced_at "frequency=5000,5000" "rate=40,30000,10000" "member=40,2,1,3,1"
     ("truncation=0" ∷ "mean=300000000000" ∷ "cell=0,818730753079,125,818730753079,125" ∷ "cell=1,122809612962,20,941540366041,145" ∷ "cell=2,9210720972,3,950751087013,148" ∷ "cell=3,41397073703,8,992148160716,156" ∷ "cell=4,6157750750,3,998305911466,159" ∷ "premium=60271119120" ∷ "within=270" ∷ "gross=10" ∷ [])
     (125 ∷ 20 ∷ 3 ∷ 8 ∷ 3 ∷ [])
-    ∷ refusedAt "frequency=5001,0" "refused=2,5"
-    ∷ refusedAt "frequency=0,5001" "refused=2,5"
+    ∷ refused_at "frequency=5001,0" "refused=2,5"
+    ∷ refused_at "frequency=0,5001" "refused=2,5"
     -- Form at line 5, before range: a single number, three, a second one without digits or with eight.
-    ∷ refusedAt "frequency=1000" "refused=1,5"
-    ∷ refusedAt "frequency=5001" "refused=1,5"
-    ∷ refusedAt "frequency=1000,1000,1000" "refused=1,5"
-    ∷ refusedAt "frequency=1000," "refused=1,5"
-    ∷ refusedAt "frequency=5001,10000000" "refused=1,5"
+    ∷ refused_at "frequency=1000" "refused=1,5"
+    ∷ refused_at "frequency=5001" "refused=1,5"
+    ∷ refused_at "frequency=1000,1000,1000" "refused=1,5"
+    ∷ refused_at "frequency=1000," "refused=1,5"
+    ∷ refused_at "frequency=5001,10000000" "refused=1,5"
     ∷ []

@@ -2,9 +2,9 @@
 // in specs/, in the document's order; the code here ties the limits and the refusals' numbers to it.
 ghost use Rattle.std.specs.Prelude.{◌≡◌, length};
 ghost use Rattle.fund.specs.Limits.{limits};
-ghost use Rattle.fund.specs.Reading.{headerLines};
+ghost use Rattle.fund.specs.Reading.{header_lines};
 ghost use Rattle.fund.specs.Refusals.{number_of};
-ghost use Rattle.fund.specs.Answer.{noFigures};
+ghost use Rattle.fund.specs.Answer.{no_figures};
 
 // The fund record: the figures of a file's header lines, in their order.
 #[derive(Drop)]
@@ -223,7 +223,7 @@ impl Fund {
 
     // The header lines of the definition are as many.
     pub fn header_lines() -> usize
-        ensures { result ≡ length headerLines }
+        ensures { result ≡ length header_lines }
     {
         Fund::HEADER_LINES
     }
@@ -270,7 +270,7 @@ impl Fund {
 
 // "zero for every figure"
 pub fn no_figures() -> Figures
-    ensures { result ≡ noFigures }
+    ensures { result ≡ no_figures }
 {
     Figures {
         truncation: 0,

@@ -1,4 +1,4 @@
--- What `answer_text::listing` shows of the call's answer is the listing of what was read (shown-is).
+-- What `answer_text::listing` shows of the call's answer is the listing of what was read (shown_is).
 use mathlib.Core.Path.{◌≡◌, refl, sym, ◌∙◌, ap, subst}
 use mathlib.Core.Bool.{Bool, true, false, ◌&&◌}
 use mathlib.Core.List.{List, []}
@@ -11,89 +11,89 @@ use lib.ListN.{length, take, replicate, length-take, length-replicate}
 use Rattle.fund.specs.declared.Verdict.{Verdict}
 use Rattle.fund.specs.declared.Verdict.TheVariants.{Accepted, Refused}
 use Rattle.fund.specs.Base.{if◌then◌else◌}
-use Rattle.fund.specs.Limits.{most-horizon, most-truncation}
+use Rattle.fund.specs.Limits.{most_horizon, most_truncation}
 use Rattle.fund.specs.Reading.{FundFile, Reading, read, stopped}
 use Rattle.fund.specs.Refusals.{Lengths}
-use Rattle.fund.specs.Answer.{Answer, answerTo}
-use Rattle.fund.specs.Listing.{listed, printed, horizonIn, enough, listingTo}
+use Rattle.fund.specs.Answer.{Answer, answer_to}
+use Rattle.fund.specs.Listing.{listed, printed, horizon_in, enough, listing_to}
 use Rattle.laws.specs.Ranges.{FundOk}
 use Rattle.writing.specs.Writing.{Written}
-use Rattle.answer_text.specs.Shown.{room, shownAnswer, printable, listingOf}
+use Rattle.answer_text.specs.Shown.{room, shown_answer, printable, listing_of}
 use Rattle.valuation.specs.Valued.{lengths}
 use Rattle.pricing.specs.declared.Priced.{Priced}
-use Rattle.pricing.specs.Priced.{leftPriced, horizonWith, Answers}
+use Rattle.pricing.specs.Priced.{left_priced, horizon_with, Answers}
 use Rattle.prefix.specs.Prefix.{most_bytes}
 use Rattle.fund_printing.specs.declared.Asked.TheVariants.{Listing}
-use Rattle.fund_printing.specs.Printed.{shownTo}
+use Rattle.fund_printing.specs.Printed.{shown_to}
 use Rattle.fund_printing.specs.Input.{HoldsFirst, ShowsFirst}
-use Rattle.fund_printing.proofs.Bounded.{AnswerIn, bounded-first, answer-in}
+use Rattle.fund_printing.proofs.Bounded.{AnswerIn, bounded_first, answer_in}
 
 -- what is written lies in the text
-pub written-within : {piece before after : List ℕ} {size : ℕ} → Written piece before after size → (size ≤ length after) × (size ≡ length (take size after))
-written-within {piece} {before} {after} {size} w =
+pub written_within : {piece before after : List ℕ} {size : ℕ} → Written piece before after size → (size ≤ length after) × (size ≡ length (take size after))
+written_within {piece} {before} {after} {size} w =
     let n : size ≡ length (take size after) = w.whole ∙ ap length (sym w.start) in
     (omega (arith, n, length-take size after), n)
 
 -- the result slices before the call
 abbrev pub cells : List ℕ
-cells = replicate (suc most-horizon) 0
+cells = replicate (suc most_horizon) 0
 
-abbrev pub signedCells : List ℤ
-signedCells = replicate (suc most-horizon) (pos 0)
+abbrev pub signed_cells : List ℤ
+signed_cells = replicate (suc most_horizon) (pos 0)
 
-pub cells-length : length cells ≡ suc most-horizon
-cells-length = length-replicate {A = ℕ} (suc most-horizon) 0
+pub cells_length : length cells ≡ suc most_horizon
+cells_length = length-replicate {A = ℕ} (suc most_horizon) 0
 
-pub signed-length : length signedCells ≡ suc most-horizon
-signed-length = length-replicate {A = ℤ} (suc most-horizon) (pos 0)
+pub signed_length : length signed_cells ≡ suc most_horizon
+signed_length = length-replicate {A = ℤ} (suc most_horizon) (pos 0)
 
-abbrev pub lentLengths : Lengths
-lentLengths = lengths signedCells cells signedCells cells signedCells
+abbrev pub lent_lengths : Lengths
+lent_lengths = lengths signed_cells cells signed_cells cells signed_cells
 
-enough-lent : lentLengths ≡ enough
-enough-lent = rw (signed-length, cells-length)
+enough_lent : lent_lengths ≡ enough
+enough_lent = rw (signed_length, cells_length)
 
-pub answers-enough : (text : List ℕ) (r : Reading) (level : ℕ) (p : Priced) (a : Answer) → Answers text r level p a (answerTo text lentLengths r) → Answers text r level p a (answerTo text enough r)
-answers-enough text r level p a k = subst (λ (n : Lengths). Answers text r level p a (answerTo text n r)) enough-lent k
+pub answers_enough : (text : List ℕ) (r : Reading) (level : ℕ) (p : Priced) (a : Answer) → Answers text r level p a (answer_to text lent_lengths r) → Answers text r level p a (answer_to text enough r)
+answers_enough text r level p a k = subst (λ (n : Lengths). Answers text r level p a (answer_to text n r)) enough_lent k
 
-horizon-most : (r : Reading) → ((fund : FundFile) → r ≡ read fund → FundOk fund) → (v : Verdict) → horizonWith v (horizonIn r) ≤ most-horizon
-unfolding horizonIn
-horizon-most r ok (Refused why place) = omega arith
-horizon-most (read fund) ok Accepted = (ok fund refl).header.horizon
-horizon-most (stopped why place) ok Accepted = omega arith
+horizon_most : (r : Reading) → ((fund : FundFile) → r ≡ read fund → FundOk fund) → (v : Verdict) → horizon_with v (horizon_in r) ≤ most_horizon
+unfolding horizon_in
+horizon_most r ok (Refused why place) = omega arith
+horizon_most (read fund) ok Accepted = (ok fund refl).header.horizon
+horizon_most (stopped why place) ok Accepted = omega arith
 
 -- a listing shows the same of a refusal for every horizon
-printed-left : (p : Priced) (d : List ℤ) (h : List ℕ) (f : List ℤ) (r : List ℕ) (s : List ℤ) (X : ℕ) (v : Verdict) →
-    printed (shownAnswer p.verdict p.figures f r s) (horizonWith v X) v ≡ printed (leftPriced p d h f r s) X v
+printed_left : (p : Priced) (d : List ℤ) (h : List ℕ) (f : List ℤ) (r : List ℕ) (s : List ℤ) (X : ℕ) (v : Verdict) →
+    printed (shown_answer p.verdict p.figures f r s) (horizon_with v X) v ≡ printed (left_priced p d h f r s) X v
 unfolding printed listed
-printed-left p d h f r s X Accepted = refl
-printed-left p d h f r s X (Refused why place) = refl
+printed_left p d h f r s X Accepted = refl
+printed_left p d h f r s X (Refused why place) = refl
 
 module _ (text : List ℕ) (r : Reading) (ok : (fund : FundFile) → r ≡ read fund → FundOk fund) (level : ℕ) (p : Priced) (d : List ℤ) (h : List ℕ) (f : List ℤ) (b : List ℕ) (s : List ℤ)
-    (given : Answers text r level p (leftPriced p d h f b s) (answerTo text lentLengths r)) where
-  k : Answers text r level p (leftPriced p d h f b s) (answerTo text enough r)
-  k = answers-enough text r level p (leftPriced p d h f b s) given
+    (given : Answers text r level p (left_priced p d h f b s) (answer_to text lent_lengths r)) where
+  k : Answers text r level p (left_priced p d h f b s) (answer_to text enough r)
+  k = answers_enough text r level p (left_priced p d h f b s) given
 
-  abbrev shownOne : Answer
-  shownOne = shownAnswer p.verdict p.figures f b s
+  abbrev shown_one : Answer
+  shown_one = shown_answer p.verdict p.figures f b s
 
-  within : AnswerIn (leftPriced p d h f b s)
-  within = rw k.answer (answer-in text enough r)
+  within : AnswerIn (left_priced p d h f b s)
+  within = rw k.answer (answer_in text enough r)
 
-  X-most : p.horizon ≤ most-horizon
-  X-most = rw k.horizon (horizon-most r ok p.verdict)
+  X_most : p.horizon ≤ most_horizon
+  X_most = rw k.horizon (horizon_most r ok p.verdict)
 
-  module _ (lf : length f ≡ suc most-horizon) (lr : length b ≡ suc most-horizon) (ls : length s ≡ suc most-horizon) (size : ℕ) where
-    range-is : printable p.figures.truncation p.horizon (length f) b (length s) size ≡ leb room size
+  module _ (lf : length f ≡ suc most_horizon) (lr : length b ≡ suc most_horizon) (ls : length s ≡ suc most_horizon) (size : ℕ) where
+    range_is : printable p.figures.truncation p.horizon (length f) b (length s) size ≡ leb room size
     unfolding printable
-    range-is =
+    range_is =
         rw (
-          le-leb p.horizon most-horizon X-most,
-          lt-ltb p.horizon (length f) (omega (arith, X-most, lf)),
-          lt-ltb p.horizon (length b) (omega (arith, X-most, lr)),
-          lt-ltb p.horizon (length s) (omega (arith, X-most, ls)),
-          le-leb p.figures.truncation most-truncation within.truncation,
-          bounded-first (suc p.horizon) b within.bounds,
+          le-leb p.horizon most_horizon X_most,
+          lt-ltb p.horizon (length f) (omega (arith, X_most, lf)),
+          lt-ltb p.horizon (length b) (omega (arith, X_most, lr)),
+          lt-ltb p.horizon (length s) (omega (arith, X_most, ls)),
+          le-leb p.figures.truncation most_truncation within.truncation,
+          bounded_first (suc p.horizon) b within.bounds,
         )
         (both (leb room size))
       where
@@ -101,14 +101,14 @@ module _ (text : List ℕ) (r : Reading) (ok : (fund : FundFile) → r ≡ read 
         both true = refl
         both false = refl
 
-    pub shown-is : listingOf shownOne p.horizon size ≡ shownTo Listing text r size
-    unfolding listingOf listingTo
-    shown-is =
-        rw range-is
+    pub shown_is : listing_of shown_one p.horizon size ≡ shown_to Listing text r size
+    unfolding listing_of listing_to
+    shown_is =
+        rw range_is
         (ap (λ (l : List ℕ). if leb room size then l else [])
-        (ap (λ (X : ℕ). printed shownOne X p.verdict) k.horizon
-        ∙ printed-left p d h f b s (horizonIn r) p.verdict
-        ∙ ap (λ (a : Answer). printed a (horizonIn r) a.verdict) k.answer))
+        (ap (λ (X : ℕ). printed shown_one X p.verdict) k.horizon
+        ∙ printed_left p d h f b s (horizon_in r) p.verdict
+        ∙ ap (λ (a : Answer). printed a (horizon_in r) a.verdict) k.answer))
 
 -- What is shown of a file that is the same for its first bytes.
 pub shows_first : {of : List ℕ → ℕ → List ℕ} → ((n : ℕ) (file : List ℕ) (m : ℕ) → most_bytes ≤ n → of (take n file) m ≡ of file m) →

@@ -4,7 +4,7 @@ mod sheets;
 
 ghost use Rattle.std.specs.Prelude.{◌≡◌, ◌≤◌, length, take};
 ghost use Rattle.writing.specs.Writing.{Written};
-ghost use Rattle.fund_printing.specs.Printed.{levelIn, text_of, shown};
+ghost use Rattle.fund_printing.specs.Printed.{level_in, text_of, shown};
 ghost use Rattle.fund_printing.specs.Input.{HoldsFirst, ReadFirst, ShowsFirst, ShowsInput, PrintsMemory};
 ghost use Rattle.input.specs.Input.{InMemory};
 
@@ -37,7 +37,7 @@ pub struct PrintedInput {
 
 // No listing shows an answer at a level.
 pub(crate) fn level_of(asked: Asked) -> u64
-    ensures { result ≡ levelIn asked }
+    ensures { result ≡ level_in asked }
 {
     match asked {
         Asked::Listing => 0,

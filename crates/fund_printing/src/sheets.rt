@@ -1,8 +1,8 @@
 // From a header text and two sheets to the bytes of what is asked.
 ghost use Rattle.std.specs.Prelude.{◌≡◌, ◌≤◌, length, take};
-ghost use Rattle.fund.specs.Sheets.{sheetReading};
+ghost use Rattle.fund.specs.Sheets.{sheet_reading};
 ghost use Rattle.writing.specs.Writing.{Written};
-ghost use Rattle.fund_printing.specs.Printed.{shownTo};
+ghost use Rattle.fund_printing.specs.Printed.{shown_to};
 
 use crate::{Asked, CELLS};
 
@@ -14,7 +14,7 @@ pub fn print_sheets(
     members: &[u8],
     text: &mut [u8],
 ) -> usize
-    ensures written { Written (shownTo asked header.now (sheetReading header.now rates.now members.now) (length text.old))
+    ensures written { Written (shown_to asked header.now (sheet_reading header.now rates.now members.now) (length text.old))
         text.old text.new result }
     ensures upper_bound { (result ≤ length text.new) × (result ≡ length (take result text.new)) }
 {

@@ -15,15 +15,15 @@ use Rattle.input.specs.declared.FileBytes.{FileBytes}
 use Rattle.input.specs.Reads.{Reads, fails, ends, more}
 use Rattle.input.specs.Input.{descriptor, Closed, Extends, Stands, Given, Gives, counted, none, ReadMemory, ReadDescriptor}
 
-pub closed-below : {s : Source} {z fd : ℤ} → s ≡ descriptor z → z ≡ fd → lt_z fd (pos 0) ≡ true → Closed s
-closed-below e same t = (ap (λ (x : Source). x.memory) e, ap (λ (x : Source). lt_z x.fd (pos 0)) e ∙ ap (λ (y : ℤ). lt_z y (pos 0)) same ∙ t)
+pub closed_below : {s : Source} {z fd : ℤ} → s ≡ descriptor z → z ≡ fd → lt_z fd (pos 0) ≡ true → Closed s
+closed_below e same t = (ap (λ (x : Source). x.memory) e, ap (λ (x : Source). lt_z x.fd (pos 0)) e ∙ ap (λ (y : ℤ). lt_z y (pos 0)) same ∙ t)
 
-pub of-descriptor : {z fd : ℤ} {before after : List ℕ} {r : FileBytes} → z ≡ fd → ReadDescriptor z before after r → ReadDescriptor fd before after r
-of-descriptor same d = record { read = d.read; closed = λ t. d.closed (ap (λ (y : ℤ). lt_z y (pos 0)) same ∙ t) }
+pub of_descriptor : {z fd : ℤ} {before after : List ℕ} {r : FileBytes} → z ≡ fd → ReadDescriptor z before after r → ReadDescriptor fd before after r
+of_descriptor same d = record { read = d.read; closed = λ t. d.closed (ap (λ (y : ℤ). lt_z y (pos 0)) same ∙ t) }
 
 -- ---- one read
-pub any-default : (l : List ℕ) (i d e : ℕ) → i < length l → get_or l i d ≡ get_or l i e
-any-default l i d e h = cc (drop-cons l i d h, drop-cons l i e h)
+pub any_default : (l : List ℕ) (i d e : ℕ) → i < length l → get_or l i d ≡ get_or l i e
+any_default l i d e h = cc (drop-cons l i d h, drop-cons l i e h)
 
 pub one_more : (b f : List ℕ) (size from n : ℕ) → from ≡ size → take (size + n) b ≡ take (size + n) f → size + n < length b → from + n < length f →
     take (size + (n + 1)) (set b (size + n) (get_or f (from + n) 0)) ≡ take (size + (n + 1)) f
@@ -45,15 +45,15 @@ module _ {file pieces before after : List ℕ} {size given : ℕ} where
   extends (none g) h = record { long = g.long; kept = g.bytes ∙ sym h }
 
   -- ---- behind it the loop stops, or goes on
-  pub stops-failed : {z : ℤ} → Gives file pieces before size given after z → lt_z z (pos 0) ≡ true → size < length before →
+  pub stops_failed : {z : ℤ} → Gives file pieces before size given after z → lt_z z (pos 0) ≡ true → size < length before →
       Reads file pieces (length before) size size true
-  stops-failed (counted {n} g) t h = absurd (omega (arith, ltb-true n 0 t))
-  stops-failed (none g) t h = fails h g.fails
+  stops_failed (counted {n} g) t h = absurd (omega (arith, ltb-true n 0 t))
+  stops_failed (none g) t h = fails h g.fails
 
-  pub stops-ended : {z : ℤ} → Gives file pieces before size given after z → lt_z z (pos 0) ≡ false → 0 ≡ clamp_len z (length before - size) → size < length before →
+  pub stops_ended : {z : ℤ} → Gives file pieces before size given after z → lt_z z (pos 0) ≡ false → 0 ≡ clamp_len z (length before - size) → size < length before →
       Reads file pieces (length before) size size false
-  stops-ended (counted g) t c h = ends h g.some (omega (arith, g.count, g.some))
-  stops-ended (none g) t c h = absurd (true≢false t)
+  stops_ended (counted g) t c h = ends h g.some (omega (arith, g.count, g.some))
+  stops_ended (none g) t c h = absurd (true≢false t)
 
   pub counts : {z : ℤ} {count : ℕ} → Gives file pieces before size given after z → lt_z z (pos 0) ≡ false → count ≡ clamp_len z (length before - size) →
       Given file pieces before size given after count

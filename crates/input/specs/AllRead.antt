@@ -1,4 +1,4 @@
--- What a file in memory is read as: where no read has failed, its first bytes, as many as the buffer has room for (first-bytes); which read fails (fails-at), that
+-- What a file in memory is read as: where no read has failed, its first bytes, as many as the buffer has room for (first_bytes); which read fails (fails_at), that
 -- a read that fails is not the end (ends_at), and that what is read is determined (one_answer).
 use Rattle.std.specs.Prelude.{◌≡◌, refl, Bool, true, false, List, [], ◌∷◌, ℕ, zero, suc, ◌≤◌, ◌<◌, min, length, take}
 use Rattle.std.proofs.Common.{sym, ◌∙◌, ap, arith}
@@ -11,9 +11,9 @@ module _ {file pieces : List ℕ} {room : ℕ} where
   all_read (ends h p l) a b = omega arith
   all_read (more h p l r) a b = all_read r (omega arith) (omega arith)
 
-  pub fails-at : {size all : ℕ} → Reads file pieces room size all true → (all < room) × (piece_at pieces all ≡ 0)
-  fails-at (fails h z) = (h, z)
-  fails-at (more h p l r) = fails-at r
+  pub fails_at : {size all : ℕ} → Reads file pieces room size all true → (all < room) × (piece_at pieces all ≡ 0)
+  fails_at (fails h z) = (h, z)
+  fails_at (more h p l r) = fails_at r
 
   pub ends_at : {size all : ℕ} → Reads file pieces room size all false → all < room → 0 < piece_at pieces all
   ends_at (full h) k = absurd (omega arith)
@@ -45,6 +45,6 @@ take_within zero (x ∷ l) = simp unary_clauses
 take_within (suc n) [] = simp unary_clauses
 take_within (suc n) (x ∷ l) = simp unary_clauses (ap (λ (r : List ℕ). x ∷ r) (take_within n l))
 
-pub first-bytes : {file pieces : List ℕ} (buffer : List ℕ) {size : ℕ} → Reads file pieces (length buffer) 0 size false → take size buffer ≡ take size file →
+pub first_bytes : {file pieces : List ℕ} (buffer : List ℕ) {size : ℕ} → Reads file pieces (length buffer) 0 size false → take size buffer ≡ take size file →
     take (length buffer) file ≡ take size buffer
-first-bytes {file} buffer {size} r b = sym (take_within (length buffer) file) ∙ ap (λ (n : ℕ). take n file) (sym (all_read r (omega arith) (omega arith))) ∙ sym b
+first_bytes {file} buffer {size} r b = sym (take_within (length buffer) file) ∙ ap (λ (n : ℕ). take n file) (sym (all_read r (omega arith) (omega arith))) ∙ sym b

@@ -4,7 +4,7 @@ use Rattle.std.specs.Prelude.{◌≡◌, true, false, List, ℕ, ◌+◌, ◌≤
 use Rattle.std.specs.Int.Signed.{lt_z}
 use Rattle.input.specs.declared.source.Source.{Source}
 use Rattle.input.specs.declared.FileBytes.{FileBytes}
-use Rattle.input.specs.Reads.{piece_at, givenAt, Reads}
+use Rattle.input.specs.Reads.{piece_at, given_at, Reads}
 
 abbrev pub descriptor : ℤ → Source
 descriptor fd = record { fd = fd; memory = false }
@@ -31,7 +31,7 @@ pub record Stands (file : List ℕ) (given : ℕ) (buffer : List ℕ) (size : �
 pub record Given (file pieces before : List ℕ) (size given : ℕ) (after : List ℕ) (n : ℕ) : Type 0 where
   pub long : length after ≡ length before
   pub some : 0 < piece_at pieces size
-  pub count : n ≡ givenAt file pieces (length before) size
+  pub count : n ≡ given_at file pieces (length before) size
   pub stands : Stands file given after (size + n)
 
 -- One that fails.

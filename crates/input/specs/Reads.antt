@@ -6,8 +6,8 @@ abbrev pub piece_at : List ℕ → ℕ → ℕ
 piece_at pieces at = get_or pieces at 1
 
 -- How many bytes a read gives behind the first `size`, to a buffer of `room` bytes.
-abbrev pub givenAt : List ℕ → List ℕ → ℕ → ℕ → ℕ
-givenAt file pieces room size = min (piece_at pieces size) (min (room - size) (length file - size))
+abbrev pub given_at : List ℕ → List ℕ → ℕ → ℕ → ℕ
+given_at file pieces room size = min (piece_at pieces size) (min (room - size) (length file - size))
 
 -- Read on from `size`, so many bytes are read in all, and the next read has failed or not.
 pub data Reads (file pieces : List ℕ) (room : ℕ) : ℕ → ℕ → Bool → Type 0 where
@@ -15,4 +15,4 @@ pub data Reads (file pieces : List ℕ) (room : ℕ) : ℕ → ℕ → Bool → 
   fails : {size : ℕ} → size < room → piece_at pieces size ≡ 0 → Reads file pieces room size size true
   ends : {size : ℕ} → size < room → 0 < piece_at pieces size → length file ≤ size → Reads file pieces room size size false
   more : {size all : ℕ} {failed : Bool} → size < room → 0 < piece_at pieces size → size < length file →
-      Reads file pieces room (size + givenAt file pieces room size) all failed → Reads file pieces room size all failed
+      Reads file pieces room (size + given_at file pieces room size) all failed → Reads file pieces room size all failed

@@ -1,6 +1,6 @@
--- The rate in force: it is one of the rows (in-force-all); behind rows that are not above the age a row holds from its age until the next
--- row's (row-holds), so that where ages rise the last row that is not above the age is in force (last-holds); there is none, and a member is
--- unmatched, just in an empty table and for an age below the first row (unmatched-just).
+-- The rate in force: it is one of the rows (in_force_all); behind rows that are not above the age a row holds from its age until the next
+-- row's (row_holds), so that where ages rise the last row that is not above the age is in force (last_holds); there is none, and a member is
+-- unmatched, just in an empty table and for an age below the first row (unmatched_just).
 use Rattle.std.specs.Prelude.{◌≡◌, refl, Bool, true, false, List, [], ◌∷◌, ◌++◌, ℕ, ◌≤◌, ◌<◌, leb}
 use Rattle.std.proofs.Common.{◌∙◌, ap, subst, arith, le-leb, leb-false}
 use Rattle.std.proofs.Math.Option.{Option, none, some}
@@ -8,7 +8,7 @@ use Rattle.std.proofs.lemmas.Bool.{lt-leb}
 use Rattle.fund.specs.declared.Rate.{Rate}
 use Rattle.fund.specs.declared.Member.{Member}
 use Rattle.fund.specs.Base.{if◌then◌else◌}
-use Rattle.fund.specs.Folding.{heldUntil, rateInForce}
+use Rattle.fund.specs.Folding.{held_until, rate_in_force}
 use Rattle.fund.specs.Refusals.{unmatched}
 use Rattle.laws.specs.Accepted.{All, all_map}
 use Rattle.laws.specs.Tells.{Tells}
@@ -26,94 +26,94 @@ Rising [] = Unit {0}
 Rising (r ∷ rs) = Below r.age rs × Rising rs
 
 -- ---- one of the rows
-held_all : (P : Rate → Type 0) (held : Option Rate) (rs : List Rate) (age : ℕ) (r : Rate) → (held ≡ some r → P r) → All P rs → heldUntil held rs age ≡ some r → P r
-unfolding heldUntil
+held_all : (P : Rate → Type 0) (held : Option Rate) (rs : List Rate) (age : ℕ) (r : Rate) → (held ≡ some r → P r) → All P rs → held_until held rs age ≡ some r → P r
+unfolding held_until
 held_all P held [] age r h k e = h e
 held_all P held (s ∷ rs) age r h k e = go (leb s.age age) e (held_all P (some s) rs age r here k.1)
   where
     here : some s ≡ some r → P r
     here q = let z : s ≡ r = cc in subst P z k.0
 
-    go : (b : Bool) → (if b then heldUntil (some s) rs age else held) ≡ some r → (heldUntil (some s) rs age ≡ some r → P r) → P r
+    go : (b : Bool) → (if b then held_until (some s) rs age else held) ≡ some r → (held_until (some s) rs age ≡ some r → P r) → P r
     go true w later = later w
     go false w later = h w
 
-pub in-force-all : (P : Rate → Type 0) (rs : List Rate) (age : ℕ) (r : Rate) → All P rs → rateInForce rs age ≡ some r → P r
-unfolding rateInForce
-in-force-all P rs age r k e = held_all P none rs age r (λ q. let z : ◌≡◌ {A = ℕ} 0 1 = cc in absurd (omega arith)) k e
+pub in_force_all : (P : Rate → Type 0) (rs : List Rate) (age : ℕ) (r : Rate) → All P rs → rate_in_force rs age ≡ some r → P r
+unfolding rate_in_force
+in_force_all P rs age r k e = held_all P none rs age r (λ q. let z : ◌≡◌ {A = ℕ} 0 1 = cc in absurd (omega arith)) k e
 
 -- ---- rows above the age, and rows that are not
-pub held-above : (held : Option Rate) (before after : List Rate) (age : ℕ) → Below age after → heldUntil held (before ++ after) age ≡ heldUntil held before age
-unfolding heldUntil
-held-above held [] [] age k = refl
-held-above held [] (r ∷ after) age k = rw (lt-leb r.age age k.0)
-held-above held (r ∷ before) after age k = ap (λ o. if leb r.age age then o else held) (held-above (some r) before after age k)
+pub held_above : (held : Option Rate) (before after : List Rate) (age : ℕ) → Below age after → held_until held (before ++ after) age ≡ held_until held before age
+unfolding held_until
+held_above held [] [] age k = refl
+held_above held [] (r ∷ after) age k = rw (lt-leb r.age age k.0)
+held_above held (r ∷ before) after age k = ap (λ o. if leb r.age age then o else held) (held_above (some r) before after age k)
 
 abbrev pub last_or : Option Rate → List Rate → Option Rate
 last_or held [] = held
 last_or held (r ∷ rs) = last_or (some r) rs
 
-pub held-through : (held : Option Rate) (before after : List Rate) (age : ℕ) → NotAbove before age → heldUntil held (before ++ after) age ≡ heldUntil (last_or held before) after age
-unfolding heldUntil
-held-through held [] after age k = refl
-held-through held (r ∷ before) after age k = rw (le-leb r.age age k.0) (held-through (some r) before after age k.1)
+pub held_through : (held : Option Rate) (before after : List Rate) (age : ℕ) → NotAbove before age → held_until held (before ++ after) age ≡ held_until (last_or held before) after age
+unfolding held_until
+held_through held [] after age k = refl
+held_through held (r ∷ before) after age k = rw (le-leb r.age age k.0) (held_through (some r) before after age k.1)
 
 -- ---- a row holds from its age until the next row's
-pub row-holds : (before after : List Rate) (r : Rate) (age : ℕ) → NotAbove before age → r.age ≤ age → Below age after → rateInForce (before ++ (r ∷ after)) age ≡ some r
-unfolding rateInForce heldUntil
-row-holds before after r age b h k =
-    held-through none before (r ∷ after) age b ∙ rw (le-leb r.age age h) (held-above (some r) [] after age k)
+pub row_holds : (before after : List Rate) (r : Rate) (age : ℕ) → NotAbove before age → r.age ≤ age → Below age after → rate_in_force (before ++ (r ∷ after)) age ≡ some r
+unfolding rate_in_force held_until
+row_holds before after r age b h k =
+    held_through none before (r ∷ after) age b ∙ rw (le-leb r.age age h) (held_above (some r) [] after age k)
 
 all_middle : (P : Rate → Type 0) (before after : List Rate) (r : Rate) → All P (before ++ (r ∷ after)) → P r
 all_middle P [] after r k = k.0
 all_middle P (s ∷ before) after r k = all_middle P before after r k.1
 
 -- where ages rise, the rows before a row are below it
-pub before-below : (before after : List Rate) (r : Rate) → Rising (before ++ (r ∷ after)) → All (λ (s : Rate). s.age < r.age) before
-before-below [] after r k = tt
-before-below (s ∷ before) after r k = (all_middle (λ (t : Rate). s.age < t.age) before after r k.0, before-below before after r k.1)
+pub before_below : (before after : List Rate) (r : Rate) → Rising (before ++ (r ∷ after)) → All (λ (s : Rate). s.age < r.age) before
+before_below [] after r k = tt
+before_below (s ∷ before) after r k = (all_middle (λ (t : Rate). s.age < t.age) before after r k.0, before_below before after r k.1)
 
 -- so in a file the last row that is not above an age is in force
-pub last-holds : (before after : List Rate) (r : Rate) (age : ℕ) → Rising (before ++ (r ∷ after)) → r.age ≤ age → Below age after → rateInForce (before ++ (r ∷ after)) age ≡ some r
-last-holds before after r age k h above = row-holds before after r age (all_map (λ s below. omega arith) before (before-below before after r k)) h above
+pub last_holds : (before after : List Rate) (r : Rate) (age : ℕ) → Rising (before ++ (r ∷ after)) → r.age ≤ age → Below age after → rate_in_force (before ++ (r ∷ after)) age ≡ some r
+last_holds before after r age k h above = row_holds before after r age (all_map (λ s below. omega arith) before (before_below before after r k)) h above
 
 -- ---- none
-pub in-force-none : (rs : List Rate) (age : ℕ) → Below age rs → rateInForce rs age ≡ none
-unfolding rateInForce heldUntil
-in-force-none rs age k = held-above none [] rs age k
+pub in_force_none : (rs : List Rate) (age : ℕ) → Below age rs → rate_in_force rs age ≡ none
+unfolding rate_in_force held_until
+in_force_none rs age k = held_above none [] rs age k
 
 -- 5: the table is empty, or the age is below the first row
 abbrev pub BelowFirst : ℕ → List Rate → Type 0
 BelowFirst age [] = Unit {0}
 BelowFirst age (r ∷ rs) = age < r.age
 
-some-held : (r : Rate) (rs : List Rate) (age : ℕ) → heldUntil (some r) rs age ≡ none → ⊥
-unfolding heldUntil
-some-held r [] age e = let z : ◌≡◌ {A = ℕ} 0 1 = cc in omega arith
-some-held r (s ∷ rs) age e = go (leb s.age age) e (some-held s rs age)
+some_held : (r : Rate) (rs : List Rate) (age : ℕ) → held_until (some r) rs age ≡ none → ⊥
+unfolding held_until
+some_held r [] age e = let z : ◌≡◌ {A = ℕ} 0 1 = cc in omega arith
+some_held r (s ∷ rs) age e = go (leb s.age age) e (some_held s rs age)
   where
-    go : (b : Bool) → (if b then heldUntil (some s) rs age else some r) ≡ none → (heldUntil (some s) rs age ≡ none → ⊥) → ⊥
+    go : (b : Bool) → (if b then held_until (some s) rs age else some r) ≡ none → (held_until (some s) rs age ≡ none → ⊥) → ⊥
     go true w later = later w
     go false w later = let z : ◌≡◌ {A = ℕ} 0 1 = cc in omega arith
 
-none-below-first : (rs : List Rate) (age : ℕ) → rateInForce rs age ≡ none → BelowFirst age rs
-unfolding rateInForce heldUntil
-none-below-first [] age e = tt
-none-below-first (r ∷ rs) age e = go (leb r.age age) refl e
+none_below_first : (rs : List Rate) (age : ℕ) → rate_in_force rs age ≡ none → BelowFirst age rs
+unfolding rate_in_force held_until
+none_below_first [] age e = tt
+none_below_first (r ∷ rs) age e = go (leb r.age age) refl e
   where
-    go : (b : Bool) → leb r.age age ≡ b → (if b then heldUntil (some r) rs age else none) ≡ none → age < r.age
-    go true h w = absurd (some-held r rs age w)
+    go : (b : Bool) → leb r.age age ≡ b → (if b then held_until (some r) rs age else none) ≡ none → age < r.age
+    go true h w = absurd (some_held r rs age w)
     go false h w = leb-false r.age age h
 
-below-first-none : (rs : List Rate) (age : ℕ) → BelowFirst age rs → rateInForce rs age ≡ none
-unfolding rateInForce heldUntil
-below-first-none [] age k = refl
-below-first-none (r ∷ rs) age k = rw (lt-leb r.age age k)
+below_first_none : (rs : List Rate) (age : ℕ) → BelowFirst age rs → rate_in_force rs age ≡ none
+unfolding rate_in_force held_until
+below_first_none [] age k = refl
+below_first_none (r ∷ rs) age k = rw (lt-leb r.age age k)
 
-pub unmatched-just : (rs : List Rate) (m : Member) → Tells (unmatched rs m) (BelowFirst m.age rs)
+pub unmatched_just : (rs : List Rate) (m : Member) → Tells (unmatched rs m) (BelowFirst m.age rs)
 unfolding unmatched
-unmatched-just rs m = record { yes = λ e. go (rateInForce rs m.age) refl e; no = λ k. rw (below-first-none rs m.age k, unmatched) }
+unmatched_just rs m = record { yes = λ e. go (rate_in_force rs m.age) refl e; no = λ k. rw (below_first_none rs m.age k, unmatched) }
   where
-    go : (o : Option Rate) → rateInForce rs m.age ≡ o → elim o [ none ↦ true | some r ↦ false ] ≡ true → BelowFirst m.age rs
-    go none h w = none-below-first rs m.age h
+    go : (o : Option Rate) → rate_in_force rs m.age ≡ o → elim o [ none ↦ true | some r ↦ false ] ≡ true → BelowFirst m.age rs
+    go none h w = none_below_first rs m.age h
     go (some r) h w = let z : ◌≡◌ {A = ℕ} 0 1 = cc in absurd (omega arith)

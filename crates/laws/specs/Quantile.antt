@@ -1,5 +1,5 @@
--- The answer at a level: what a scan of the sums tells of it (quantile-above, quantile-at, quantile-none), and what the answer says of the
--- sums (quantile-says).
+-- The answer at a level: what a scan of the sums tells of it (quantile_above, quantile_at, quantile_none), and what the answer says of the
+-- sums (quantile_says).
 use Rattle.std.specs.Prelude.{◌≡◌, refl, Bool, true, false, List, [], ◌∷◌, ℕ, zero, suc, min, ◌+◌, ◌<◌, ◌≤◌, ℤ, pos, length, take}
 use Rattle.std.proofs.Common.{sym, ◌∙◌, subst, lt-ltb, le-ltb, length-take, get_or-take}
 use Rattle.std.proofs.Math.Path.{ap}
@@ -8,57 +8,57 @@ use native.Mathlib.Omega.{arith}
 use Rattle.std.proofs.Math.ListN.{get_or}
 use Rattle.fund.specs.declared.Quantile.TheVariants.{At, None}
 use Rattle.fund.specs.Base.{if◌then◌else◌, table}
-use Rattle.fund.specs.Limits.{most-level}
+use Rattle.fund.specs.Limits.{most_level}
 use Rattle.fund.specs.Refusals.{first}
-use Rattle.fund.specs.Quantile.{reaches, orNone, quantile, QuantileSays}
-use Rattle.laws.specs.Accepted.{All, first-none}
-use Rattle.laws.specs.Tables.{table-first}
-use Rattle.laws.specs.Valued.{first-none-of, first-some-of}
+use Rattle.fund.specs.Quantile.{reaches, or_none, quantile, QuantileSays}
+use Rattle.laws.specs.Accepted.{All, first_none}
+use Rattle.laws.specs.Tables.{table_first}
+use Rattle.laws.specs.Valued.{first_none_of, first_some_of}
 
 -- the first elements of a list, as a table
-pub take-table : {A : Type 0} (a : A) (n : ℕ) (l : List A) → take n l ≡ table (min n (length l)) (λ k. get_or l k a)
+pub take_table : {A : Type 0} (a : A) (n : ℕ) (l : List A) → take n l ≡ table (min n (length l)) (λ k. get_or l k a)
 unfolding table
-take-table a zero l = let e : min 0 (length l) ≡ 0 = omega arith in rw e refl
-take-table a (suc n) [] = let e : min (suc n) 0 ≡ 0 = omega arith in rw e refl
-take-table a (suc n) (x ∷ l) =
+take_table a zero l = let e : min 0 (length l) ≡ 0 = omega arith in rw e refl
+take_table a (suc n) [] = let e : min (suc n) 0 ≡ 0 = omega arith in rw e refl
+take_table a (suc n) (x ∷ l) =
     let e : suc (min n (length l)) ≡ min (suc n) (suc (length l)) = omega arith in
-    ap (λ t. x ∷ t) (take-table a n l)
-    ∙ sym (table-first (min n (length l)) (λ k. get_or (x ∷ l) k a))
+    ap (λ t. x ∷ t) (take_table a n l)
+    ∙ sym (table_first (min n (length l)) (λ k. get_or (x ∷ l) k a))
     ∙ ap (λ m. table m (λ k. get_or (x ∷ l) k a)) e
 
 -- ---- a scan
 module _ (level X : ℕ) (F : List ℤ) where
-  pub quantile-above : most-level < level → quantile level X F ≡ None
+  pub quantile_above : most_level < level → quantile level X F ≡ None
   unfolding quantile
-  quantile-above l = rw (lt-ltb _ _ l)
+  quantile_above l = rw (lt-ltb _ _ l)
 
-  module _ (l : level ≤ most-level) where
-    pub quantile-at : (x : ℕ) → x ≤ X → x < length F → ((k : ℕ) → k < x → reaches level (get_or F k (pos 0)) ≡ false) → reaches level (get_or F x (pos 0)) ≡ true → quantile level X F ≡ At x
+  module _ (l : level ≤ most_level) where
+    pub quantile_at : (x : ℕ) → x ≤ X → x < length F → ((k : ℕ) → k < x → reaches level (get_or F k (pos 0)) ≡ false) → reaches level (get_or F x (pos 0)) ≡ true → quantile level X F ≡ At x
     unfolding quantile
-    quantile-at x within inside before met =
-        ap (λ (b : Bool). if b then None else orNone (first (reaches level) 0 (take (suc X) F))) (le-ltb _ _ l)
-        ∙ ap (λ t. orNone (first (reaches level) 0 t)) (take-table (pos 0) (suc X) F)
-        ∙ ap orNone (first-some-of (reaches level) 0 (min (suc X) (length F)) x (λ k. get_or F k (pos 0)) (omega arith) before met)
+    quantile_at x within inside before met =
+        ap (λ (b : Bool). if b then None else or_none (first (reaches level) 0 (take (suc X) F))) (le-ltb _ _ l)
+        ∙ ap (λ t. or_none (first (reaches level) 0 t)) (take_table (pos 0) (suc X) F)
+        ∙ ap or_none (first_some_of (reaches level) 0 (min (suc X) (length F)) x (λ k. get_or F k (pos 0)) (omega arith) before met)
         ∙ ap At (let e : 0 + x ≡ x = omega arith in e)
 
-    pub quantile-none : ((k : ℕ) → k ≤ X → k < length F → reaches level (get_or F k (pos 0)) ≡ false) → quantile level X F ≡ None
+    pub quantile_none : ((k : ℕ) → k ≤ X → k < length F → reaches level (get_or F k (pos 0)) ≡ false) → quantile level X F ≡ None
     unfolding quantile
-    quantile-none all =
-        ap (λ (b : Bool). if b then None else orNone (first (reaches level) 0 (take (suc X) F))) (le-ltb _ _ l)
-        ∙ ap (λ t. orNone (first (reaches level) 0 t)) (take-table (pos 0) (suc X) F)
-        ∙ ap orNone (first-none-of (reaches level) 0 (min (suc X) (length F)) (λ k. get_or F k (pos 0)) (λ k g. all k (omega arith) (omega arith)))
+    quantile_none all =
+        ap (λ (b : Bool). if b then None else or_none (first (reaches level) 0 (take (suc X) F))) (le-ltb _ _ l)
+        ∙ ap (λ t. or_none (first (reaches level) 0 t)) (take_table (pos 0) (suc X) F)
+        ∙ ap or_none (first_none_of (reaches level) 0 (min (suc X) (length F)) (λ k. get_or F k (pos 0)) (λ k g. all k (omega arith) (omega arith)))
 
 -- ---- what the answer says
 -- the place that a search found
 record Found {A : Type 0} (met : A → Bool) (at : ℕ) (l : List A) (a : A) (y : ℕ) : Type 0 where
   x : ℕ
-  at-is : y ≡ at + x
+  at_is : y ≡ at + x
   inside : x < length l
-  met-is : met (get_or l x a) ≡ true
+  met_is : met (get_or l x a) ≡ true
   before : (k : ℕ) → k < x → met (get_or l k a) ≡ false
 
-found-later : {A : Type 0} (met : A → Bool) (at : ℕ) (b : A) (rest : List A) (a : A) (y : ℕ) → met b ≡ false → Found met (suc at) rest a y → Found met at (b ∷ rest) a y
-found-later met at b rest a y e f = record { x = suc f.x; at-is = omega (arith, f.at-is); inside = omega (arith, f.inside); met-is = f.met-is; before = earlier }
+found_later : {A : Type 0} (met : A → Bool) (at : ℕ) (b : A) (rest : List A) (a : A) (y : ℕ) → met b ≡ false → Found met (suc at) rest a y → Found met at (b ∷ rest) a y
+found_later met at b rest a y e f = record { x = suc f.x; at_is = omega (arith, f.at_is); inside = omega (arith, f.inside); met_is = f.met_is; before = earlier }
   where
     earlier : (k : ℕ) → k < suc f.x → met (get_or (b ∷ rest) k a) ≡ false
     earlier zero g = e
@@ -70,32 +70,32 @@ found met at [] a y e = let z : ◌≡◌ {A = ℕ} 0 1 = cc in absurd (omega ar
 found met at (b ∷ rest) a y e = go (met b) refl e (found met (suc at) rest a y)
   where
     go : (t : Bool) → met b ≡ t → (if t then some at else first met (suc at) rest) ≡ some y → (first met (suc at) rest ≡ some y → Found met (suc at) rest a y) → Found met at (b ∷ rest) a y
-    go true m h later = let z : at ≡ y = cc in record { x = 0; at-is = omega (arith, z); inside = omega arith; met-is = m; before = λ k g. absurd (omega arith) }
-    go false m h later = found-later met at b rest a y m (later h)
+    go true m h later = let z : at ≡ y = cc in record { x = 0; at_is = omega (arith, z); inside = omega arith; met_is = m; before = λ k g. absurd (omega arith) }
+    go false m h later = found_later met at b rest a y m (later h)
 
-all-at : {A : Type 0} (P : A → Type 0) (l : List A) (a : A) → All P l → (k : ℕ) → k < length l → P (get_or l k a)
-all-at P [] a h k g = absurd (omega arith)
-all-at P (b ∷ rest) a h zero g = h.0
-all-at P (b ∷ rest) a h (suc k) g = all-at P rest a h.1 k (omega arith)
+all_at : {A : Type 0} (P : A → Type 0) (l : List A) (a : A) → All P l → (k : ℕ) → k < length l → P (get_or l k a)
+all_at P [] a h k g = absurd (omega arith)
+all_at P (b ∷ rest) a h zero g = h.0
+all_at P (b ∷ rest) a h (suc k) g = all_at P rest a h.1 k (omega arith)
 
-pub quantile-says : (level X : ℕ) (F : List ℤ) → level ≤ most-level → X < length F → QuantileSays level X F (quantile level X F)
+pub quantile_says : (level X : ℕ) (F : List ℤ) → level ≤ most_level → X < length F → QuantileSays level X F (quantile level X F)
 unfolding quantile
-quantile-says level X F l long =
-    subst (λ (b : Bool). QuantileSays level X F (if b then None else orNone (first (reaches level) 0 (take (suc X) F)))) (sym (le-ltb _ _ l)) (go (first (reaches level) 0 (take (suc X) F)) refl)
+quantile_says level X F l long =
+    subst (λ (b : Bool). QuantileSays level X F (if b then None else or_none (first (reaches level) 0 (take (suc X) F)))) (sym (le-ltb _ _ l)) (go (first (reaches level) 0 (take (suc X) F)) refl)
   where
     at_front : (y : ℕ) → y ≤ X → get_or (take (suc X) F) y (pos 0) ≡ get_or F y (pos 0)
     at_front y g = get_or-take (suc X) F y (pos 0) (omega arith)
 
-    go : (o : Option ℕ) → first (reaches level) 0 (take (suc X) F) ≡ o → QuantileSays level X F (orNone o)
+    go : (o : Option ℕ) → first (reaches level) 0 (take (suc X) F) ≡ o → QuantileSays level X F (or_none o)
     go none e = λ y g.
         ap (reaches level) (sym (at_front y g))
-        ∙ all-at (λ z. reaches level z ≡ false) (take (suc X) F) (pos 0) (first-none (reaches level) 0 (take (suc X) F) e) y (omega (arith, length-take (suc X) F))
+        ∙ all_at (λ z. reaches level z ≡ false) (take (suc X) F) (pos 0) (first_none (reaches level) 0 (take (suc X) F) e) y (omega (arith, length-take (suc X) F))
     go (some y) e =
         let s = found (reaches level) 0 (take (suc X) F) (pos 0) y e in
-        let same : y ≡ s.x = omega (arith, s.at-is) in
+        let same : y ≡ s.x = omega (arith, s.at_is) in
         let within : y ≤ X = omega (arith, s.inside, length-take (suc X) F, same) in
         record {
           inside = within;
-          reached = ap (reaches level) (sym (at_front y within)) ∙ ap (λ k. reaches level (get_or (take (suc X) F) k (pos 0))) same ∙ s.met-is;
+          reached = ap (reaches level) (sym (at_front y within)) ∙ ap (λ k. reaches level (get_or (take (suc X) F) k (pos 0))) same ∙ s.met_is;
           before = λ k g. ap (reaches level) (sym (at_front k (omega arith))) ∙ s.before k (omega arith);
         }

@@ -10,30 +10,30 @@ use Rattle.fund.specs.declared.ModelPoint.{ModelPoint}
 use Rattle.fund.specs.Answer.{lent}
 
 -- A row whose numbers are all 0.
-abbrev pub blankRate : Rate
-blankRate = record { age = 0; q = 0; i = 0 }
+abbrev pub blank_rate : Rate
+blank_rate = record { age = 0; q = 0; i = 0 }
 
-abbrev pub blankMember : Member
-blankMember = record { age = 0; group = 0; d = 0; e = 0; lives = 0 }
+abbrev pub blank_member : Member
+blank_member = record { age = 0; group = 0; d = 0; e = 0; lives = 0 }
 
-abbrev pub blankLife : Life
-blankLife = record { group = 0; q = 0; i = 0; d = 0; e = 0 }
+abbrev pub blank_life : Life
+blank_life = record { group = 0; q = 0; i = 0; d = 0; e = 0 }
 
-abbrev pub blankPoint : ModelPoint
-blankPoint = record { life = blankLife; lives = 0 }
+abbrev pub blank_point : ModelPoint
+blank_point = record { life = blank_life; lives = 0 }
 
-pub rows-length : {A : Type 0} (blank : A) (n : ℕ) (rows : List A) → length rows ≤ n → length (lent blank n rows) ≡ n
+pub rows_length : {A : Type 0} (blank : A) (n : ℕ) (rows : List A) → length rows ≤ n → length (lent blank n rows) ≡ n
 unfolding lent
-rows-length blank n rows h =
+rows_length blank n rows h =
     omega (arith, length-append rows (replicate (n - length rows) blank), length-replicate (n - length rows) blank)
 
 put : {A : Type 0} (blank x : A) (rows : List A) (k : ℕ) → set (rows ++ replicate (suc k) blank) (length rows) x ≡ (rows ++ (x ∷ [])) ++ replicate k blank
 put blank x [] k = refl
 put blank x (r ∷ rows) k = ap (λ l. r ∷ l) (put blank x rows k)
 
-pub rows-put : {A : Type 0} (blank x : A) (n : ℕ) (rows : List A) → length rows < n → set (lent blank n rows) (length rows) x ≡ lent blank n (rows ++ (x ∷ []))
+pub rows_put : {A : Type 0} (blank x : A) (n : ℕ) (rows : List A) → length rows < n → set (lent blank n rows) (length rows) x ≡ lent blank n (rows ++ (x ∷ []))
 unfolding lent
-rows-put blank x n rows h =
+rows_put blank x n rows h =
     let e : n - length rows ≡ suc (n - length (rows ++ (x ∷ []))) = omega (arith, length-append rows (x ∷ [])) in
     rw e (put blank x rows (n - length (rows ++ (x ∷ []))))
 

@@ -3,20 +3,20 @@ use Rattle.std.specs.Prelude.{◌≡◌, List, [], ◌∷◌, ◌++◌, ℕ, ◌
 use Rattle.std.proofs.Common.{sym, ◌∙◌, ap, zero-add, add_assoc}
 use Rattle.std.proofs.Math.IntN.{+ℤ_idl, +ℤ_assoc}
 use Rattle.fund.specs.Base.{if◌then◌else◌}
-use Rattle.fund.specs.Transform.{Term, sumD, sumH}
+use Rattle.fund.specs.Transform.{Term, sum_d, sum_h}
 
-pub sumD-append : (k : ℕ) (ts us : List Term) → sumD k (ts ++ us) ≡ sumD k ts +ℤ sumD k us
-unfolding sumD
-sumD-append k [] us = sym (+ℤ_idl (sumD k us))
-sumD-append k (t ∷ ts) us = ap (λ z. here +ℤ z) (sumD-append k ts us) ∙ sym (+ℤ_assoc here (sumD k ts) (sumD k us))
+pub sum_d_append : (k : ℕ) (ts us : List Term) → sum_d k (ts ++ us) ≡ sum_d k ts +ℤ sum_d k us
+unfolding sum_d
+sum_d_append k [] us = sym (+ℤ_idl (sum_d k us))
+sum_d_append k (t ∷ ts) us = ap (λ z. here +ℤ z) (sum_d_append k ts us) ∙ sym (+ℤ_assoc here (sum_d k ts) (sum_d k us))
   where
     here : ℤ
-    here = if eqb t.place k then t.toD else pos 0
+    here = if eqb t.place k then t.to_d else pos 0
 
-pub sumH-append : (k : ℕ) (ts us : List Term) → sumH k (ts ++ us) ≡ sumH k ts + sumH k us
-unfolding sumH
-sumH-append k [] us = sym (zero-add (sumH k us))
-sumH-append k (t ∷ ts) us = ap (λ z. here + z) (sumH-append k ts us) ∙ sym (add_assoc here (sumH k ts) (sumH k us))
+pub sum_h_append : (k : ℕ) (ts us : List Term) → sum_h k (ts ++ us) ≡ sum_h k ts + sum_h k us
+unfolding sum_h
+sum_h_append k [] us = sym (zero-add (sum_h k us))
+sum_h_append k (t ∷ ts) us = ap (λ z. here + z) (sum_h_append k ts us) ∙ sym (add_assoc here (sum_h k ts) (sum_h k us))
   where
     here : ℕ
-    here = if eqb t.place k then t.toH else 0
+    here = if eqb t.place k then t.to_h else 0

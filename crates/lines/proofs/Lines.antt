@@ -15,14 +15,14 @@ use Rattle.fund.specs.Lines.{Line as FundLine, begun, lines_from, lines}
 use Rattle.fund.specs.Spelling.{behind, numbers, spelled}
 use Rattle.fund.specs.Answer.{empty, line_at}
 use Rattle.spelling.specs.Text.{before}
-use Rattle.spelling.proofs.Texts.{before-within}
+use Rattle.spelling.proofs.Texts.{before_within}
 use Rattle.lines.specs.declared.line.Line.{Line}
-use Rattle.lines.specs.Lines.{linesAt, lineIn, NextLine, Passed}
+use Rattle.lines.specs.Lines.{lines_at, line_in, NextLine, Passed}
 
-lines-first : (at m : ℕ) (s : List ℕ) → 0 < length s → m ≡ at + suc (before 10 s) → lines_from at s ≡ record { start = at; text = take (before 10 s) s; ended = ltb (before 10 s) (length s) } ∷ lines_from m (drop (suc (before 10 s)) s)
+lines_first : (at m : ℕ) (s : List ℕ) → 0 < length s → m ≡ at + suc (before 10 s) → lines_from at s ≡ record { start = at; text = take (before 10 s) s; ended = ltb (before 10 s) (length s) } ∷ lines_from m (drop (suc (before 10 s)) s)
 unfolding before lines_from begun
-lines-first at m [] h e = absurd (omega arith)
-lines-first at m (b ∷ []) h e = go (eqb b 10) e
+lines_first at m [] h e = absurd (omega arith)
+lines_first at m (b ∷ []) h e = go (eqb b 10) e
   where
     go
         : (t : Bool)
@@ -31,7 +31,7 @@ lines-first at m (b ∷ []) h e = go (eqb b 10) e
         ≡ record { start = at; text = take (if t then 0 else 1) (b ∷ []); ended = ltb (if t then 0 else 1) 1 } ∷ lines_from m (drop (suc (if t then 0 else 1)) (b ∷ []))
     go true w = refl
     go false w = refl
-lines-first at m (b ∷ x ∷ s) h e = go (eqb b 10) e (lines-first (suc at) m (x ∷ s) (omega arith))
+lines_first at m (b ∷ x ∷ s) h e = go (eqb b 10) e (lines_first (suc at) m (x ∷ s) (omega arith))
   where
     go
         : (t : Bool)
@@ -43,29 +43,29 @@ lines-first at m (b ∷ x ∷ s) h e = go (eqb b 10) e (lines-first (suc at) m (
     go false w ih = rw (ih (omega arith), leb-suc-suc (suc (before 10 (x ∷ s))) (suc (length s)))
 
 -- Where bytes are left there is a line.
-pub line-left : (file : List ℕ) (at : ℕ) → at < length file → (l : FundLine) × ((ls : List FundLine) × (linesAt file at ≡ l ∷ ls))
-line-left file at h = (_, (_, lines-first at (at + suc (before 10 (drop at file))) (drop at file) (omega (arith, length-drop at file)) refl))
+pub line_left : (file : List ℕ) (at : ℕ) → at < length file → (l : FundLine) × ((ls : List FundLine) × (lines_at file at ≡ l ∷ ls))
+line_left file at h = (_, (_, lines_first at (at + suc (before 10 (drop at file))) (drop at file) (omega (arith, length-drop at file)) refl))
 
 -- The line at a place whose next line feed, or the file's end, is `end`.
 module _ (file : List ℕ) (at end : ℕ) (e : end ≡ at + before 10 (drop at file)) (h : at < length file) where
   size : before 10 (drop at file) ≡ end - at
   size = omega arith
 
-  behind-it : drop (suc (before 10 (drop at file))) (drop at file) ≡ drop (end + 1) file
-  behind-it =
+  behind_it : drop (suc (before 10 (drop at file))) (drop at file) ≡ drop (end + 1) file
+  behind_it =
       let w : at + suc (before 10 (drop at file)) ≡ end + 1 = omega arith in
       drop-drop (suc (before 10 (drop at file))) at file ∙ ap (λ n. drop n file) w
 
-  end-inside : end ≤ length file
-  end-inside = omega (arith, before-within 10 (drop at file), length-drop at file)
+  end_inside : end ≤ length file
+  end_inside = omega (arith, before_within 10 (drop at file), length-drop at file)
 
-  split : linesAt file at ≡ record { start = at; text = take (end - at) (drop at file); ended = ltb (before 10 (drop at file)) (length (drop at file)) } ∷ lines_from (end + 1) (drop (end + 1) file)
+  split : lines_at file at ≡ record { start = at; text = take (end - at) (drop at file); ended = ltb (before 10 (drop at file)) (length (drop at file)) } ∷ lines_from (end + 1) (drop (end + 1) file)
   split =
-      lines-first at (end + 1) (drop at file) (omega (arith, length-drop at file)) (omega arith)
-      ∙ rw (behind-it, size)
+      lines_first at (end + 1) (drop at file) (omega (arith, length-drop at file)) (omega arith)
+      ∙ rw (behind_it, size)
 
-  pub line-ended : end < length file → NextLine file at (record { start = at; end = end; next = end + 1 })
-  line-ended g =
+  pub line_ended : end < length file → NextLine file at (record { start = at; end = end; next = end + 1 })
+  line_ended g =
       let w : before 10 (drop at file) < length (drop at file) = omega (arith, length-drop at file) in
       record {
         within = record { ordered = omega arith; inside = omega arith };
@@ -74,14 +74,14 @@ module _ (file : List ℕ) (at end : ℕ) (e : end ≡ at + before 10 (drop at f
         first = split ∙ rw (lt-ltb (before 10 (drop at file)) (length (drop at file)) w, lt-ltb end (end + 1) (omega arith));
       }
 
-  pub line-open : length file ≤ end → NextLine file at (record { start = at; end = end; next = end })
+  pub line_open : length file ≤ end → NextLine file at (record { start = at; end = end; next = end })
   unfolding lines_from
-  line-open g =
+  line_open g =
       let w : length (drop at file) ≤ before 10 (drop at file) = omega (arith, length-drop at file) in
       record {
-        within = record { ordered = omega arith; inside = end-inside };
+        within = record { ordered = omega arith; inside = end_inside };
         later = omega arith;
-        inside = end-inside;
+        inside = end_inside;
         first =
             split
             ∙ rw (
@@ -93,46 +93,46 @@ module _ (file : List ℕ) (at end : ℕ) (e : end ≡ at + before 10 (drop at f
       }
 
 -- What is handed back: the line that is first of those left, or nothing.
-getD-first : {A B : Type 0} (f : A → B) (xs : List A) (n : ℕ) (l : A) (ls : List A) (d : B) → drop n xs ≡ l ∷ ls → get_or (map f xs) n d ≡ f l
-getD-first f [] zero l ls d e = let z : ◌≡◌ {A = ℕ} 0 1 = cc in absurd (omega arith)
-getD-first f [] (suc n) l ls d e = let z : ◌≡◌ {A = ℕ} 0 1 = cc in absurd (omega arith)
-getD-first f (x ∷ xs) zero l ls d e = let z : x ≡ l = cc in ap f z
-getD-first f (x ∷ xs) (suc n) l ls d e = getD-first f xs n l ls d e
+get_or_first : {A B : Type 0} (f : A → B) (xs : List A) (n : ℕ) (l : A) (ls : List A) (d : B) → drop n xs ≡ l ∷ ls → get_or (map f xs) n d ≡ f l
+get_or_first f [] zero l ls d e = let z : ◌≡◌ {A = ℕ} 0 1 = cc in absurd (omega arith)
+get_or_first f [] (suc n) l ls d e = let z : ◌≡◌ {A = ℕ} 0 1 = cc in absurd (omega arith)
+get_or_first f (x ∷ xs) zero l ls d e = let z : x ≡ l = cc in ap f z
+get_or_first f (x ∷ xs) (suc n) l ls d e = get_or_first f xs n l ls d e
 
-getD-none : {A B : Type 0} (f : A → B) (xs : List A) (n : ℕ) (d : B) → drop n xs ≡ [] → get_or (map f xs) n d ≡ d
-getD-none f [] zero d e = refl
-getD-none f [] (suc n) d e = refl
-getD-none f (x ∷ xs) zero d e = let z : ◌≡◌ {A = ℕ} 0 1 = cc in absurd (omega arith)
-getD-none f (x ∷ xs) (suc n) d e = getD-none f xs n d e
+get_or_none : {A B : Type 0} (f : A → B) (xs : List A) (n : ℕ) (d : B) → drop n xs ≡ [] → get_or (map f xs) n d ≡ d
+get_or_none f [] zero d e = refl
+get_or_none f [] (suc n) d e = refl
+get_or_none f (x ∷ xs) zero d e = let z : ◌≡◌ {A = ℕ} 0 1 = cc in absurd (omega arith)
+get_or_none f (x ∷ xs) (suc n) d e = get_or_none f xs n d e
 
 module _ (file : List ℕ) (passed at : ℕ) (p : Passed file passed at) where
-  pub line-there : (before : ℕ) (l : Line) → before ≡ passed → NextLine file at l → record { start = l.start; size = l.end - l.start } ≡ line_at file (suc before)
+  pub line_there : (before : ℕ) (l : Line) → before ≡ passed → NextLine file at l → record { start = l.start; size = l.end - l.start } ≡ line_at file (suc before)
   unfolding line_at
-  line-there before l e n =
+  line_there before l e n =
       rw e
       (sym
-      (getD-first (λ (x : FundLine). record { start = x.start; size = length x.text }) (lines file) passed (lineIn file l) (linesAt file l.next) empty (p.left ∙ n.first)
+      (get_or_first (λ (x : FundLine). record { start = x.start; size = length x.text }) (lines file) passed (line_in file l) (lines_at file l.next) empty (p.left ∙ n.first)
       ∙ ap (λ (m : ℕ). record { start = l.start; size = m }) (length-take-le (l.end - l.start) (drop l.start file) (omega (arith, length-drop l.start file, n.within.inside)))))
 
-  pub line-missing : (before : ℕ) → passed ≤ before → length file ≤ at → empty ≡ line_at file (suc before)
+  pub line_missing : (before : ℕ) → passed ≤ before → length file ≤ at → empty ≡ line_at file (suc before)
   unfolding line_at lines_from
-  line-missing before more h =
+  line_missing before more h =
       let e : passed + (before - passed) ≡ before = omega arith in
       let none_left : drop passed (lines file) ≡ [] = p.left ∙ rw (drop_of_length-le file h) in
-      sym (getD-none (λ (x : FundLine). record { start = x.start; size = length x.text }) (lines file) before empty (sym (drop-drop (before - passed) passed (lines file) ∙ ap (λ n. drop n (lines file)) e) ∙ ap (drop (before - passed)) none_left ∙ drop_of_length-le [] {i = before - passed} (omega arith)))
+      sym (get_or_none (λ (x : FundLine). record { start = x.start; size = length x.text }) (lines file) before empty (sym (drop-drop (before - passed) passed (lines file) ∙ ap (λ n. drop n (lines file)) e) ∙ ap (drop (before - passed)) none_left ∙ drop_of_length-le [] {i = before - passed} (omega arith)))
 
-  pub passed-next : (l : Line) → NextLine file at l → Passed file (passed + 1) l.next
-  passed-next l n = record { left = sym (drop-drop 1 passed (lines file)) ∙ ap (drop 1) (p.left ∙ n.first) }
+  pub passed_next : (l : Line) → NextLine file at l → Passed file (passed + 1) l.next
+  passed_next l n = record { left = sym (drop-drop 1 passed (lines file)) ∙ ap (drop 1) (p.left ∙ n.first) }
 
 pub rest_all : (k : ℕ) (s : List ℕ) → take (length s - k) (drop k s) ≡ drop k s
 rest_all k s = take_all (length s - k) (drop k s) (omega (arith, length-drop k s))
 
 -- A key that begins a text is not longer.
-pub behind-length : (key text rest : List ℕ) → behind key text ≡ some rest → length key ≤ length text
+pub behind_length : (key text rest : List ℕ) → behind key text ≡ some rest → length key ≤ length text
 unfolding behind
-behind-length [] text rest e = omega arith
-behind-length (k ∷ key) [] rest e = let z : ◌≡◌ {A = ℕ} 0 1 = cc in absurd (omega arith)
-behind-length (k ∷ key) (b ∷ text) rest e = go (eqb k b) e (behind-length key text rest)
+behind_length [] text rest e = omega arith
+behind_length (k ∷ key) [] rest e = let z : ◌≡◌ {A = ℕ} 0 1 = cc in absurd (omega arith)
+behind_length (k ∷ key) (b ∷ text) rest e = go (eqb k b) e (behind_length key text rest)
   where
     go : (t : Bool) → (if t then behind key text else none) ≡ some rest → (behind key text ≡ some rest → length key ≤ length text) → suc (length key) ≤ suc (length text)
     go true w ih = omega (arith, ih w)
@@ -140,14 +140,14 @@ behind-length (k ∷ key) (b ∷ text) rest e = go (eqb k b) e (behind-length ke
 
 -- How a line of a file is spelled.
 module _ (file : List ℕ) (l : Line) (key : List ℕ) (count : ℕ) where
-  pub spelled-open : l.next ≤ l.end → spelled key count (lineIn file l) ≡ none
+  pub spelled_open : l.next ≤ l.end → spelled key count (line_in file l) ≡ none
   unfolding spelled
-  spelled-open h = rw (le-ltb l.end l.next h)
+  spelled_open h = rw (le-ltb l.end l.next h)
 
-  pub spelled-not : l.end < l.next → behind key (lineIn file l).text ≡ none → spelled key count (lineIn file l) ≡ none
+  pub spelled_not : l.end < l.next → behind key (line_in file l).text ≡ none → spelled key count (line_in file l) ≡ none
   unfolding spelled
-  spelled-not h e = rw (lt-ltb l.end l.next h) (rw (e, spelled))
+  spelled_not h e = rw (lt-ltb l.end l.next h) (rw (e, spelled))
 
-  pub spelled-behind : (rest : List ℕ) → l.end < l.next → behind key (lineIn file l).text ≡ some rest → spelled key count (lineIn file l) ≡ numbers count rest
+  pub spelled_behind : (rest : List ℕ) → l.end < l.next → behind key (line_in file l).text ≡ some rest → spelled key count (line_in file l) ≡ numbers count rest
   unfolding spelled
-  spelled-behind rest h e = rw (lt-ltb l.end l.next h) (rw (e, spelled))
+  spelled_behind rest h e = rw (lt-ltb l.end l.next h) (rw (e, spelled))

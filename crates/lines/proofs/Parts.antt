@@ -7,23 +7,23 @@ use native.Mathlib.Omega.{arith}
 use Rattle.fund.specs.declared.Refusal.{Refusal}
 use Rattle.fund.specs.declared.Verdict.{Verdict}
 use Rattle.fund.specs.declared.Verdict.TheVariants.{Accepted, Refused}
-use Rattle.fund.specs.Answer.{Part as FundPart, empty, namesLine, line_at, part}
+use Rattle.fund.specs.Answer.{Part as FundPart, empty, names_line, line_at, part}
 use Rattle.lines.specs.declared.part.Part.{Part}
 use Rattle.lines.specs.Part.{Spans}
 
 module _ (file : List ℕ) (p : Part) where
-  pub spans-none : (is : FundPart) → empty ≡ is → p ≡ record { start = 0; end = 0 } → Spans file is p
-  spans-none is e z = subst (λ (x : Part). Spans file is x) (sym z) (record { ordered = omega arith; inside = omega arith; same = e })
+  pub spans_none : (is : FundPart) → empty ≡ is → p ≡ record { start = 0; end = 0 } → Spans file is p
+  spans_none is e z = subst (λ (x : Part). Spans file is x) (sym z) (record { ordered = omega arith; inside = omega arith; same = e })
 
-  pub spans-accepted : (v : Verdict) → v ≡ Accepted → p ≡ record { start = 0; end = 0 } → Spans file (part file v) p
+  pub spans_accepted : (v : Verdict) → v ≡ Accepted → p ≡ record { start = 0; end = 0 } → Spans file (part file v) p
   unfolding part
-  spans-accepted v e z = spans-none (part file v) (sym (ap (part file) e)) z
+  spans_accepted v e z = spans_none (part file v) (sym (ap (part file) e)) z
 
   module _ (v : Verdict) (why : Refusal) (place : ℕ) (e : v ≡ Refused why place) where
-    pub spans-line : namesLine why ≡ true → Spans file (line_at file place) p → Spans file (part file v) p
+    pub spans_line : names_line why ≡ true → Spans file (line_at file place) p → Spans file (part file v) p
     unfolding part
-    spans-line named s = subst (λ (is : FundPart). Spans file is p) (sym (ap (part file) e ∙ rw named)) s
+    spans_line named s = subst (λ (is : FundPart). Spans file is p) (sym (ap (part file) e ∙ rw named)) s
 
-    pub spans-no-line : namesLine why ≡ false → p ≡ record { start = 0; end = 0 } → Spans file (part file v) p
+    pub spans_no_line : names_line why ≡ false → p ≡ record { start = 0; end = 0 } → Spans file (part file v) p
     unfolding part
-    spans-no-line unnamed z = spans-none (part file v) (sym (ap (part file) e ∙ rw unnamed)) z
+    spans_no_line unnamed z = spans_none (part file v) (sym (ap (part file) e ∙ rw unnamed)) z

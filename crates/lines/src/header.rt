@@ -1,10 +1,10 @@
 // The header lines, in their order.
 ghost use Rattle.std.specs.Prelude.{◌≡◌, ◌&&◌, ◌<◌, length};
 ghost use Rattle.fund.specs.Spelling.{spelled};
-ghost use Rattle.fund.specs.Reading.{between, inRanges, headerLines};
-ghost use Rattle.spelling.specs.Text.{numbersIn};
-ghost use Rattle.lines.specs.Lines.{lineIn, LineInside};
-ghost use Rattle.lines.specs.Header.{headerLine, numbersOf, lineNumbers, HeaderStepped, HeaderRead};
+ghost use Rattle.fund.specs.Reading.{between, in_ranges, header_lines};
+ghost use Rattle.spelling.specs.Text.{numbers_in};
+ghost use Rattle.lines.specs.Lines.{line_in, LineInside};
+ghost use Rattle.lines.specs.Header.{header_line, numbers_of, line_numbers, HeaderStepped, HeaderRead};
 
 use crate::line;
 use crate::line::Line;
@@ -28,8 +28,8 @@ pub enum Header {
 // The numbers of the header line k.
 fn numbers_at(file: &[u8], line: Line, k: usize) -> Numbers
     requires line_inside { LineInside file.now line }
-    requires k_in_bounds { k < length headerLines }
-    ensures { numbersIn (numbersOf k) result ≡ spelled (headerLine k).key (numbersOf k) (lineIn file.now line) }
+    requires k_in_bounds { k < length header_lines }
+    ensures { numbers_in (numbers_of k) result ≡ spelled (header_line k).key (numbers_of k) (line_in file.now line) }
 {
     match k {
         0 => line::spelled(file, line, b"rates=", 1),
@@ -51,8 +51,8 @@ fn both_within(least: u64, most: u64, first: u64, second: u64) -> bool
 
 // Whether the numbers of the header line k are in their ranges. The line of the frequencies has two, every other one.
 fn header_in_range(k: usize, first: u64, second: u64) -> bool
-    requires { k < length headerLines }
-    ensures { result ≡ inRanges (headerLine k).ranges (lineNumbers k first second) }
+    requires { k < length header_lines }
+    ensures { result ≡ in_ranges (header_line k).ranges (line_numbers k first second) }
 {
     match k {
         0 | 1 => rows::within(Fund::LEAST_EDITION, Fund::MOST_EDITION, first),
@@ -66,7 +66,7 @@ fn header_in_range(k: usize, first: u64, second: u64) -> bool
 
 // The header line k, which starts at `at`: form before range.
 fn header_step(file: &[u8], at: usize, k: usize) -> HeaderStep
-    requires { k < length headerLines }
+    requires { k < length header_lines }
     ensures { HeaderStepped file.now k at result }
 {
     if file.len() <= at {

@@ -1,8 +1,8 @@
 // The lines of a file, one after the other, and how a line is spelled.
 ghost use Rattle.std.specs.Prelude.{◌≡◌, ◌≤◌, ◌<◌, length};
 ghost use Rattle.fund.specs.Spelling.{spelled};
-ghost use Rattle.spelling.specs.Text.{numbersIn};
-ghost use Rattle.lines.specs.Lines.{lineIn, LineInside, NextLine};
+ghost use Rattle.spelling.specs.Text.{numbers_in};
+ghost use Rattle.lines.specs.Lines.{line_in, LineInside, NextLine};
 
 use spelling::Numbers;
 
@@ -63,7 +63,7 @@ pub(crate) fn next_line(file: &[u8], at: usize) -> Line
 pub(crate) fn spelled(file: &[u8], line: Line, key: &[u8], count: usize) -> Numbers
     requires line_inside { LineInside file.now line }
     requires count_bound { count ≤ 5 }
-    ensures { numbersIn count result ≡ spelled key.now count (lineIn file.now line) }
+    ensures { numbers_in count result ≡ spelled key.now count (line_in file.now line) }
 {
     let start = line.start;
     let end = line.end;

@@ -1,6 +1,6 @@
 // The part of a file's bytes that the host is handed with a verdict.
 ghost use Rattle.std.specs.Prelude.{◌≡◌, suc};
-ghost use Rattle.fund.specs.Answer.{namesLine, line_at, part};
+ghost use Rattle.fund.specs.Answer.{names_line, line_at, part};
 ghost use Rattle.lines.specs.Part.{Spans};
 
 use crate::line;
@@ -20,7 +20,7 @@ fn empty() -> Part
 }
 
 fn names_line(why: Refusal) -> bool
-    ensures { result ≡ namesLine why }
+    ensures { result ≡ names_line why }
 {
     match why {
         Refusal::Form | Refusal::Range | Refusal::Unmatched | Refusal::Half => true,

@@ -7,10 +7,10 @@ use Rattle.fund.specs.declared.Verdict.TheVariants.{Accepted}
 use Rattle.fund.specs.Folding.{point}
 use Rattle.fund.specs.Refusals.{first, unmatched, half_line, refuse}
 use Rattle.matching.specs.declared.table.Matched.{Matched}
-use Rattle.matching.specs.Matching.{withPoints}
+use Rattle.matching.specs.Matching.{with_points}
 
 -- 5, then 6, each over all members, or the model points.
-unfoldable pub byMember : List Rate → List Member → ℕ → Matched
-byMember rates members at =
+unfoldable pub by_member : List Rate → List Member → ℕ → Matched
+by_member rates members at =
     let ps = map (point rates) members in
-    withPoints ps (refuse Unmatched (first (unmatched rates) at members) (refuse Half (first half_line at ps) Accepted))
+    with_points ps (refuse Unmatched (first (unmatched rates) at members) (refuse Half (first half_line at ps) Accepted))

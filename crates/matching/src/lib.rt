@@ -4,7 +4,7 @@ mod points;
 mod table;
 
 ghost use Rattle.std.specs.Prelude.{◌≡◌, suc, ltb};
-ghost use Rattle.matching.specs.Matching.{matchedRows};
+ghost use Rattle.matching.specs.Matching.{matched_rows};
 
 use fund::{Fund, Refusal, Verdict};
 use rows::FileRead;
@@ -22,7 +22,7 @@ fn is_above(deductible: u64, horizon: u64) -> bool
 
 // What was read, matched: the first `rated` rows of one table and the first `enrolled` of the other, with the header.
 pub fn matched(found: FileRead) -> Matched
-    ensures { result ≡ matchedRows found }
+    ensures { result ≡ matched_rows found }
 {
     if Fund::RATE_ROWS < found.rated {
         return table::without_points(Verdict::Refused(Refusal::Range, 0));

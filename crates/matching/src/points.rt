@@ -2,9 +2,9 @@
 ghost use Rattle.std.specs.Prelude.{◌≡◌, ◌+◌, ◌^◌, ◌≤◌, ◌<◌, eqb, take};
 ghost use Rattle.std.proofs.Math.Option.{some};
 ghost use Rattle.fund.specs.Base.{if◌then◌else◌};
-ghost use Rattle.fund.specs.Limits.{most-rates, most-members};
+ghost use Rattle.fund.specs.Limits.{most_rates, most_members};
 ghost use Rattle.fund.specs.Folding.{folded as foldedOf};
-ghost use Rattle.matching.specs.Points.{byMember};
+ghost use Rattle.matching.specs.Points.{by_member};
 
 use crate::table::Matched;
 use crate::{half, table};
@@ -37,8 +37,8 @@ fn folded(r: Rate, m: Member) -> Life
 // row j is above it, or there is none. `line` is the line of the first member, and `half_at` the place of the first line of 6, 0 while
 // there is none.
 pub(crate) fn by_member(found: FileRead, line: u64) -> Matched
-    requires { (found.rated ≤ most-rates) × (found.enrolled ≤ most-members) × (0 < line) × (line + found.enrolled < 2 ^ 64) }
-    ensures { result ≡ byMember (take found.rated found.rates) (take found.enrolled found.members) line }
+    requires { (found.rated ≤ most_rates) × (found.enrolled ≤ most_members) × (0 < line) × (line + found.enrolled < 2 ^ 64) }
+    ensures { result ≡ by_member (take found.rated found.rates) (take found.enrolled found.members) line }
 {
     let mut matched = table::without_points(Verdict::Accepted);
     let mut half_at: u64 = 0;

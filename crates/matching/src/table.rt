@@ -1,6 +1,6 @@
 // A verdict with the table of the model points.
 ghost use Rattle.std.specs.Prelude.{◌≡◌, []};
-ghost use Rattle.matching.specs.Matching.{pointTable};
+ghost use Rattle.matching.specs.Matching.{point_table};
 
 use fund::{Fund, Life, ModelPoint, Verdict};
 
@@ -14,7 +14,7 @@ pub struct Matched {
 
 // A verdict without points.
 pub(crate) fn without_points(verdict: Verdict) -> Matched
-    ensures { result ≡ record { verdict = verdict; points = pointTable [] } }
+    ensures { result ≡ record { verdict = verdict; points = point_table [] } }
 {
     let none = ModelPoint {
         life: Life {

@@ -2,11 +2,11 @@
 ghost use Rattle.std.specs.Prelude.{◌≡◌, ◌-◌};
 ghost use Rattle.fund.specs.Reading.{reading};
 ghost use Rattle.fund.specs.Refusals.{number_in, place_in};
-ghost use Rattle.fund.specs.Quantile.{reachedIn, quantileIn};
-ghost use Rattle.fund.specs.Sheets.{sheetReading};
+ghost use Rattle.fund.specs.Quantile.{reached_in, quantile_in};
+ghost use Rattle.fund.specs.Sheets.{sheet_reading};
 ghost use Rattle.valuation.specs.Valued.{lengths};
-ghost use Rattle.miguepo.specs.Bits.{bits_of, readSigned};
-ghost use Rattle.miguepo.specs.Host.{pricedFields, Hosts};
+ghost use Rattle.miguepo.specs.Bits.{bits_of, read_signed};
+ghost use Rattle.miguepo.specs.Host.{priced_fields, Hosts};
 
 use fund::{Quantile, Verdict};
 use pricing::Priced;
@@ -33,7 +33,7 @@ fn verdict_place(verdict: Verdict) -> u64
 }
 
 fn level_reached(quantile: Quantile) -> u64
-    ensures { result ≡ reachedIn quantile }
+    ensures { result ≡ reached_in quantile }
 {
     match quantile {
         Quantile::At(_) => 1,
@@ -42,7 +42,7 @@ fn level_reached(quantile: Quantile) -> u64
 }
 
 fn quantile_place(quantile: Quantile) -> u64
-    ensures { result ≡ quantileIn quantile }
+    ensures { result ≡ quantile_in quantile }
 {
     match quantile {
         Quantile::At(x) => x,
@@ -73,7 +73,7 @@ fn size_between(start: usize, end: usize) -> usize
 
 // Fills the struct with what a call answered: on this side its fields, eight bytes each, are an array.
 pub fn hand_over(priced: Priced, res: &mut [u64; FIELDS])
-    ensures { (res.new ≡ pricedFields priced) × (readSigned (bits_of priced.figures.premium) ≡ priced.figures.premium) }
+    ensures { (res.new ≡ priced_fields priced) × (read_signed (bits_of priced.figures.premium) ≡ priced.figures.premium) }
 {
     let verdict = priced.verdict;
     let figures = priced.figures;
@@ -134,7 +134,7 @@ pub extern "C" fn miguepo_price_sheets(
     sums: &mut [i64],
     res: &mut [u64; FIELDS],
 )
-    ensures { Hosts header.now (sheetReading header.now rates.now members.now) level
+    ensures { Hosts header.now (sheet_reading header.now rates.now members.now) level
         (lengths transform.old h.old f.old r.old sums.old)
         res.new transform.new h.new f.new r.new sums.new }
 {

@@ -2,19 +2,19 @@
 use Rattle.std.specs.Prelude.{◌≡◌, List, [], ◌∷◌, ℕ, ℤ}
 use Rattle.fund.specs.Reading.{FundFile, read, reading}
 use Rattle.fund.specs.Refusals.{Lengths}
-use Rattle.fund.specs.Answer.{answerTo}
+use Rattle.fund.specs.Answer.{answer_to}
 use Rattle.moves.specs.declared.Move.{Move}
 use Rattle.moves.specs.declared.files.Differences.{Differences}
 use Rattle.comparison.specs.declared.Comparison.{Comparison}
 use Rattle.comparison.specs.declared.Comparison.TheVariants.{Moved, Refused}
 use Rattle.comparison.specs.Comparison.{compared}
 use Rattle.comparison.specs.Exact.{ExactMove, RatesAlone}
-use Rattle.miguepo.specs.Bits.{bits_of, readSigned}
+use Rattle.miguepo.specs.Bits.{bits_of, read_signed}
 use Rattle.miguepo.specs.Host.{Hosts}
 
 -- The fields of the struct of a comparison, in their order, where there is a move.
-abbrev pub movedFields : Move → Differences → List ℕ
-movedFields v d =
+abbrev pub moved_fields : Move → Differences → List ℕ
+moved_fields v d =
     1
     ∷ bits_of v.premium
     ∷ v.arithmetic
@@ -30,18 +30,18 @@ movedFields v d =
     ∷ []
 
 -- Where a fund is refused, every field is 0.
-abbrev pub comparisonFields : Comparison → List ℕ
-comparisonFields (Moved v d) = movedFields v d
-comparisonFields Refused = 0 ∷ 0 ∷ 0 ∷ 0 ∷ 0 ∷ 0 ∷ 0 ∷ 0 ∷ 0 ∷ 0 ∷ 0 ∷ 0 ∷ []
+abbrev pub comparison_fields : Comparison → List ℕ
+comparison_fields (Moved v d) = moved_fields v d
+comparison_fields Refused = 0 ∷ 0 ∷ 0 ∷ 0 ∷ 0 ∷ 0 ∷ 0 ∷ 0 ∷ 0 ∷ 0 ∷ 0 ∷ 0 ∷ []
 
 -- C reads each signed field of a move from its bits.
 pub record SignedFields (v : Move) : Type 0 where
-  pub premium : readSigned (bits_of v.premium) ≡ v.premium
-  pub least : readSigned (bits_of v.least) ≡ v.least
-  pub most : readSigned (bits_of v.most) ≡ v.most
-  pub gross : readSigned (bits_of v.gross) ≡ v.gross
-  pub gross-least : readSigned (bits_of v.gross_least) ≡ v.gross_least
-  pub gross-most : readSigned (bits_of v.gross_most) ≡ v.gross_most
+  pub premium : read_signed (bits_of v.premium) ≡ v.premium
+  pub least : read_signed (bits_of v.least) ≡ v.least
+  pub most : read_signed (bits_of v.most) ≡ v.most
+  pub gross : read_signed (bits_of v.gross) ≡ v.gross
+  pub gross_least : read_signed (bits_of v.gross_least) ≡ v.gross_least
+  pub gross_most : read_signed (bits_of v.gross_most) ≡ v.gross_most
 
 abbrev pub ReadBack : Comparison → Type 0
 ReadBack c = (v : Move) (d : Differences) → c ≡ Moved v d → SignedFields v
@@ -59,15 +59,15 @@ abbrev pub handed : List ℕ → List ℤ → List ℕ → List ℤ → List ℕ
 handed result D H f R F = record { result = result; D = D; H = H; f = f; R = R; F = F }
 
 -- The comparison of the two files' answers, by the definitions.
-abbrev pub comparisonOf : List ℕ → Lengths → List ℕ → Lengths → Comparison
-comparisonOf old n new m = compared (reading old) (answerTo old n (reading old)) (reading new) (answerTo new m (reading new))
+abbrev pub comparison_of : List ℕ → Lengths → List ℕ → Lengths → Comparison
+comparison_of old n new m = compared (reading old) (answer_to old n (reading old)) (reading new) (answer_to new m (reading new))
 
 -- Each fund is handed over as by the pricing call. The comparison's fields are the definition's, and C reads each signed one from its bits. Where it is a move, the
 -- exact move is within the bounds of it; and where no header line but the editions' and no member line differs, the exact move is that of the rates alone.
 pub record HostsComparison (old new : List ℕ) (level : ℕ) (n m : Lengths) (a b : Handed) (comparison : List ℕ) : Type 0 where
-  pub old-hosted : Hosts old (reading old) level n a.result a.D a.H a.f a.R a.F
-  pub new-hosted : Hosts new (reading new) level m b.result b.D b.H b.f b.R b.F
-  pub comparison-is : comparison ≡ comparisonFields (comparisonOf old n new m)
-  pub read_back : ReadBack (comparisonOf old n new m)
-  pub exact : (f g : FundFile) → reading old ≡ read f → reading new ≡ read g → (v : Move) (d : Differences) → comparisonOf old n new m ≡ Moved v d → ExactMove f g v
-  pub rates : (f g : FundFile) → reading old ≡ read f → reading new ≡ read g → (v : Move) (d : Differences) → comparisonOf old n new m ≡ Moved v d → d.header ≡ 0 → d.member ≡ 0 → RatesAlone f g v
+  pub old_hosted : Hosts old (reading old) level n a.result a.D a.H a.f a.R a.F
+  pub new_hosted : Hosts new (reading new) level m b.result b.D b.H b.f b.R b.F
+  pub comparison_is : comparison ≡ comparison_fields (comparison_of old n new m)
+  pub read_back : ReadBack (comparison_of old n new m)
+  pub exact : (f g : FundFile) → reading old ≡ read f → reading new ≡ read g → (v : Move) (d : Differences) → comparison_of old n new m ≡ Moved v d → ExactMove f g v
+  pub rates : (f g : FundFile) → reading old ≡ read f → reading new ≡ read g → (v : Move) (d : Differences) → comparison_of old n new m ≡ Moved v d → d.header ≡ 0 → d.member ≡ 0 → RatesAlone f g v

@@ -2,7 +2,7 @@
 // compiler makes of them where nothing else calls what they call.
 ghost use Rattle.std.specs.Prelude.{◌≡◌};
 ghost use Rattle.valuation.specs.Valued.{lengths};
-ghost use Rattle.miguepo_comparison.specs.HostComparison.{handed, movedFields, SignedFields, comparisonFields, ReadBack, HostsComparison};
+ghost use Rattle.miguepo_comparison.specs.HostComparison.{handed, moved_fields, SignedFields, comparison_fields, ReadBack, HostsComparison};
 
 use comparison::Comparison;
 use miguepo::{FIELDS, bits, hand_over};
@@ -13,7 +13,7 @@ pub const COMPARISON_FIELDS: usize = 12;
 
 // The fields of a move.
 fn moved_fields(m: Move, d: Differences) -> [u64; COMPARISON_FIELDS]
-    ensures { (result ≡ movedFields m d) × SignedFields m }
+    ensures { (result ≡ moved_fields m d) × SignedFields m }
 {
     let premium = bits(m.premium);
     let least = bits(m.least);
@@ -38,7 +38,7 @@ fn moved_fields(m: Move, d: Differences) -> [u64; COMPARISON_FIELDS]
 }
 
 fn comparison_fields(comparison: Comparison) -> [u64; COMPARISON_FIELDS]
-    ensures { (result ≡ comparisonFields comparison) × ReadBack comparison }
+    ensures { (result ≡ comparison_fields comparison) × ReadBack comparison }
 {
     match comparison {
         Comparison::Moved(m, d) => moved_fields(m, d),

@@ -4,14 +4,14 @@ use Rattle.fund.specs.declared.Fund.{Fund}
 use Rattle.fund.specs.declared.Member.{Member}
 use Rattle.fund.specs.Base.{if◌then◌else◌}
 use Rattle.fund.specs.Reading.{FundFile}
-use Rattle.fund.specs.Refusals.{firstMember}
+use Rattle.fund.specs.Refusals.{first_member}
 use Rattle.rows.specs.declared.FileRead.{FileRead}
 use Rattle.moves.specs.declared.files.Differences.{Differences}
 
 -- The line of the first header line behind the editions' in which two headers differ: `horizon=` stands in line 3, `worth=` in line 7. 0 where
 -- none differs.
-unfoldable pub firstHeaderLine : Fund → Fund → ℕ
-firstHeaderLine old new =
+unfoldable pub first_header_line : Fund → Fund → ℕ
+first_header_line old new =
     if not (eqb old.horizon new.horizon) then 3 else
     if not (eqb old.order new.order) then 4 else
     if not (eqb old.frequency.death new.frequency.death) then 5 else
@@ -19,29 +19,29 @@ firstHeaderLine old new =
     if not (eqb old.deductible new.deductible) then 6 else
     if not (eqb old.worth new.worth) then 7 else 0
 
-unfoldable pub sameMember : Member → Member → Bool
-sameMember m n =
+unfoldable pub same_member : Member → Member → Bool
+same_member m n =
     eqb m.age n.age && (eqb m.group n.group && (eqb m.d n.d && (eqb m.e n.e && eqb m.lives n.lives)))
 
 -- The first member line that differs, or that only one of the files has, counted from `at`; 0 where the lines are the same.
-unfoldable pub firstMemberLine : ℕ → List Member → List Member → ℕ
-firstMemberLine at [] [] = 0
-firstMemberLine at [] (n ∷ ns) = at
-firstMemberLine at (m ∷ ms) [] = at
-firstMemberLine at (m ∷ ms) (n ∷ ns) =
-    let after = firstMemberLine (suc at) ms ns in
-    if sameMember m n then after else at
+unfoldable pub first_member_line : ℕ → List Member → List Member → ℕ
+first_member_line at [] [] = 0
+first_member_line at [] (n ∷ ns) = at
+first_member_line at (m ∷ ms) [] = at
+first_member_line at (m ∷ ms) (n ∷ ns) =
+    let after = first_member_line (suc at) ms ns in
+    if same_member m n then after else at
 
 -- The line of a file in which its member line k stands, counted from 1; the line behind its last member line is that of `end=`.
-unfoldable pub memberLine : FundFile → ℕ → ℕ
-memberLine file zero = 0
-memberLine file (suc k) = firstMember file + k
+unfoldable pub member_line : FundFile → ℕ → ℕ
+member_line file zero = 0
+member_line file (suc k) = first_member file + k
 
 unfoldable pub differences : FundFile → FundFile → Differences
 differences old new =
-    let k = firstMemberLine 1 old.members new.members in
-    record { header = firstHeaderLine old.header new.header; member = k; old_line = memberLine old k; new_line = memberLine new k }
+    let k = first_member_line 1 old.members new.members in
+    record { header = first_header_line old.header new.header; member = k; old_line = member_line old k; new_line = member_line new k }
 
 -- The file of tables that were read.
-unfoldable pub fileIn : FileRead → FundFile
-fileIn r = record { header = r.fund; rates = take r.rated r.rates; members = take r.enrolled r.members }
+unfoldable pub file_in : FileRead → FundFile
+file_in r = record { header = r.fund; rates = take r.rated r.rates; members = take r.enrolled r.members }

@@ -4,7 +4,7 @@ use Rattle.rounding.specs.Rounding.{up}
 use Rattle.fund.specs.declared.Fund.{Fund}
 use Rattle.fund.specs.declared.Figures.{Figures}
 use Rattle.fund.specs.Base.{if◌then◌else◌}
-use Rattle.fund.specs.Limits.{least-worth, most-worth}
+use Rattle.fund.specs.Limits.{least_worth, most_worth}
 use Rattle.fund.specs.Reading.{between}
 use Rattle.fund.specs.Tariff.{loading}
 use Rattle.moves.specs.declared.Move.{Move}
@@ -35,27 +35,27 @@ move_of old before new after =
     }
 
 -- Figures that no accepted fund is above.
-abbrev pub most-premium : ℕ
-most-premium = 1000000000000000000
+abbrev pub most_premium : ℕ
+most_premium = 1000000000000000000
 
-abbrev pub most-within : ℕ
-most-within = 1000000000000000
+abbrev pub most_within : ℕ
+most_within = 1000000000000000
 
-abbrev pub most-gross : ℕ
-most-gross = 100000000000000000
+abbrev pub most_gross : ℕ
+most_gross = 100000000000000000
 
 pub record FiguresIn (fund : Fund) (a : Figures) : Type 0 where
-  pub worth-least : least-worth ≤ fund.worth
-  pub worth-most : fund.worth ≤ most-worth
-  pub premium : nat_abs a.premium ≤ most-premium
-  pub within : a.within ≤ most-within
-  pub gross : a.gross ≤ most-gross
+  pub worth_least : least_worth ≤ fund.worth
+  pub worth_most : fund.worth ≤ most_worth
+  pub premium : nat_abs a.premium ≤ most_premium
+  pub within : a.within ≤ most_within
+  pub gross : a.gross ≤ most_gross
 
-unfoldable pub figuresIn : Fund → Figures → Bool
-figuresIn fund a =
-    between least-worth most-worth fund.worth && (leb (nat_abs a.premium) most-premium && (leb a.within most-within && leb a.gross most-gross))
+unfoldable pub figures_in : Fund → Figures → Bool
+figures_in fund a =
+    between least_worth most_worth fund.worth && (leb (nat_abs a.premium) most_premium && (leb a.within most_within && leb a.gross most_gross))
 
 -- The move of figures that are in their ranges.
-unfoldable pub movedOf : Fund → Figures → Fund → Figures → Moved
-movedOf old before new after =
-    if figuresIn old before && figuresIn new after then By (move_of old before new after) else Outside
+unfoldable pub moved_of : Fund → Figures → Fund → Figures → Moved
+moved_of old before new after =
+    if figures_in old before && figures_in new after then By (move_of old before new after) else Outside

@@ -1,9 +1,9 @@
 // What differs between two files that were read: the first header line behind the editions' lines, and the first member line.
 ghost use Rattle.std.specs.Prelude.{◌≡◌, ◌+◌, ◌≤◌, not, eqb, length, take};
 ghost use Rattle.fund.specs.Base.{if◌then◌else◌};
-ghost use Rattle.fund.specs.Limits.{most-members};
-ghost use Rattle.fund.specs.Reading.{headerLines};
-ghost use Rattle.moves.specs.Differences.{firstHeaderLine, sameMember, firstMemberLine, differences, fileIn};
+ghost use Rattle.fund.specs.Limits.{most_members};
+ghost use Rattle.fund.specs.Reading.{header_lines};
+ghost use Rattle.moves.specs.Differences.{first_header_line, same_member, first_member_line, differences, file_in};
 
 use fund::{Fund, Member, Rate};
 use rows::FileRead;
@@ -26,7 +26,7 @@ fn line_unless(same: bool, line: u64, behind: u64) -> u64
 }
 
 fn first_header_line(old: Fund, new: Fund) -> u64
-    ensures { result ≡ firstHeaderLine old new }
+    ensures { result ≡ first_header_line old new }
 {
     let worth = line_unless(old.worth == new.worth, 7, 0);
     let deductible = line_unless(old.deductible == new.deductible, 6, worth);
@@ -41,7 +41,7 @@ fn first_header_line(old: Fund, new: Fund) -> u64
 }
 
 fn is_same(m: Member, n: Member) -> bool
-    ensures { result ≡ sameMember m n }
+    ensures { result ≡ same_member m n }
 {
     m.age == n.age && m.group == n.group && m.d == n.d && m.e == n.e && m.lives == n.lives
 }
@@ -53,7 +53,7 @@ fn first_member_line(
     new: [Member; Fund::MEMBER_ROWS],
     others: usize,
 ) -> u64
-    ensures { (result ≡ firstMemberLine 1 (take enrolled old) (take others new)) × (result ≤ most-members) }
+    ensures { (result ≡ first_member_line 1 (take enrolled old) (take others new)) × (result ≤ most_members) }
 {
     let mut k: usize = 0;
     while k < Fund::MEMBER_ROWS {
@@ -71,8 +71,8 @@ fn first_member_line(
 
 // The line of the member line k of a file with these rate lines.
 fn line_in(rates: [Rate; Fund::RATE_ROWS], rated: usize, k: u64) -> u64
-    requires { k ≤ most-members }
-    ensures { result ≡ (if eqb k 0 then 0 else length headerLines + length (take rated rates) + k) }
+    requires { k ≤ most_members }
+    ensures { result ≡ (if eqb k 0 then 0 else length header_lines + length (take rated rates) + k) }
 {
     if k == 0 {
         return 0;
@@ -82,7 +82,7 @@ fn line_in(rates: [Rate; Fund::RATE_ROWS], rated: usize, k: u64) -> u64
 
 // What differs between two files that were read.
 pub fn differing(old: FileRead, new: FileRead) -> Differences
-    ensures { result ≡ differences (fileIn old) (fileIn new) }
+    ensures { result ≡ differences (file_in old) (file_in new) }
 {
     let old_rates = old.rates;
     let new_rates = new.rates;

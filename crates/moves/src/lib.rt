@@ -3,8 +3,8 @@
 mod files;
 
 ghost use Rattle.std.specs.Prelude.{◌≡◌, ◌+◌, ◌^◌, ◌≤◌, pos, nat_abs, ◌+ℤ◌, ◌-ℤ◌};
-ghost use Rattle.fund.specs.Limits.{least-worth, most-worth};
-ghost use Rattle.moves.specs.Move.{excess as excessOf, move_of, most-within, FiguresIn, figuresIn, movedOf};
+ghost use Rattle.fund.specs.Limits.{least_worth, most_worth};
+ghost use Rattle.moves.specs.Move.{excess as excessOf, move_of, most_within, FiguresIn, figures_in, moved_of};
 
 pub use files::{Differences, differing};
 use fund::{Figures, Fund};
@@ -39,7 +39,7 @@ pub enum Moved {
 
 // The figures of a fund are within the limits.
 fn is_inside(fund: Fund, figures: Figures) -> bool
-    ensures { result ≡ figuresIn fund figures }
+    ensures { result ≡ figures_in fund figures }
 {
     Fund::LEAST_WORTH <= fund.worth
         && fund.worth <= Fund::MOST_WORTH
@@ -50,7 +50,7 @@ fn is_inside(fund: Fund, figures: Figures) -> bool
 
 // The bound loaded twice, as the tariff loads a premium with its bound, and a centime.
 fn excess(fund: Fund, within: u64) -> u64
-    requires { (least-worth ≤ fund.worth) × (fund.worth ≤ most-worth) × (within ≤ most-within) }
+    requires { (least_worth ≤ fund.worth) × (fund.worth ≤ most_worth) × (within ≤ most_within) }
     ensures { result ≡ excessOf fund within }
 {
     match tariff::gross_premium(fund, within as i64, within) {
@@ -94,7 +94,7 @@ fn move_of(old: Fund, before: Figures, new: Fund, after: Figures) -> Move
 
 // The premium's move from the old fund's figures to the new one's.
 pub fn move_between(old: Fund, before: Figures, new: Fund, after: Figures) -> Moved
-    ensures { result ≡ movedOf old before new after }
+    ensures { result ≡ moved_of old before new after }
 {
     if !is_inside(old, before) || !is_inside(new, after) {
         return Moved::Outside;

@@ -1,78 +1,78 @@
--- What is read from a file, and its listing, are those of its first bytes (reading-first, listing-first); so of a header text and two sheets
--- (sheet-reading-first, sheet-listing-first).
+-- What is read from a file, and its listing, are those of its first bytes (reading_first, listing_first); so of a header text and two sheets
+-- (sheet_reading_first, sheet_listing_first).
 use Rattle.std.specs.Prelude.{◌≡◌, refl, List, [], ℕ, suc, ◌+◌, ◌≤◌, length, take}
 use Rattle.std.proofs.Common.{sym, ◌∙◌, ap}
 use native.Mathlib.Omega.{arith}
 use Rattle.fund.specs.declared.Verdict.{Verdict}
 use Rattle.fund.specs.declared.Verdict.TheVariants.{Accepted, Refused}
-use Rattle.fund.specs.Limits.{most-rates, most-members}
+use Rattle.fund.specs.Limits.{most_rates, most_members}
 use Rattle.fund.specs.Base.{bytes}
-use Rattle.fund.specs.Reading.{FundFile, Reading, read, stopped, headerLines, fileRows, reading}
+use Rattle.fund.specs.Reading.{FundFile, Reading, read, stopped, header_lines, file_rows, reading}
 use Rattle.fund.specs.Folding.{lives}
 use Rattle.fund.specs.Refusals.{Lengths, verdict}
-use Rattle.fund.specs.Answer.{fundCells, refused, answer_of, answerTo}
-use Rattle.fund.specs.Listing.{printed, horizonIn, enough, listingTo, listing}
-use Rattle.fund.specs.Sheets.{sheetRows, readSheets, sheetReading, sheetListing}
-use Rattle.prefix.specs.Sheets.{sheets-first}
+use Rattle.fund.specs.Answer.{fund_cells, refused, answer_of, answer_to}
+use Rattle.fund.specs.Listing.{printed, horizon_in, enough, listing_to, listing}
+use Rattle.fund.specs.Sheets.{sheet_rows, read_sheets, sheet_reading, sheet_listing}
+use Rattle.prefix.specs.Sheets.{sheets_first}
 use Rattle.prefix.specs.Lines.{lines_cut}
-use Rattle.prefix.specs.Reading.{bytes-for, KeysShort, header-same, file-behind, sheets-behind}
-use Rattle.prefix.specs.Spelling.{most-line}
+use Rattle.prefix.specs.Reading.{bytes_for, KeysShort, header_same, file_behind, sheets_behind}
+use Rattle.prefix.specs.Spelling.{most_line}
 
-keys-short : KeysShort headerLines
-unfolding headerLines bytes
-keys-short = omega arith
+keys_short : KeysShort header_lines
+unfolding header_lines bytes
+keys_short = omega arith
 
 -- Reading passes at most the header lines, the rows and the `end=` line: 53,064 bytes are enough.
-reading-enough : (n : ℕ) (file : List ℕ) → bytes-for (length headerLines + most-rates + most-members) ≤ n → reading (take n file) ≡ reading file
+reading_enough : (n : ℕ) (file : List ℕ) → bytes_for (length header_lines + most_rates + most_members) ≤ n → reading (take n file) ≡ reading file
 unfolding reading
-reading-enough n file h = header-same fileRows (bytes-for (most-rates + most-members)) file-behind headerLines 1 [] keys-short (lines_cut n file) (omega arith) (omega arith)
+reading_enough n file h = header_same file_rows (bytes_for (most_rates + most_members)) file_behind header_lines 1 [] keys_short (lines_cut n file) (omega arith) (omega arith)
 
 -- Of a header text, at most its lines and one byte more.
-header-enough : (n : ℕ) (header rates members : List ℕ) → bytes-for (length headerLines) ≤ n → sheetReading (take n header) rates members ≡ sheetReading header rates members
-unfolding sheetReading
-header-enough n header rates members h =
-    header-same (readSheets (sheetRows rates members)) (suc most-line) (sheets-behind (sheetRows rates members)) headerLines 1 [] keys-short (lines_cut n header) (omega arith) (omega arith)
+header_enough : (n : ℕ) (header rates members : List ℕ) → bytes_for (length header_lines) ≤ n → sheet_reading (take n header) rates members ≡ sheet_reading header rates members
+unfolding sheet_reading
+header_enough n header rates members h =
+    header_same (read_sheets (sheet_rows rates members)) (suc most_line) (sheets_behind (sheet_rows rates members)) header_lines 1 [] keys_short (lines_cut n header) (omega arith) (omega arith)
 
 -- The listing does not show the part of the bytes that is handed back with a refusal.
-printed-of : (f g : List ℕ) (n : Lengths) (fund : FundFile) (X : ℕ) (v : Verdict) →
+printed_of : (f g : List ℕ) (n : Lengths) (fund : FundFile) (X : ℕ) (v : Verdict) →
     printed (answer_of f n fund v) X (answer_of f n fund v).verdict ≡ printed (answer_of g n fund v) X (answer_of g n fund v).verdict
 unfolding answer_of refused printed
-printed-of f g n fund X Accepted = refl
-printed-of f g n fund X (Refused why place) = refl
+printed_of f g n fund X Accepted = refl
+printed_of f g n fund X (Refused why place) = refl
 
-printed-to : (f g : List ℕ) (n : Lengths) (r : Reading) →
-    printed (answerTo f n r) (horizonIn r) (answerTo f n r).verdict ≡ printed (answerTo g n r) (horizonIn r) (answerTo g n r).verdict
-unfolding answerTo refused printed
-printed-to f g n (read fund) = printed-of f g n fund _ (verdict fund n (fundCells fund.header (lives fund)))
-printed-to f g n (stopped why place) = refl
+printed_to : (f g : List ℕ) (n : Lengths) (r : Reading) →
+    printed (answer_to f n r) (horizon_in r) (answer_to f n r).verdict ≡ printed (answer_to g n r) (horizon_in r) (answer_to g n r).verdict
+unfolding answer_to refused printed
+printed_to f g n (read fund) = printed_of f g n fund _ (verdict fund n (fund_cells fund.header (lives fund)))
+printed_to f g n (stopped why place) = refl
 
-listing-of-reading : (f g : List ℕ) (x y : Reading) → x ≡ y → listingTo f x ≡ listingTo g y
-unfolding listingTo
-listing-of-reading f g x y e =
-    ap (λ r. printed (answerTo f enough r) (horizonIn r) (answerTo f enough r).verdict) e ∙ printed-to f g enough y
+listing_of_reading : (f g : List ℕ) (x y : Reading) → x ≡ y → listing_to f x ≡ listing_to g y
+unfolding listing_to
+listing_of_reading f g x y e =
+    ap (λ r. printed (answer_to f enough r) (horizon_in r) (answer_to f enough r).verdict) e ∙ printed_to f g enough y
 
 -- No more bytes of a file are read than these.
 abbrev pub most_bytes : ℕ
 most_bytes = 65536
 
-few_bytes : (n : ℕ) → most_bytes ≤ n → bytes-for (length headerLines + most-rates + most-members) ≤ n
-unfolding headerLines
+few_bytes : (n : ℕ) → most_bytes ≤ n → bytes_for (length header_lines + most_rates + most_members) ≤ n
+unfolding header_lines
 few_bytes n h = omega arith
 
-pub reading-first : (n : ℕ) (file : List ℕ) → most_bytes ≤ n → reading (take n file) ≡ reading file
-reading-first n file h = reading-enough n file (few_bytes n h)
+pub reading_first : (n : ℕ) (file : List ℕ) → most_bytes ≤ n → reading (take n file) ≡ reading file
+reading_first n file h = reading_enough n file (few_bytes n h)
 
-pub listing-first : (n : ℕ) (file : List ℕ) → most_bytes ≤ n → listing (take n file) ≡ listing file
-listing-first n file h = listing-of-reading (take n file) file (reading (take n file)) (reading file) (reading-first n file h)
+pub listing_first : (n : ℕ) (file : List ℕ) → most_bytes ≤ n → listing (take n file) ≡ listing file
+listing_first n file h = listing_of_reading (take n file) file (reading (take n file)) (reading file) (reading_first n file h)
 
 -- The same of a header text and two sheets.
 module _ (n : ℕ) (header rates members : List ℕ) (h : most_bytes ≤ n) where
-  enough-header : bytes-for (length headerLines) ≤ n
-  unfolding headerLines
-  enough-header = omega arith
+  enough_header : bytes_for (length header_lines) ≤ n
+  unfolding header_lines
+  enough_header = omega arith
 
-  pub sheet-reading-first : sheetReading (take n header) (take n rates) (take n members) ≡ sheetReading header rates members
-  sheet-reading-first = header-enough n header (take n rates) (take n members) enough-header ∙ sym (sheets-first n n rates members (omega arith) (omega arith) header)
+  pub sheet_reading_first : sheet_reading (take n header) (take n rates) (take n members) ≡ sheet_reading header rates members
+  sheet_reading_first = header_enough n header (take n rates) (take n members) enough_header ∙ sym (sheets_first n n rates members (omega arith) (omega arith) header)
 
-  pub sheet-listing-first : listingTo (take n header) (sheetReading (take n header) (take n rates) (take n members)) ≡ sheetListing header rates members
-  sheet-listing-first = listing-of-reading (take n header) header (sheetReading (take n header) (take n rates) (take n members)) (sheetReading header rates members) sheet-reading-first
+  pub sheet_listing_first : listing_to (take n header) (sheet_reading (take n header) (take n rates) (take n members)) ≡ sheet_listing header rates members
+  sheet_listing_first = listing_of_reading (take n header) header (sheet_reading (take n header) (take n rates) (take n members)) (sheet_reading header rates members) sheet_reading_first

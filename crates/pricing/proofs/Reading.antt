@@ -1,5 +1,5 @@
--- The fund that is read and matched: where reading stops, so does the call (stops); the horizon (horizon-read); the tables are matched as the file that
--- was read (read-matched); and what 3 to 6 answer of it, with its model points (matched-verdict, matched-points).
+-- The fund that is read and matched: where reading stops, so does the call (stops); the horizon (horizon_read); the tables are matched as the file that
+-- was read (read_matched); and what 3 to 6 answer of it, with its model points (matched_verdict, matched_points).
 use mathlib.Core.Path.{◌≡◌, refl, sym, ◌∙◌, ap, ap₂}
 use mathlib.Core.List.{List}
 use Prim.Native.Nat.{ℕ, ◌≤◌}
@@ -11,92 +11,92 @@ use Rattle.fund.specs.declared.ModelPoint.{ModelPoint}
 use Rattle.fund.specs.declared.Refusal.{Refusal}
 use Rattle.fund.specs.declared.Verdict.{Verdict}
 use Rattle.fund.specs.declared.Verdict.TheVariants.{Accepted, Refused}
-use Rattle.fund.specs.Limits.{most-rates, most-members}
+use Rattle.fund.specs.Limits.{most_rates, most_members}
 use Rattle.fund.specs.Reading.{FundFile, Reading, read, stopped}
 use Rattle.fund.specs.Folding.{point, points}
 use Rattle.fund.specs.Refusals.{matched}
-use Rattle.fund.specs.Listing.{horizonIn}
+use Rattle.fund.specs.Listing.{horizon_in}
 use Rattle.laws.specs.Ranges.{FundOk}
-use Rattle.laws.specs.Rows.{blankRate, blankMember, blankPoint, rows_back}
+use Rattle.laws.specs.Rows.{blank_rate, blank_member, blank_point, rows_back}
 use Rattle.rows.specs.declared.FileRead.{FileRead}
-use Rattle.rows.specs.Read.{rateTable, memberTable, fileRead}
+use Rattle.rows.specs.Read.{rate_table, member_table, file_read}
 use Rattle.matching.specs.declared.table.Matched.{Matched}
-use Rattle.matching.specs.Matching.{pointTable, withPoints, matching, matchedTables, matchedRows}
+use Rattle.matching.specs.Matching.{point_table, with_points, matching, matched_tables, matched_rows}
 use Rattle.pricing.specs.Priced.{MatchedFund}
 
 -- ---- what was read
-module _ (r : Reading) (found : FileRead) (e : found ≡ fileRead r) where
+module _ (r : Reading) (found : FileRead) (e : found ≡ file_read r) where
   pub stops : (why : Refusal) (place : ℕ) → found.verdict ≡ Refused why place → (x : Reading) → r ≡ x → r ≡ stopped why place
-  unfolding fileRead
+  unfolding file_read
   stops why place v (read fund) z =
-      let w : found ≡ fileRead (read fund) = e ∙ ap fileRead z in
+      let w : found ≡ file_read (read fund) = e ∙ ap file_read z in
       let u : Accepted ≡ Refused why place = sym (ap (λ (x : FileRead). x.verdict) w) ∙ v in
       let n : ◌≡◌ {A = ℕ} 0 1 = cc in
       absurd (omega arith)
   stops why place v (stopped why' place') z =
-      let w : found ≡ fileRead (stopped why' place') = e ∙ ap fileRead z in
+      let w : found ≡ file_read (stopped why' place') = e ∙ ap file_read z in
       let u : Refused why' place' ≡ Refused why place = sym (ap (λ (x : FileRead). x.verdict) w) ∙ v in
       z ∙ cc
 
   -- the horizon of what was read, 0 where reading stopped
-  pub horizon-read : found.fund.horizon ≡ horizonIn r
-  unfolding fileRead horizonIn
-  horizon-read = go r refl
+  pub horizon_read : found.fund.horizon ≡ horizon_in r
+  unfolding file_read horizon_in
+  horizon_read = go r refl
     where
-      go : (x : Reading) → r ≡ x → found.fund.horizon ≡ horizonIn r
-      go (read fund) z = ap (λ (x : FileRead). x.fund.horizon) (e ∙ ap fileRead z) ∙ ap horizonIn (sym z)
-      go (stopped why place) z = ap (λ (x : FileRead). x.fund.horizon) (e ∙ ap fileRead z) ∙ ap horizonIn (sym z)
+      go : (x : Reading) → r ≡ x → found.fund.horizon ≡ horizon_in r
+      go (read fund) z = ap (λ (x : FileRead). x.fund.horizon) (e ∙ ap file_read z) ∙ ap horizon_in (sym z)
+      go (stopped why place) z = ap (λ (x : FileRead). x.fund.horizon) (e ∙ ap file_read z) ∙ ap horizon_in (sym z)
 
-  tables-back : (fund : FundFile) → FundOk fund → matchedTables fund.header (rateTable fund.rates) (length fund.rates) (memberTable fund.members) (length fund.members) ≡ matching fund
-  unfolding matchedTables rateTable memberTable
-  tables-back fund inside =
+  tables_back : (fund : FundFile) → FundOk fund → matched_tables fund.header (rate_table fund.rates) (length fund.rates) (member_table fund.members) (length fund.members) ≡ matching fund
+  unfolding matched_tables rate_table member_table
+  tables_back fund inside =
       let ok = inside.rows in
       rw (
-        le-leb (length fund.rates) most-rates ok.few-rates,
-        le-leb (length fund.members) most-members ok.few-members,
-        rows_back blankRate most-rates fund.rates,
-        rows_back blankMember most-members fund.members,
+        le-leb (length fund.rates) most_rates ok.few_rates,
+        le-leb (length fund.members) most_members ok.few_members,
+        rows_back blank_rate most_rates fund.rates,
+        rows_back blank_member most_members fund.members,
       )
 
-  matched-fund : ((fund : FundFile) → r ≡ read fund → FundOk fund) → (m : Matched) → m ≡ matchedRows found → found.verdict ≡ Accepted → (x : Reading) → r ≡ x → MatchedFund r found.fund m found.enrolled
-  unfolding fileRead
-  matched-fund inside m k v (read fund) z =
-      let w : found ≡ fileRead (read fund) = e ∙ ap fileRead z in
+  matched_fund : ((fund : FundFile) → r ≡ read fund → FundOk fund) → (m : Matched) → m ≡ matched_rows found → found.verdict ≡ Accepted → (x : Reading) → r ≡ x → MatchedFund r found.fund m found.enrolled
+  unfolding file_read
+  matched_fund inside m k v (read fund) z =
+      let w : found ≡ file_read (read fund) = e ∙ ap file_read z in
       record {
         of = fund;
         is = z;
         ok = inside fund z;
         header = ap (λ (x : FileRead). x.fund) w;
-        matched = k ∙ ap matchedRows w ∙ tables-back fund (inside fund z);
+        matched = k ∙ ap matched_rows w ∙ tables_back fund (inside fund z);
         members = ap (λ (x : FileRead). x.enrolled) w;
       }
-  matched-fund inside m k v (stopped why place) z =
-      let w : found ≡ fileRead (stopped why place) = e ∙ ap fileRead z in
+  matched_fund inside m k v (stopped why place) z =
+      let w : found ≡ file_read (stopped why place) = e ∙ ap file_read z in
       let u : Refused why place ≡ Accepted = sym (ap (λ (x : FileRead). x.verdict) w) ∙ v in
       let n : ◌≡◌ {A = ℕ} 0 1 = cc in
       absurd (omega arith)
 
-  pub read-matched : ((fund : FundFile) → r ≡ read fund → FundOk fund) → (m : Matched) → m ≡ matchedRows found → found.verdict ≡ Accepted → MatchedFund r found.fund m found.enrolled
-  read-matched inside m k v = matched-fund inside m k v r refl
+  pub read_matched : ((fund : FundFile) → r ≡ read fund → FundOk fund) → (m : Matched) → m ≡ matched_rows found → found.verdict ≡ Accepted → MatchedFund r found.fund m found.enrolled
+  read_matched inside m k v = matched_fund inside m k v r refl
 
 -- ---- what 3 to 6 answered
-verdict-with : (ps : List ModelPoint) (v : Verdict) → (withPoints ps v).verdict ≡ v
-unfolding withPoints
-verdict-with ps Accepted = refl
-verdict-with ps (Refused why place) = refl
+verdict_with : (ps : List ModelPoint) (v : Verdict) → (with_points ps v).verdict ≡ v
+unfolding with_points
+verdict_with ps Accepted = refl
+verdict_with ps (Refused why place) = refl
 
 module _ (r : Reading) (fund : Fund) (m : Matched) (enrolled : ℕ) (k : MatchedFund r fund m enrolled) where
-  pub matched-verdict : m.verdict ≡ matched k.of Accepted
+  pub matched_verdict : m.verdict ≡ matched k.of Accepted
   unfolding matching
-  matched-verdict = ap (λ (x : Matched). x.verdict) k.matched ∙ verdict-with (points k.of) (matched k.of Accepted)
+  matched_verdict = ap (λ (x : Matched). x.verdict) k.matched ∙ verdict_with (points k.of) (matched k.of Accepted)
 
-  pub few-enrolled : enrolled ≤ most-members
-  few-enrolled = omega (arith, k.members, k.ok.rows.few-members)
+  pub few_enrolled : enrolled ≤ most_members
+  few_enrolled = omega (arith, k.members, k.ok.rows.few_members)
 
-  pub matched-points : m.verdict ≡ Accepted → take enrolled m.points ≡ points k.of
-  unfolding matching withPoints pointTable points
-  matched-points v =
-      let w : matched k.of Accepted ≡ Accepted = sym matched-verdict ∙ v in
-      let t : m ≡ withPoints (points k.of) Accepted = k.matched ∙ ap (withPoints (points k.of)) w in
+  pub matched_points : m.verdict ≡ Accepted → take enrolled m.points ≡ points k.of
+  unfolding matching with_points point_table points
+  matched_points v =
+      let w : matched k.of Accepted ≡ Accepted = sym matched_verdict ∙ v in
+      let t : m ≡ with_points (points k.of) Accepted = k.matched ∙ ap (with_points (points k.of)) w in
       let n : enrolled ≡ length (points k.of) = k.members ∙ sym (length-map k.of.members (point k.of.rates)) in
-      ap₂ (λ (c : ℕ) (x : Matched). take c x.points) n t ∙ rows_back blankPoint most-members (points k.of)
+      ap₂ (λ (c : ℕ) (x : Matched). take c x.points) n t ∙ rows_back blank_point most_members (points k.of)

@@ -6,24 +6,24 @@ use Rattle.fund.specs.declared.ModelPoint.{ModelPoint}
 use Rattle.fund.specs.declared.Verdict.{Verdict}
 use Rattle.fund.specs.declared.Verdict.TheVariants.{Accepted, Refused}
 use Rattle.fund.specs.Base.{if◌then◌else◌}
-use Rattle.fund.specs.Limits.{most-level}
+use Rattle.fund.specs.Limits.{most_level}
 use Rattle.fund.specs.Reading.{FundFile, Reading, read}
 use Rattle.fund.specs.Refusals.{Lengths}
-use Rattle.fund.specs.Quantile.{quantileOf}
-use Rattle.fund.specs.Answer.{part, Answer, refused, answerTo}
-use Rattle.fund.specs.Listing.{horizonIn}
+use Rattle.fund.specs.Quantile.{quantile_of}
+use Rattle.fund.specs.Answer.{part, Answer, refused, answer_to}
+use Rattle.fund.specs.Listing.{horizon_in}
 use Rattle.fund.specs.Distance.{WithinBounds, AverageExcess, NeverBelow, QuantileWithin}
 use Rattle.laws.specs.Ranges.{FundOk}
 use Rattle.matching.specs.declared.table.Matched.{Matched}
-use Rattle.matching.specs.Matching.{matching, matchedRows}
+use Rattle.matching.specs.Matching.{matching, matched_rows}
 use Rattle.rows.specs.declared.FileRead.{FileRead}
 use Rattle.valuation.specs.declared.Valued.{Valued}
 use Rattle.valuation.specs.Valued.{valuation}
 use Rattle.pricing.specs.declared.Priced.{Priced}
 
 -- The answer that a call leaves: what it returns, and the slices.
-abbrev pub leftPriced : Priced → List ℤ → List ℕ → List ℤ → List ℕ → List ℤ → Answer
-leftPriced p d h f r s =
+abbrev pub left_priced : Priced → List ℤ → List ℕ → List ℤ → List ℕ → List ℤ → Answer
+left_priced p d h f r s =
     record {
       verdict = p.verdict;
       part = record { start = p.start; size = p.end - p.start };
@@ -36,16 +36,16 @@ leftPriced p d h f r s =
     }
 
 -- The horizon is told of a fund that is accepted.
-abbrev pub horizonWith : Verdict → ℕ → ℕ
-horizonWith Accepted X = X
-horizonWith (Refused why place) X = 0
+abbrev pub horizon_with : Verdict → ℕ → ℕ
+horizon_with Accepted X = X
+horizon_with (Refused why place) X = 0
 
 -- What is left is the answer, its part lies in the text, the horizon is that of what was read, and the answer at the level is that of the sums that
 -- are left.
 pub record Answers (text : List ℕ) (r : Reading) (level : ℕ) (p : Priced) (a is : Answer) : Type 0 where
   pub answer : a ≡ is
-  pub horizon : p.horizon ≡ horizonWith p.verdict (horizonIn r)
-  pub quantile : p.quantile ≡ quantileOf level p.horizon a.F p.verdict
+  pub horizon : p.horizon ≡ horizon_with p.verdict (horizon_in r)
+  pub quantile : p.quantile ≡ quantile_of level p.horizon a.F p.verdict
   pub ordered : p.start ≤ p.end
   pub inside : p.end ≤ length text
 
@@ -54,10 +54,10 @@ pub record Answers (text : List ℕ) (r : Reading) (level : ℕ) (p : Priced) (a
 -- within their bounds of the exact values; the answer at a level of at most 10^12 is right but for the bounds of the sums; the gross premium is
 -- never below the exact premium's loaded worth; and with lambda 0 the exact premium is the average excess over M. The reading is that of a file, whose text it is, or that of a header text and two sheets.
 pub record Prices (text : List ℕ) (r : Reading) (level : ℕ) (n : Lengths) (p : Priced) (a : Answer) : Type 0 where
-  pub answers : Answers text r level p a (answerTo text n r)
+  pub answers : Answers text r level p a (answer_to text n r)
   pub distance : (fund : FundFile) → r ≡ read fund → a.verdict ≡ Accepted → WithinBounds fund a
-  pub level-within : (fund : FundFile) → r ≡ read fund → a.verdict ≡ Accepted → level ≤ most-level → QuantileWithin fund a level p.quantile
-  pub never-below : (fund : FundFile) → r ≡ read fund → a.verdict ≡ Accepted → NeverBelow fund a
+  pub level_within : (fund : FundFile) → r ≡ read fund → a.verdict ≡ Accepted → level ≤ most_level → QuantileWithin fund a level p.quantile
+  pub never_below : (fund : FundFile) → r ≡ read fund → a.verdict ≡ Accepted → NeverBelow fund a
   pub average : (fund : FundFile) → r ≡ read fund → a.verdict ≡ Accepted → AverageExcess fund
 
 -- Reading gave a fund, in its ranges, whose header and members these are, and whose refusals 3 to 6 and model points were found.
@@ -74,27 +74,27 @@ abbrev pub lined : List ℕ → Answer → Answer
 lined text a = record { verdict = a.verdict; part = part text a.verdict; figures = a.figures; D = a.D; H = a.H; f = a.f; R = a.R; F = a.F }
 
 -- Where 3 to 6 stopped, their refusal; else what the valuation of the first model points leaves.
-abbrev pub valuedBy : Fund → List ModelPoint → ℕ → Lengths → Verdict → Answer
-valuedBy fund points enrolled n Accepted = valuation fund enrolled (take enrolled points) n
-valuedBy fund points enrolled n (Refused why place) = refused [] n (Refused why place)
+abbrev pub valued_by : Fund → List ModelPoint → ℕ → Lengths → Verdict → Answer
+valued_by fund points enrolled n Accepted = valuation fund enrolled (take enrolled points) n
+valued_by fund points enrolled n (Refused why place) = refused [] n (Refused why place)
 
-abbrev pub valuedOf : Fund → Matched → ℕ → Lengths → Answer
-valuedOf fund m enrolled n = valuedBy fund m.points enrolled n m.verdict
+abbrev pub valued_of : Fund → Matched → ℕ → Lengths → Answer
+valued_of fund m enrolled n = valued_by fund m.points enrolled n m.verdict
 
 -- Where reading stopped, its refusal; else what 3 to 6 and the valuation answer of the tables, with the line of the verdict.
 abbrev pub read_by : List ℕ → FileRead → Lengths → Verdict → Answer
-read_by text found n Accepted = lined text (valuedOf found.fund (matchedRows found) found.enrolled n)
+read_by text found n Accepted = lined text (valued_of found.fund (matched_rows found) found.enrolled n)
 read_by text found n (Refused why place) = refused text n (Refused why place)
 
-abbrev pub readAnswer : List ℕ → FileRead → Lengths → Answer
-readAnswer text found n = read_by text found n found.verdict
+abbrev pub read_answer : List ℕ → FileRead → Lengths → Answer
+read_answer text found n = read_by text found n found.verdict
 
 -- The contract of the call on what was read, whatever it is: each step's definition, one after the other. Of what a reading of a fund in its ranges gives it is that of the call on the
 -- text (proofs/PricedRead.prices-read).
 pub record PricesRead (text : List ℕ) (found : FileRead) (level : ℕ) (n : Lengths) (p : Priced) (a : Answer) : Type 0 where
-  pub answer : a ≡ readAnswer text found n
-  pub horizon : p.horizon ≡ horizonWith p.verdict found.fund.horizon
-  pub quantile : p.quantile ≡ quantileOf level p.horizon a.F p.verdict
+  pub answer : a ≡ read_answer text found n
+  pub horizon : p.horizon ≡ horizon_with p.verdict found.fund.horizon
+  pub quantile : p.quantile ≡ quantile_of level p.horizon a.F p.verdict
   pub ordered : p.start ≤ p.end
   pub inside : p.end ≤ length text
 
@@ -105,8 +105,8 @@ pub record Told (text : List ℕ) (level X : ℕ) (v : Valued) (sums : List ℤ)
   pub line : record { start = p.start; size = p.end - p.start } ≡ part text v.verdict
   pub ordered : p.start ≤ p.end
   pub inside : p.end ≤ length text
-  pub horizon : p.horizon ≡ horizonWith v.verdict X
-  pub quantile : p.quantile ≡ quantileOf level p.horizon sums v.verdict
+  pub horizon : p.horizon ≡ horizon_with v.verdict X
+  pub quantile : p.quantile ≡ quantile_of level p.horizon sums v.verdict
 
 -- The bytes from start to end, and none where these lie outside the text.
 unfoldable pub line_of : List ℕ → Priced → List ℕ

@@ -1,12 +1,12 @@
 // One call prices a fund: from the bytes of its file, or of its header text and two sheets, to its figures and cells, or to the refusal and its place.
 ghost use Rattle.std.specs.Prelude.{◌≡◌};
 ghost use Rattle.fund.specs.Reading.{reading};
-ghost use Rattle.fund.specs.Quantile.{quantileOf};
-ghost use Rattle.fund.specs.Sheets.{sheetReading};
-ghost use Rattle.valuation.specs.Valued.{leftValued, lengths};
-ghost use Rattle.pricing.specs.Priced.{leftPriced, horizonWith, Told, valuedOf, Prices, PricesRead, line_of};
-ghost use Rattle.pricing.specs.Source.{readingFrom};
-ghost use Rattle.rows.specs.Read.{fileRead};
+ghost use Rattle.fund.specs.Quantile.{quantile_of};
+ghost use Rattle.fund.specs.Sheets.{sheet_reading};
+ghost use Rattle.valuation.specs.Valued.{left_valued, lengths};
+ghost use Rattle.pricing.specs.Priced.{left_priced, horizon_with, Told, valued_of, Prices, PricesRead, line_of};
+ghost use Rattle.pricing.specs.Source.{reading_from};
+ghost use Rattle.rows.specs.Read.{file_read};
 
 use fund::{Figures, Fund, Quantile, Verdict};
 use matching::Matched;
@@ -34,7 +34,7 @@ enum Source {
 
 // The horizon is told of a fund that is accepted.
 fn horizon_of(verdict: Verdict, horizon: u64) -> u64
-    ensures { result ≡ horizonWith verdict horizon }
+    ensures { result ≡ horizon_with verdict horizon }
 {
     match verdict {
         Verdict::Accepted => horizon,
@@ -44,7 +44,7 @@ fn horizon_of(verdict: Verdict, horizon: u64) -> u64
 
 // The answer at the level, of a fund that is accepted.
 fn quantile_of(verdict: Verdict, level: u64, horizon: u64, sums: &[i64]) -> Quantile
-    ensures { result ≡ quantileOf level horizon sums.now verdict }
+    ensures { result ≡ quantile_of level horizon sums.now verdict }
 {
     match verdict {
         Verdict::Accepted => quantile::quantile(level, horizon as usize, sums),
@@ -82,8 +82,8 @@ fn valued(
     r: &mut [u64],
     sums: &mut [i64],
 ) -> Valued
-    ensures { leftValued result transform.new h.new f.new r.new sums.new ≡
-        valuedOf fund matched enrolled (lengths transform.old h.old f.old r.old sums.old) }
+    ensures { left_valued result transform.new h.new f.new r.new sums.new ≡
+        valued_of fund matched enrolled (lengths transform.old h.old f.old r.old sums.old) }
 {
     let verdict = matched.verdict;
     match verdict {
@@ -111,7 +111,7 @@ pub fn price_read(
 ) -> Priced
     ensures { PricesRead text.now found level
         (lengths transform.old h.old f.old r.old sums.old) result
-        (leftPriced result transform.new h.new f.new r.new sums.new) }
+        (left_priced result transform.new h.new f.new r.new sums.new) }
 {
     let verdict = found.verdict;
     match verdict {
@@ -132,7 +132,7 @@ pub fn price_read(
 
 // Reads the fund of a file, or of a header text and two sheets.
 fn read_from(source: Source, text: &[u8], rates: &[u8], members: &[u8]) -> FileRead
-    ensures { result ≡ fileRead (readingFrom source text.now rates.now members.now) }
+    ensures { result ≡ file_read (reading_from source text.now rates.now members.now) }
 {
     match source {
         Source::File => reader::read(text),
@@ -153,9 +153,9 @@ fn price_from(
     r: &mut [u64],
     sums: &mut [i64],
 ) -> Priced
-    ensures { Prices text.now (readingFrom source text.now rates.now members.now) level
+    ensures { Prices text.now (reading_from source text.now rates.now members.now) level
         (lengths transform.old h.old f.old r.old sums.old) result
-        (leftPriced result transform.new h.new f.new r.new sums.new) }
+        (left_priced result transform.new h.new f.new r.new sums.new) }
 {
     let found = read_from(source, text, rates, members);
     price_read(text, found, level, transform, h, f, r, sums)
@@ -173,7 +173,7 @@ pub fn price(
 ) -> Priced
     ensures { Prices file.now (reading file.now) level
         (lengths transform.old h.old f.old r.old sums.old) result
-        (leftPriced result transform.new h.new f.new r.new sums.new) }
+        (left_priced result transform.new h.new f.new r.new sums.new) }
 {
     price_from(
         Source::File,
@@ -201,9 +201,9 @@ pub fn price_sheets(
     r: &mut [u64],
     sums: &mut [i64],
 ) -> Priced
-    ensures { Prices header.now (sheetReading header.now rates.now members.now) level
+    ensures { Prices header.now (sheet_reading header.now rates.now members.now) level
         (lengths transform.old h.old f.old r.old sums.old) result
-        (leftPriced result transform.new h.new f.new r.new sums.new) }
+        (left_priced result transform.new h.new f.new r.new sums.new) }
 {
     price_from(
         Source::Sheets,

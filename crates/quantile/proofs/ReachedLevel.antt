@@ -1,4 +1,4 @@
--- Whether a sum in a word reaches a level, by its sign and its size (below-zero, by_size).
+-- Whether a sum in a word reaches a level, by its sign and its size (below_zero, by_size).
 use mathlib.Core.Path.{◌≡◌, refl}
 use mathlib.Core.Bool.{true, false, true≢false}
 use Prim.Native.Nat.{ℕ}
@@ -18,14 +18,14 @@ module _ (level : ℕ) where
   below_at (pos n) t = let h = ltb-true n 0 t in absurd (omega arith)
   below_at (negsuc n) t = refl
 
-  size-at : (z : ℤ) → lt_z z (pos 0) ≡ false → leb level (nat_abs z) ≡ reaches level z
+  size_at : (z : ℤ) → lt_z z (pos 0) ≡ false → leb level (nat_abs z) ≡ reaches level z
   unfolding reaches
-  size-at (pos n) t = refl
-  size-at (negsuc n) t = absurd (true≢false t)
+  size_at (pos n) t = refl
+  size_at (negsuc n) t = absurd (true≢false t)
 
   module _ (z : ℤ) (f : SFits w64 z) where
-    pub below-zero : lt_z (to_z w64 (of_z w64 z)) (pos 0) ≡ true → false ≡ reaches level z
-    below-zero t = below_at z (sign z f t)
+    pub below_zero : lt_z (to_z w64 (of_z w64 z)) (pos 0) ≡ true → false ≡ reaches level z
+    below_zero t = below_at z (sign z f t)
 
     pub by_size : lt_z (to_z w64 (of_z w64 z)) (pos 0) ≡ false → leb level (nat_abs z) ≡ reaches level z
-    by_size t = size-at z (sign z f t)
+    by_size t = size_at z (sign z f t)

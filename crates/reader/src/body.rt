@@ -3,7 +3,7 @@ ghost use Rattle.std.specs.Prelude.{◌≡◌};
 ghost use Rattle.fund.specs.Reading.{reading};
 ghost use Rattle.lines.specs.declared.header.Header.TheVariants.{Whole};
 ghost use Rattle.lines.specs.Header.{HeaderRead};
-ghost use Rattle.rows.specs.Read.{fileRead};
+ghost use Rattle.rows.specs.Read.{file_read};
 
 use crate::row;
 use crate::row::RowStep;
@@ -13,7 +13,7 @@ use rows::FileRead;
 // Every row from `start` on, behind the header.
 pub(crate) fn read_rows(file: &[u8], fund: Fund, start: usize) -> FileRead
     requires { HeaderRead file.now (Whole fund start) }
-    ensures { result ≡ fileRead (reading file.now) }
+    ensures { result ≡ file_read (reading file.now) }
 {
     let rate = Rate { age: 0, q: 0, i: 0 };
     let mut rates = [rate; Fund::RATE_ROWS];

@@ -1,7 +1,7 @@
 // A line behind the header and the rows before it.
 ghost use Rattle.std.specs.Prelude.{◌≡◌, ◌≤◌};
-ghost use Rattle.fund.specs.Limits.{most-rates, most-members};
-ghost use Rattle.rows.specs.Rows.{linePlace};
+ghost use Rattle.fund.specs.Limits.{most_rates, most_members};
+ghost use Rattle.rows.specs.Rows.{line_place};
 ghost use Rattle.reader.specs.Rows.{RowStepped};
 
 use fund::{Fund, Member, Rate, Refusal};
@@ -18,8 +18,8 @@ pub(crate) enum RowStep {
 
 // The place of the line behind the header and so many rows, counted from 1.
 fn line_place(rated: usize, enrolled: usize) -> u64
-    requires { (rated ≤ most-rates) × (enrolled ≤ most-members) }
-    ensures { result ≡ linePlace rated enrolled }
+    requires { (rated ≤ most_rates) × (enrolled ≤ most_members) }
+    ensures { result ≡ line_place rated enrolled }
 {
     Fund::HEADER_LINES as u64 + rated as u64 + enrolled as u64 + 1
 }
@@ -34,7 +34,7 @@ pub(crate) fn row_step(
     least: u64,
     lives: u64,
 ) -> RowStep
-    requires { (rated ≤ most-rates) × (enrolled ≤ most-members) }
+    requires { (rated ≤ most_rates) × (enrolled ≤ most_members) }
     ensures { RowStepped file.now at rated enrolled least lives result }
 {
     let here = line_place(rated, enrolled);

@@ -1,5 +1,5 @@
--- From the tests and the steps to the definition's answer: the start in its cell (start_cell, steps-from), cells that stop (stopped-at,
--- stopped_none), and what is left in each case (outcome-tested, outcome-steps, outcome-left).
+-- From the tests and the steps to the definition's answer: the start in its cell (start_cell, steps_from), cells that stop (stopped_at,
+-- stopped_none), and what is left in each case (outcome_tested, outcome_steps, outcome_left).
 use mathlib.Core.Path.{◌≡◌, refl, sym, ◌∙◌, ap, ap₂, subst}
 use mathlib.Core.Bool.{true}
 use mathlib.Core.Logic.{⊎_elim}
@@ -17,43 +17,43 @@ use Rattle.fund.specs.Base.{if◌then◌else◌, table}
 use Rattle.fund.specs.Recursion.{Cell}
 use Rattle.fund.specs.Refusals.{wide}
 use Rattle.fund.specs.Answer.{lent}
-use Rattle.laws.specs.Tables.{table-first, map-table}
+use Rattle.laws.specs.Tables.{table_first, map_table}
 use Rattle.laws.specs.Slices.{lent_is}
-use Rattle.laws.specs.Valued.{narrow-cell, wide-cell}
+use Rattle.laws.specs.Valued.{narrow_cell, wide_cell}
 use Rattle.laws.specs.Cells.{cell_at, cells_are}
 use Rattle.recursion_limits.specs.declared.Recursed.{Recursed}
 use Rattle.recursion_limits.specs.declared.Recursed.TheVariants.{Done, Short, Outside, Wide, Large}
-use Rattle.recursion_limits.specs.Limits.{most-cell, CellFits}
+use Rattle.recursion_limits.specs.Limits.{most_cell, CellFits}
 use Rattle.recursion_limits.specs.Tests.{large, Kept, Tests}
 use Rattle.recursion_limits.specs.contracts.Recursed as R
-use Rattle.recursion_limits.proofs.TestedLimits.{small-cell, tested-kept}
-use Rattle.recursion.specs.Slices.{cellIn, entriesIn}
-use Rattle.recursion.specs.Recursion.{stopped, cellsTo, after, recursed, leftCells, leaves, recursion}
+use Rattle.recursion_limits.proofs.TestedLimits.{small_cell, tested_kept}
+use Rattle.recursion.specs.Slices.{cell_in, entries_in}
+use Rattle.recursion.specs.Recursion.{stopped, cells_to, after, recursed, left_cells, leaves, recursion}
 use Rattle.recursion.specs.Steps.{CellsFilled, StepsTo, StepsFrom, CarriedOut, Settled}
 
 -- ---- the start
-pub start_cell : (nf nr : ℕ) (z : ℤ) (n : ℕ) → 0 < nf → 0 < nr → cellIn (set (replicate nf (pos 0)) 0 z) (set (replicate nr 0) 0 n) 0 ≡ record { f = z; R = n }
+pub start_cell : (nf nr : ℕ) (z : ℤ) (n : ℕ) → 0 < nf → 0 < nr → cell_in (set (replicate nf (pos 0)) 0 z) (set (replicate nr 0) 0 n) 0 ≡ record { f = z; R = n }
 start_cell nf nr z n p q =
     ap₂ (λ x y. record { f = x; R = y })
     (get_or-set_same (replicate nf (pos 0)) 0 z (pos 0) (omega (arith, length-replicate nf (pos 0))))
     (get_or-set_same (replicate nr 0) 0 n 0 (omega (arith, length-replicate {A = ℕ} nr 0)))
 
 -- a store at place 0 leaves what stands beyond
-drop-set : {A : Type 0} (X : ℕ) (s : List A) (a : A) → drop (suc X) (set s 0 a) ≡ drop (suc X) s
-drop-set X [] a = refl
-drop-set X (b ∷ s) a = refl
+drop_set : {A : Type 0} (X : ℕ) (s : List A) (a : A) → drop (suc X) (set s 0 a) ≡ drop (suc X) s
+drop_set X [] a = refl
+drop_set X (b ∷ s) a = refl
 
-pub steps-from : (X : ℕ) (cell cell' : ℕ → Cell) (f f₁ f' : List ℤ) (r r₁ r' : List ℕ) (z : ℤ) (n : ℕ) (a : Recursed) → cell ≡ cell' →
+pub steps_from : (X : ℕ) (cell cell' : ℕ → Cell) (f f₁ f' : List ℤ) (r r₁ r' : List ℕ) (z : ℤ) (n : ℕ) (a : Recursed) → cell ≡ cell' →
     f₁ ≡ set f 0 z → r₁ ≡ set r 0 n → StepsTo X cell f₁ f' r₁ r' a → StepsTo X cell' f f' r r' a
-steps-from X cell cell' f f₁ f' r r₁ r' z n a e f-is r-is k = go a (subst (λ c. StepsTo X c f₁ f' r₁ r' a) e k)
+steps_from X cell cell' f f₁ f' r r₁ r' z n a e f_is r_is k = go a (subst (λ c. StepsTo X c f₁ f' r₁ r' a) e k)
   where
     go : (a : Recursed) → StepsTo X cell' f₁ f' r₁ r' a → StepsTo X cell' f f' r r' a
     go Done k =
         record {
-          f-are = k.f-are;
-          r-are = k.r-are;
-          f-beyond = k.f-beyond ∙ ap (drop (suc X)) f-is ∙ drop-set X f z;
-          r-beyond = k.r-beyond ∙ ap (drop (suc X)) r-is ∙ drop-set X r n;
+          f_are = k.f_are;
+          r_are = k.r_are;
+          f_beyond = k.f_beyond ∙ ap (drop (suc X)) f_is ∙ drop_set X f z;
+          r_beyond = k.r_beyond ∙ ap (drop (suc X)) r_is ∙ drop_set X r n;
           fit = k.fit;
         }
     go Short k = k
@@ -62,35 +62,35 @@ steps-from X cell cell' f f₁ f' r r₁ r' z n a e f-is r-is k = go a (subst (�
     go (Large x) k = k
 
 -- ---- the first cell that is not within the limits
-large-cell : (y : Cell) → most-cell < nat_abs y.f → large y ≡ true
+large_cell : (y : Cell) → most_cell < nat_abs y.f → large y ≡ true
 unfolding large
-large-cell y h = lt-ltb _ _ h
+large_cell y h = lt-ltb _ _ h
 
 abbrev step : ℕ → Cell → Recursed → Recursed
 step x y after = if wide y then Wide x else if large y then Large x else after
 
 step_fits : (x : ℕ) (y : Cell) (after : Recursed) → CellFits y → step x y after ≡ after
-step_fits x y after h = rw (narrow-cell y h.narrow, small-cell y h)
+step_fits x y after h = rw (narrow_cell y h.narrow, small_cell y h)
 
-stopped-first : (at n : ℕ) (g : ℕ → Cell) → stopped at (table (suc n) g) ≡ step at (g 0) (stopped (suc at) (table n (λ k. g (suc k))))
+stopped_first : (at n : ℕ) (g : ℕ → Cell) → stopped at (table (suc n) g) ≡ step at (g 0) (stopped (suc at) (table n (λ k. g (suc k))))
 unfolding stopped
-stopped-first at n g = ap (stopped at) (table-first n g)
+stopped_first at n g = ap (stopped at) (table_first n g)
 
 pub stopped_none : (at n : ℕ) (g : ℕ → Cell) → ((k : ℕ) → k < n → CellFits (g k)) → stopped at (table n g) ≡ Done
 unfolding stopped table
 stopped_none at zero g h = refl
 stopped_none at (suc n) g h =
-    stopped-first at n g
+    stopped_first at n g
     ∙ step_fits at (g 0) _ (h 0 (omega arith))
     ∙ stopped_none (suc at) n (λ k. g (suc k)) (λ k l. h (suc k) (omega arith))
 
-pub stopped-at : (at n x : ℕ) (g : ℕ → Cell) (a : Recursed) → x < n → ((k : ℕ) → k < x → CellFits (g k)) → ((after : Recursed) → step (at + x) (g x) after ≡ a) → stopped at (table n g) ≡ a
-stopped-at at zero x g a l h s = absurd (omega arith)
-stopped-at at (suc n) zero g a l h s = stopped-first at n g ∙ subst (λ m. (after : Recursed) → step m (g 0) after ≡ a) (let e : at + 0 ≡ at = omega arith in e) s _
-stopped-at at (suc n) (suc x) g a l h s =
-    stopped-first at n g
+pub stopped_at : (at n x : ℕ) (g : ℕ → Cell) (a : Recursed) → x < n → ((k : ℕ) → k < x → CellFits (g k)) → ((after : Recursed) → step (at + x) (g x) after ≡ a) → stopped at (table n g) ≡ a
+stopped_at at zero x g a l h s = absurd (omega arith)
+stopped_at at (suc n) zero g a l h s = stopped_first at n g ∙ subst (λ m. (after : Recursed) → step m (g 0) after ≡ a) (let e : at + 0 ≡ at = omega arith in e) s _
+stopped_at at (suc n) (suc x) g a l h s =
+    stopped_first at n g
     ∙ step_fits at (g 0) _ (h 0 (omega arith))
-    ∙ stopped-at (suc at) n x (λ k. g (suc k)) a (omega arith) (λ k q. h (suc k) (omega arith)) (subst (λ m. (after : Recursed) → step m (g (suc x)) after ≡ a) (let e : at + suc x ≡ suc at + x = omega arith in e) s)
+    ∙ stopped_at (suc at) n x (λ k. g (suc k)) a (omega arith) (λ k q. h (suc k) (omega arith)) (subst (λ m. (after : Recursed) → step m (g (suc x)) after ≡ a) (let e : at + suc x ≡ suc at + x = omega arith in e) s)
 
 -- ---- what is left
 pub not_done : OneOf (1 ∷ 2 ∷ 3 ∷ 4 ∷ []) 0 → ⊥
@@ -98,67 +98,67 @@ not_done o = ⊎_elim (λ e. omega arith) (λ o. ⊎_elim (λ e. omega arith) (�
 
 module _ (X : ℕ) (d : List ℤ) (h : List ℕ) (start : Cell) (nf nr : ℕ) where
   abbrev cell : ℕ → Cell
-  cell = cell_at (entriesIn X d h) start
+  cell = cell_at (entries_in X d h) start
 
-  are : cellsTo X d h start ≡ table (suc X) cell
-  unfolding cellsTo
-  are = cells_are (entriesIn X d h) start X
+  are : cells_to X d h start ≡ table (suc X) cell
+  unfolding cells_to
+  are = cells_are (entries_in X d h) start X
 
   -- a limit is broken
-  pub outcome-tested : (f : List ℤ) (r : List ℕ) (a : Recursed) → OneOf (1 ∷ 2 ∷ 3 ∷ 4 ∷ []) (Declared.tag_of R.the_type a) → Tests X d h start nf nr a → CarriedOut X d h start nf nr f r a
+  pub outcome_tested : (f : List ℤ) (r : List ℕ) (a : Recursed) → OneOf (1 ∷ 2 ∷ 3 ∷ 4 ∷ []) (Declared.tag_of R.the_type a) → Tests X d h start nf nr a → CarriedOut X d h start nf nr f r a
   unfolding recursed
-  outcome-tested f r Done o t = absurd (not_done o)
-  outcome-tested f r Short o t = ap (λ a. after a (stopped 0 (cellsTo X d h start))) t
-  outcome-tested f r (Outside k) o t = ap (λ a. after a (stopped 0 (cellsTo X d h start))) t
-  outcome-tested f r (Wide x) o t = ap (λ a. after a (stopped 0 (cellsTo X d h start))) t
-  outcome-tested f r (Large x) o t = ap (λ a. after a (stopped 0 (cellsTo X d h start))) t
+  outcome_tested f r Done o t = absurd (not_done o)
+  outcome_tested f r Short o t = ap (λ a. after a (stopped 0 (cells_to X d h start))) t
+  outcome_tested f r (Outside k) o t = ap (λ a. after a (stopped 0 (cells_to X d h start))) t
+  outcome_tested f r (Wide x) o t = ap (λ a. after a (stopped 0 (cells_to X d h start))) t
+  outcome_tested f r (Large x) o t = ap (λ a. after a (stopped 0 (cells_to X d h start))) t
 
   -- all limits are kept
   module _ (kept : Kept X d h start nf nr) where
     rest : recursed X d h start nf nr ≡ stopped 0 (table (suc X) cell)
     unfolding recursed
-    rest = ap (λ a. after a (stopped 0 (cellsTo X d h start))) (tested-kept X d h start nf nr kept) ∙ ap (stopped 0) are
+    rest = ap (λ a. after a (stopped 0 (cells_to X d h start))) (tested_kept X d h start nf nr kept) ∙ ap (stopped 0) are
 
     module _ (f : List ℤ) (r : List ℕ) (s : CellsFilled X cell (replicate nf (pos 0)) f (replicate nr 0) r) where
-      f-lent : f ≡ lent (pos 0) nf (map (λ (y : Cell). y.f) (cellsTo X d h start))
-      f-lent =
-          lent_is (pos 0) nf X (λ k. (cell k).f) f s.f-are s.f-beyond
-          ∙ ap (lent (pos 0) nf) (sym (map-table (λ (y : Cell). y.f) (suc X) cell) ∙ ap (map (λ (y : Cell). y.f)) (sym are))
+      f_lent : f ≡ lent (pos 0) nf (map (λ (y : Cell). y.f) (cells_to X d h start))
+      f_lent =
+          lent_is (pos 0) nf X (λ k. (cell k).f) f s.f_are s.f_beyond
+          ∙ ap (lent (pos 0) nf) (sym (map_table (λ (y : Cell). y.f) (suc X) cell) ∙ ap (map (λ (y : Cell). y.f)) (sym are))
 
-      r-lent : r ≡ lent 0 nr (map (λ (y : Cell). y.R) (cellsTo X d h start))
-      r-lent =
-          lent_is 0 nr X (λ k. (cell k).R) r s.r-are s.r-beyond
-          ∙ ap (lent 0 nr) (sym (map-table (λ (y : Cell). y.R) (suc X) cell) ∙ ap (map (λ (y : Cell). y.R)) (sym are))
+      r_lent : r ≡ lent 0 nr (map (λ (y : Cell). y.R) (cells_to X d h start))
+      r_lent =
+          lent_is 0 nr X (λ k. (cell k).R) r s.r_are s.r_beyond
+          ∙ ap (lent 0 nr) (sym (map_table (λ (y : Cell). y.R) (suc X) cell) ∙ ap (map (λ (y : Cell). y.R)) (sym are))
 
-      done : leftCells Done f r ≡ recursion X d h start nf nr
+      done : left_cells Done f r ≡ recursion X d h start nf nr
       unfolding recursion leaves
-      done = rw (rest ∙ stopped_none 0 (suc X) cell (λ k l. s.fit k (N.le_of_suc-le-suc l))) (ap₂ (leftCells Done) f-lent r-lent)
+      done = rw (rest ∙ stopped_none 0 (suc X) cell (λ k l. s.fit k (N.le_of_suc-le-suc l))) (ap₂ (left_cells Done) f_lent r_lent)
 
-    pub outcome-steps : (f : List ℤ) (r : List ℕ) (a : Recursed) → StepsFrom X d h start nf nr f r a → CarriedOut X d h start nf nr f r a
-    outcome-steps f r Done s = done f r s
-    outcome-steps f r Short s = absurd s
-    outcome-steps f r (Outside k) s = absurd s
-    outcome-steps f r (Wide x) s =
-        rest ∙ stopped-at 0 (suc X) x cell (Wide x) (let l = s.within in omega arith) s.fit
-        (λ after. rw (wide-cell (cell x) s.wide) (ap Wide (let e : 0 + x ≡ x = omega arith in e)))
-    outcome-steps f r (Large x) s =
-        rest ∙ stopped-at 0 (suc X) x cell (Large x) (let l = s.within in omega arith) s.fit
-        (λ after. rw (narrow-cell (cell x) s.narrow, large-cell (cell x) s.large) (ap Large (let e : 0 + x ≡ x = omega arith in e)))
+    pub outcome_steps : (f : List ℤ) (r : List ℕ) (a : Recursed) → StepsFrom X d h start nf nr f r a → CarriedOut X d h start nf nr f r a
+    outcome_steps f r Done s = done f r s
+    outcome_steps f r Short s = absurd s
+    outcome_steps f r (Outside k) s = absurd s
+    outcome_steps f r (Wide x) s =
+        rest ∙ stopped_at 0 (suc X) x cell (Wide x) (let l = s.within in omega arith) s.fit
+        (λ after. rw (wide_cell (cell x) s.wide) (ap Wide (let e : 0 + x ≡ x = omega arith in e)))
+    outcome_steps f r (Large x) s =
+        rest ∙ stopped_at 0 (suc X) x cell (Large x) (let l = s.within in omega arith) s.fit
+        (λ after. rw (narrow_cell (cell x) s.narrow, large_cell (cell x) s.large) (ap Large (let e : 0 + x ≡ x = omega arith in e)))
 
   -- what is left of either
-  pub outcome-left : (f f' : List ℤ) (r r' : List ℕ) (a : Recursed) → length f ≡ nf → length r ≡ nr → CarriedOut X d h start nf nr f r a → Settled a f r f' r' →
-      leftCells a f' r' ≡ recursion X d h start nf nr
+  pub outcome_left : (f f' : List ℤ) (r r' : List ℕ) (a : Recursed) → length f ≡ nf → length r ≡ nr → CarriedOut X d h start nf nr f r a → Settled a f r f' r' →
+      left_cells a f' r' ≡ recursion X d h start nf nr
   unfolding recursion leaves
-  outcome-left f f' r r' Done e g o s = ap₂ (leftCells Done) s.0 s.1 ∙ o
-  outcome-left f f' r r' Short e g o s = rw (o, ← e, ← g) (ap₂ (leftCells Short) s.0 s.1)
-  outcome-left f f' r r' (Outside k) e g o s = rw (o, ← e, ← g) (ap₂ (leftCells (Outside k)) s.0 s.1)
-  outcome-left f f' r r' (Wide x) e g o s = rw (o, ← e, ← g) (ap₂ (leftCells (Wide x)) s.0 s.1)
-  outcome-left f f' r r' (Large x) e g o s = rw (o, ← e, ← g) (ap₂ (leftCells (Large x)) s.0 s.1)
+  outcome_left f f' r r' Done e g o s = ap₂ (left_cells Done) s.0 s.1 ∙ o
+  outcome_left f f' r r' Short e g o s = rw (o, ← e, ← g) (ap₂ (left_cells Short) s.0 s.1)
+  outcome_left f f' r r' (Outside k) e g o s = rw (o, ← e, ← g) (ap₂ (left_cells (Outside k)) s.0 s.1)
+  outcome_left f f' r r' (Wide x) e g o s = rw (o, ← e, ← g) (ap₂ (left_cells (Wide x)) s.0 s.1)
+  outcome_left f f' r r' (Large x) e g o s = rw (o, ← e, ← g) (ap₂ (left_cells (Large x)) s.0 s.1)
 
-pub settled-zeros : (f f' : List ℤ) (r r' : List ℕ) (a : Recursed) → OneOf (1 ∷ 2 ∷ 3 ∷ 4 ∷ []) (Declared.tag_of R.the_type a) →
+pub settled_zeros : (f f' : List ℤ) (r r' : List ℕ) (a : Recursed) → OneOf (1 ∷ 2 ∷ 3 ∷ 4 ∷ []) (Declared.tag_of R.the_type a) →
     (f' ≡ replicate (length f) (pos 0)) × (r' ≡ replicate (length r) 0) → Settled a f r f' r'
-settled-zeros f f' r r' Done o z = absurd (not_done o)
-settled-zeros f f' r r' Short o z = z
-settled-zeros f f' r r' (Outside k) o z = z
-settled-zeros f f' r r' (Wide x) o z = z
-settled-zeros f f' r r' (Large x) o z = z
+settled_zeros f f' r r' Done o z = absurd (not_done o)
+settled_zeros f f' r r' Short o z = z
+settled_zeros f f' r r' (Outside k) o z = z
+settled_zeros f f' r r' (Wide x) o z = z
+settled_zeros f f' r r' (Large x) o z = z

@@ -1,4 +1,4 @@
--- One k of the sums for a cell: what it adds where D is not 0 and where it is (added, added_none, added-empty), and that
+-- One k of the sums for a cell: what it adds where D is not 0 and where it is (added, added_none, added_empty), and that
 -- the parts fit: the nearest part is at most 2|D|, the parts of R are at most |D| and 3×10^9.
 use mathlib.Core.Path.{◌≡◌, sym, ap, ap₂, ◌∙◌}
 use mathlib.Core.Bool.{false}
@@ -8,71 +8,71 @@ use native.Mathlib.Omega.{arith}
 use lib.IntN.{ℤ, pos, negsuc, nat_abs, ◌+ℤ◌, ◌*ℤ◌, +ℤ_idr, zero-*ℤ}
 use Rattle.rounding.specs.Rounding.{near, nearest, up}
 use Rattle.rounding.specs.Word.{word}
-use Rattle.rounding.proofs.Laws.{near-below, nearest_zero, up_least, up-zero}
-use Rattle.rounding.proofs.Word.{Rounds, per-unit-is}
+use Rattle.rounding.proofs.Laws.{near_below, nearest_zero, up_least, up_zero}
+use Rattle.rounding.proofs.Word.{Rounds, per_unit_is}
 use Rattle.fund.specs.Transform.{unit}
 use Rattle.fund.specs.Recursion.{Cell, Entry}
-use Rattle.laws.specs.Cells.{addF}
+use Rattle.laws.specs.Cells.{add_f}
 use Rattle.whole.specs.declared.Sums.{Sums}
 use Rattle.whole.specs.Sign.{signed}
 use Rattle.whole.specs.Sums.{sum_of, WithPart}
-use Rattle.recursion_limits.specs.Limits.{CellFits, most-error}
+use Rattle.recursion_limits.specs.Limits.{CellFits, most_error}
 use Rattle.recursion.specs.Steps.{opposite, ProductAdded}
-use Rattle.recursion.proofs.Opposite.{nearest-product}
+use Rattle.recursion.proofs.Opposite.{nearest_product}
 
-unit-positive : 0 < unit
+unit_positive : 0 < unit
 unfolding unit
-unit-positive = omega arith
+unit_positive = omega arith
 
 -- what a function of the crate rounding answers, for factors within its bounds
-pub part-is : {round : ℕ → ℕ → ℕ} → Rounds round → (a b a' b' r : ℕ) → a ≡ a' → b ≡ b' → a' ≤ 10 ^ 18 → b' ≤ 10 ^ 13 →
+pub part_is : {round : ℕ → ℕ → ℕ} → Rounds round → (a b a' b' r : ℕ) → a ≡ a' → b ≡ b' → a' ≤ 10 ^ 18 → b' ≤ 10 ^ 13 →
     r ≡ word (round (a * b) (10 ^ 12)) → r ≡ round (a' * b') unit
 unfolding unit
-part-is {round} rounds a b a' b' r p q h g e =
+part_is {round} rounds a b a' b' r p q h g e =
     e
     ∙ ap₂ (λ a b. word (round (a * b) (10 ^ 12))) p q
-    ∙ per-unit-is rounds a' b' h g
+    ∙ per_unit_is rounds a' b' h g
 
 -- the rounded parts of one k: D×f to the nearest, |D|×R and H×(|f| + R) up
 pub record Parts (k : Entry) (y : Cell) (n a b : ℕ) : Type 0 where
-  pub near-is : n ≡ near (nat_abs k.D * nat_abs y.f) unit
-  pub D-is : a ≡ up (nat_abs k.D * y.R) unit
-  pub H-is : b ≡ up (k.H * (nat_abs y.f + y.R)) unit
+  pub near_is : n ≡ near (nat_abs k.D * nat_abs y.f) unit
+  pub D_is : a ≡ up (nat_abs k.D * y.R) unit
+  pub H_is : b ≡ up (k.H * (nat_abs y.f + y.R)) unit
 
 pub record Within (k : Entry) (n a b : ℕ) : Type 0 where
   pub near_within : n ≤ 2 * nat_abs k.D
-  pub D-within : a ≤ nat_abs k.D
-  pub H-within : b ≤ 3 * most-error
+  pub D_within : a ≤ nat_abs k.D
+  pub H_within : b ≤ 3 * most_error
 
-zero-size : (z : ℤ) → nat_abs z ≡ 0 → z ≡ pos 0
-zero-size (pos n) e = ap pos e
-zero-size (negsuc n) e = absurd (omega arith)
+zero_size : (z : ℤ) → nat_abs z ≡ 0 → z ≡ pos 0
+zero_size (pos n) e = ap pos e
+zero_size (negsuc n) e = absurd (omega arith)
 
-module _ (k : Entry) (y : Cell) (limited : CellFits y) (error : k.H ≤ most-error) where
-  near-most : near (nat_abs k.D * nat_abs y.f) unit ≤ 2 * nat_abs k.D
+module _ (k : Entry) (y : Cell) (limited : CellFits y) (error : k.H ≤ most_error) where
+  near_most : near (nat_abs k.D * nat_abs y.f) unit ≤ 2 * nat_abs k.D
   unfolding unit
-  near-most =
-      near-below (nat_abs k.D * nat_abs y.f) unit (2 * nat_abs k.D) unit-positive
+  near_most =
+      near_below (nat_abs k.D * nat_abs y.f) unit (2 * nat_abs k.D) unit_positive
       (omega (arith, N.mul-le-mul_left (nat_abs k.D) limited.level))
 
-  D-most : up (nat_abs k.D * y.R) unit ≤ nat_abs k.D
+  D_most : up (nat_abs k.D * y.R) unit ≤ nat_abs k.D
   unfolding unit
-  D-most =
+  D_most =
       let h : y.R ≤ 10 ^ 12 = omega (arith, limited.narrow) in
-      up_least (nat_abs k.D * y.R) unit (nat_abs k.D) unit-positive (omega (arith, N.mul-le-mul_left (nat_abs k.D) h))
+      up_least (nat_abs k.D * y.R) unit (nat_abs k.D) unit_positive (omega (arith, N.mul-le-mul_left (nat_abs k.D) h))
 
-  pub H-most : up (k.H * (nat_abs y.f + y.R)) unit ≤ 3 * most-error
+  pub H_most : up (k.H * (nat_abs y.f + y.R)) unit ≤ 3 * most_error
   unfolding unit
-  H-most =
+  H_most =
       let g : nat_abs y.f + y.R ≤ 3 * 10 ^ 12 = omega (arith, limited.level, limited.narrow) in
-      up_least (k.H * (nat_abs y.f + y.R)) unit (3 * most-error) unit-positive (omega (arith, N.mul-le-mul error g))
+      up_least (k.H * (nat_abs y.f + y.R)) unit (3 * most_error) unit_positive (omega (arith, N.mul-le-mul error g))
 
   pub within : (n a b : ℕ) → Parts k y n a b → Within k n a b
   within n a b p =
       record {
-        near_within = rw p.near-is near-most;
-        D-within = rw p.D-is D-most;
-        H-within = rw p.H-is H-most;
+        near_within = rw p.near_is near_most;
+        D_within = rw p.D_is D_most;
+        H_within = rw p.H_is H_most;
       }
 
   -- a part more, of the product's sign, is one k more
@@ -80,42 +80,42 @@ module _ (k : Entry) (y : Cell) (limited : CellFits y) (error : k.H ≤ most-err
   added s t n a b p w =
       let l = within n a b p in
       record {
-        f-is =
+        f_is =
             w.sum_is
             ∙ ap (λ z. sum_of s +ℤ z)
-            (ap (signed (opposite k.D y.f)) p.near-is ∙ sym (nearest-product k.D y.f unit unit-positive));
-        R-is = w.bound-is ∙ ap (λ z. s.bound + z) (ap₂ ◌+◌ p.D-is p.H-is);
-        plus-within = omega (arith, w.plus-within, l.near_within);
-        minus-within = omega (arith, w.minus-within, l.near_within);
-        bound-within = omega (arith, w.bound-is, l.D-within, l.H-within);
+            (ap (signed (opposite k.D y.f)) p.near_is ∙ sym (nearest_product k.D y.f unit unit_positive));
+        R_is = w.bound_is ∙ ap (λ z. s.bound + z) (ap₂ ◌+◌ p.D_is p.H_is);
+        plus_within = omega (arith, w.plus_within, l.near_within);
+        minus_within = omega (arith, w.minus_within, l.near_within);
+        bound_within = omega (arith, w.bound_is, l.D_within, l.H_within);
       }
 
   -- D is 0
-  addF-none : nat_abs k.D ≡ 0 → addF k y ≡ pos 0
-  addF-none e =
-      ap (λ z. nearest (z *ℤ y.f) unit) (zero-size k.D e)
+  add_f_none : nat_abs k.D ≡ 0 → add_f k y ≡ pos 0
+  add_f_none e =
+      ap (λ z. nearest (z *ℤ y.f) unit) (zero_size k.D e)
       ∙ ap (λ z. nearest z unit) (zero-*ℤ y.f)
-      ∙ nearest_zero unit unit-positive
+      ∙ nearest_zero unit unit_positive
 
   up_none : (m n : ℕ) → m ≡ 0 → up (m * n) unit ≡ 0
-  up_none m n e = ap (λ m. up (m * n) unit) e ∙ ap (λ m. up m unit) (N.zero-mul n) ∙ up-zero unit unit-positive
+  up_none m n e = ap (λ m. up (m * n) unit) e ∙ ap (λ m. up m unit) (N.zero-mul n) ∙ up_zero unit unit_positive
 
   pub added_none : (s t : Sums) (b : ℕ) → nat_abs k.D ≡ 0 → b ≡ up (k.H * (nat_abs y.f + y.R)) unit → WithPart s false 0 b t → ProductAdded s k y t
   added_none s t b e h w =
       record {
-        f-is = w.sum_is ∙ ap (λ z. sum_of s +ℤ z) (sym (addF-none e));
-        R-is = omega (arith, w.bound-is, up_none (nat_abs k.D) y.R e, h);
-        plus-within = omega (arith, w.plus-within);
-        minus-within = omega (arith, w.minus-within);
-        bound-within = omega (arith, w.bound-is, h, H-most);
+        f_is = w.sum_is ∙ ap (λ z. sum_of s +ℤ z) (sym (add_f_none e));
+        R_is = omega (arith, w.bound_is, up_none (nat_abs k.D) y.R e, h);
+        plus_within = omega (arith, w.plus_within);
+        minus_within = omega (arith, w.minus_within);
+        bound_within = omega (arith, w.bound_is, h, H_most);
       }
 
-  pub added-empty : (s : Sums) → nat_abs k.D ≡ 0 → k.H ≡ 0 → ProductAdded s k y s
-  added-empty s e h =
+  pub added_empty : (s : Sums) → nat_abs k.D ≡ 0 → k.H ≡ 0 → ProductAdded s k y s
+  added_empty s e h =
       record {
-        f-is = sym (+ℤ_idr (sum_of s)) ∙ ap (λ z. sum_of s +ℤ z) (sym (addF-none e));
-        R-is = omega (arith, up_none (nat_abs k.D) y.R e, up_none k.H (nat_abs y.f + y.R) h);
-        plus-within = omega arith;
-        minus-within = omega arith;
-        bound-within = omega arith;
+        f_is = sym (+ℤ_idr (sum_of s)) ∙ ap (λ z. sum_of s +ℤ z) (sym (add_f_none e));
+        R_is = omega (arith, up_none (nat_abs k.D) y.R e, up_none k.H (nat_abs y.f + y.R) h);
+        plus_within = omega arith;
+        minus_within = omega arith;
+        bound_within = omega arith;
       }

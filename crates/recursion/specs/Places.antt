@@ -21,14 +21,14 @@ pub record Listed (X : ℕ) (d : List ℤ) (h : List ℕ) (list : List ℕ) (cou
   pub behind : (k : ℕ) → from list count ≤ k → k < X → Blank d h k
 
 -- |D(k+1)| and H(k+1) so small that their products with a cell's figures fit a word
-abbrev pub most-small-size : ℕ
-most-small-size = 35 * 10 ^ 12
+abbrev pub most_small_size : ℕ
+most_small_size = 35 * 10 ^ 12
 
-abbrev pub most-small-error : ℕ
-most-small-error = 9 * 10 ^ 6
+abbrev pub most_small_error : ℕ
+most_small_error = 9 * 10 ^ 6
 
 abbrev pub SmallSizes : ℕ → ℕ → Type 0
-SmallSizes size error = (size ≤ most-small-size) × (error ≤ most-small-error)
+SmallSizes size error = (size ≤ most_small_size) × (error ≤ most_small_error)
 
 abbrev pub SmallEntry : ℤ → ℕ → Type 0
 SmallEntry d h = SmallSizes (nat_abs d) h

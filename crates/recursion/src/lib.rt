@@ -5,7 +5,7 @@ mod products;
 mod steps;
 
 ghost use Rattle.std.specs.Prelude.{◌≡◌, length};
-ghost use Rattle.recursion.specs.Recursion.{leftCells, recursion};
+ghost use Rattle.recursion.specs.Recursion.{left_cells, recursion};
 ghost use Rattle.recursion.specs.Steps.{CarriedOut, Settled};
 
 pub use recursion_limits::Recursed;
@@ -51,7 +51,7 @@ pub fn recursion(
     f: &mut [i64],
     r: &mut [u64],
 ) -> Recursed
-    ensures { leftCells result f.exit.now r.new ≡
+    ensures { left_cells result f.exit.now r.new ≡
         recursion horizon transform.now h.now (record { f = first; R = bound }) (length f.entry.now) (length r.old) }
 {
     let answer = carried_out(horizon, transform, h, first, bound, f, r);

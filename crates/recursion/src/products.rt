@@ -1,8 +1,8 @@
 // What one k of the recursion adds: the rounded products of D(k) and H(k) with a cell's figures.
 ghost use Rattle.std.specs.Prelude.{◌≡◌, true, ◌*◌, ◌^◌, ◌≤◌};
 ghost use Rattle.rounding.specs.Rounding.{near, up};
-ghost use Rattle.recursion_limits.specs.Limits.{most-cell};
-ghost use Rattle.recursion.specs.Places.{most-small-size, SmallEntry};
+ghost use Rattle.recursion_limits.specs.Limits.{most_cell};
+ghost use Rattle.recursion.specs.Places.{most_small_size, SmallEntry};
 ghost use Rattle.recursion.specs.Steps.{opposite, SumsFit, ProductAdded};
 
 use rounding::MILLION;
@@ -60,7 +60,7 @@ fn error_up(a: u64, b: u64) -> u64
 
 // a * b / 10^12, to the nearest: a in base 8 * 10^6, from its high part down.
 fn product_nearest(a: u64, b: u64) -> u64
-    requires { (a ≤ most-small-size) × (b ≤ most-cell) }
+    requires { (a ≤ most_small_size) × (b ≤ most_cell) }
     ensures { result ≡ near (a * b) (10 ^ 12) }
 {
     (a / BASE * b + (a % BASE * b + HALF_UNIT) / BASE) / UNIT_OVER_BASE

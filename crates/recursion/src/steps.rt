@@ -4,9 +4,9 @@ ghost use Rattle.rounding.specs.Rounding.{near, nearest, up};
 ghost use Rattle.whole.specs.Sums.{sum_of};
 ghost use Rattle.recursion_limits.specs.Limits.{CellFits, TransformFits};
 ghost use Rattle.recursion_limits.specs.Tests.{Kept};
-ghost use Rattle.recursion.specs.Slices.{cellIn, CellsFit};
+ghost use Rattle.recursion.specs.Slices.{cell_in, CellsFit};
 ghost use Rattle.recursion.specs.Places.{PlacesOf};
-ghost use Rattle.recursion.specs.Steps.{most-part-sum, SumsTo, StepsFor, StepsFrom};
+ghost use Rattle.recursion.specs.Steps.{most_part_sum, SumsTo, StepsFor, StepsFrom};
 
 use super::places::Places;
 use super::{places, products};
@@ -55,7 +55,7 @@ pub(crate) fn all_steps(
 // Fills f and r from 1 to the horizon, or stops at the first cell that is too wide, or too large.
 fn steps(horizon: usize, transform: &[i64], h: &[u64], f: &mut [i64], r: &mut [u64]) -> Recursed
     requires transform_fits { TransformFits horizon transform.now h.now }
-    requires horizon_in_bounds { (horizon < length f.old) × (horizon < length r.old) × CellFits (cellIn f.old r.old 0) }
+    requires horizon_in_bounds { (horizon < length f.old) × (horizon < length r.old) × CellFits (cell_in f.old r.old 0) }
     ensures { StepsFor horizon transform.now h.now f.old r.old f.new r.new result }
 {
     let mut list = [0usize; MOST_PLACES];
@@ -74,7 +74,7 @@ fn fill_cells(
     r: &mut [u64],
 ) -> Recursed
     requires transform_fits { TransformFits horizon transform.now h.now }
-    requires horizon_in_bounds { (horizon < length f.old) × (horizon < length r.old) × CellFits (cellIn f.old r.old 0) }
+    requires horizon_in_bounds { (horizon < length f.old) × (horizon < length r.old) × CellFits (cell_in f.old r.old 0) }
     requires places_of { PlacesOf horizon transform.now h.now list.now p }
     ensures { StepsFor horizon transform.now h.now f.old r.old f.new r.new result }
 {
@@ -139,7 +139,7 @@ fn sums(
 
 // f(x), the nearest of the sum over x.
 fn cell_of(s: Sums, x: u64) -> i64
-    requires { (s.plus ≤ most-part-sum) × (s.minus ≤ most-part-sum) × (0 < x) }
+    requires { (s.plus ≤ most_part_sum) × (s.minus ≤ most_part_sum) × (0 < x) }
     ensures { result ≡ nearest (sum_of s) x }
 {
     let sum = whole::difference(s.plus, s.minus);
@@ -158,7 +158,7 @@ fn nearest_over(sum: Signed, x: u64) -> Signed
 
 // R(x), the sum over x, up, and one more.
 fn bound_of(s: Sums, x: u64) -> u64
-    requires { (s.bound ≤ most-part-sum) × (0 < x) }
+    requires { (s.bound ≤ most_part_sum) × (0 < x) }
     ensures { result ≡ up s.bound x + 1 }
 {
     whole::up(s.bound, x) + 1

@@ -2,41 +2,41 @@
 use Rattle.std.specs.Prelude.{◌≡◌, Bool, ◌||◌, ◌⊎◌, List, [], ◌∷◌, ℕ, suc, ◌<◌, ◌≤◌, ltb, ℤ, nat_abs, length, get_or}
 use Rattle.std.proofs.Math.Option.{Option, none, some}
 use Rattle.fund.specs.Base.{if◌then◌else◌, table}
-use Rattle.fund.specs.Limits.{most-horizon}
+use Rattle.fund.specs.Limits.{most_horizon}
 use Rattle.fund.specs.Recursion.{Cell}
-use Rattle.fund.specs.Refusals.{first, wide, anyShort}
+use Rattle.fund.specs.Refusals.{first, wide, any_short}
 use Rattle.recursion_limits.specs.declared.Recursed.{Recursed}
 use Rattle.recursion_limits.specs.declared.Recursed.TheVariants.{Done, Short, Outside, Wide, Large}
-use Rattle.recursion_limits.specs.Limits.{most-transform, most-error, most-cell, sizes, CellFits, TransformFits}
+use Rattle.recursion_limits.specs.Limits.{most_transform, most_error, most_cell, sizes, CellFits, TransformFits}
 
 -- |f(x)| is above its limit.
 unfoldable pub large : Cell → Bool
-large y = ltb most-cell (nat_abs y.f)
+large y = ltb most_cell (nat_abs y.f)
 
 -- The first k from 1 to X whose H(k) is above its limit.
-unfoldable pub errorAt : ℕ → List ℕ → Option ℕ
-errorAt X h = first (ltb most-error) 1 (table X (λ k. get_or h (suc k) 0))
+unfoldable pub error_at : ℕ → List ℕ → Option ℕ
+error_at X h = first (ltb most_error) 1 (table X (λ k. get_or h (suc k) 0))
 
 -- The sum of |D(k)| or the start is above its limit.
-unfoldable pub sumOrStart : ℕ → List ℤ → Cell → Bool
-sumOrStart X d start = ltb most-transform (sizes d X) || large start || wide start
+unfoldable pub sum_or_start : ℕ → List ℤ → Cell → Bool
+sum_or_start X d start = ltb most_transform (sizes d X) || large start || wide start
 
 -- The limits, in the order in which they are tested: X, the lengths of the slices, each H(k), then the sum and the start.
 unfoldable pub tested : ℕ → List ℤ → List ℕ → Cell → ℕ → ℕ → Recursed
 tested X d h start nf nr =
-    if ltb most-horizon X then Outside 0
-    else if anyShort (length d ∷ length h ∷ nf ∷ nr ∷ []) X then Short
-    else elim (errorAt X h) [ some k ↦ Outside k | none ↦ if sumOrStart X d start then Outside 0 else Done ]
+    if ltb most_horizon X then Outside 0
+    else if any_short (length d ∷ length h ∷ nf ∷ nr ∷ []) X then Short
+    else elim (error_at X h) [ some k ↦ Outside k | none ↦ if sum_or_start X d start then Outside 0 else Done ]
 
 -- no H(k) is above its limit, or k is the first whose is
 abbrev pub ErrorAt : ℕ → List ℕ → ℕ → Type 0
-ErrorAt X h k = ((k ≡ 0) × ((j : ℕ) → j < X → get_or h (suc j) 0 ≤ most-error)) ⊎ ((0 < k) × (errorAt X h ≡ some k))
+ErrorAt X h k = ((k ≡ 0) × ((j : ℕ) → j < X → get_or h (suc j) 0 ≤ most_error)) ⊎ ((0 < k) × (error_at X h ≡ some k))
 
 -- all limits are kept
 pub record Kept (X : ℕ) (d : List ℤ) (h : List ℕ) (start : Cell) (nf nr : ℕ) : Type 0 where
   pub transform : TransformFits X d h
-  pub f-long : X < nf
-  pub r-long : X < nr
+  pub f_long : X < nf
+  pub r_long : X < nr
   pub start_fits : CellFits start
 
 abbrev pub Tests : ℕ → List ℤ → List ℕ → Cell → ℕ → ℕ → Recursed → Type 0

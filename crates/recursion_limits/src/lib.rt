@@ -1,8 +1,8 @@
 // The limits of the recursion, tested in their order: X, the lengths of the slices, each H(k), then the sum of |D(k)| and the start.
 ghost use Rattle.std.specs.Prelude.{◌≡◌, ◌&&◌, [], ◌∷◌, ◌<◌, leb, nat_abs, length};
-ghost use Rattle.fund.specs.Limits.{most-bound};
-ghost use Rattle.fund.specs.Refusals.{anyShort};
-ghost use Rattle.recursion_limits.specs.Limits.{most-transform, most-cell, sizes};
+ghost use Rattle.fund.specs.Limits.{most_bound};
+ghost use Rattle.fund.specs.Refusals.{any_short};
+ghost use Rattle.recursion_limits.specs.Limits.{most_transform, most_cell, sizes};
 ghost use Rattle.recursion_limits.specs.Tests.{ErrorAt, Tests};
 
 use fund::Fund;
@@ -28,7 +28,7 @@ pub const MOST_CELL: u64 = 2 * rounding::UNIT;
 
 // Whether one of four slices has fewer than X + 1 cells.
 fn short(horizon: usize, transform: usize, h: usize, f: usize, r: usize) -> bool
-    ensures { result ≡ anyShort (transform ∷ h ∷ f ∷ r ∷ []) horizon }
+    ensures { result ≡ any_short (transform ∷ h ∷ f ∷ r ∷ []) horizon }
 {
     transform <= horizon || h <= horizon || f <= horizon || r <= horizon
 }
@@ -49,7 +49,7 @@ fn error_at(horizon: usize, h: &[u64]) -> u64
 // Whether the sum of |D(k)|, k from 1 to X, is within its limit.
 fn sizes_within(horizon: usize, transform: &[i64]) -> bool
     requires { horizon < length transform.now }
-    ensures { result ≡ leb (sizes transform.now horizon) most-transform }
+    ensures { result ≡ leb (sizes transform.now horizon) most_transform }
 {
     let mut left = MOST_TRANSFORM;
     for k in 0..horizon {
@@ -64,7 +64,7 @@ fn sizes_within(horizon: usize, transform: &[i64]) -> bool
 
 // Whether f(0) and R(0) are within the limits of a cell.
 fn start_within(first: i64, bound: u64) -> bool
-    ensures { result ≡ (leb (nat_abs first) most-cell && leb bound most-bound) }
+    ensures { result ≡ (leb (nat_abs first) most_cell && leb bound most_bound) }
 {
     whole::magnitude(first) <= MOST_CELL && bound <= Fund::MOST_BOUND
 }

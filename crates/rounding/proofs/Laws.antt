@@ -12,73 +12,73 @@ use Rattle.rounding.specs.Rounding.{near, nearest, up}
 
 -- ---- the nearest of a quotient that is not negative
 
-pub near-low : (a b : ℕ) → 2 * b * near a b ≤ 2 * a + b
+pub near_low : (a b : ℕ) → 2 * b * near a b ≤ 2 * a + b
 unfolding near
-near-low a b = N.mul-div-le (2 * a + b) (2 * b)
+near_low a b = N.mul-div-le (2 * a + b) (2 * b)
 
-pub near-high : (a b : ℕ) → 0 < b → 2 * a < 2 * b * near a b + b
+pub near_high : (a b : ℕ) → 0 < b → 2 * a < 2 * b * near a b + b
 unfolding near
-near-high a b h =
+near_high a b h =
     let k : 0 < 2 * b = omega arith in
     let g : 2 * a + b < 2 * b * ((2 * a + b) / (2 * b) + 1) = N.lt-mul-div-succ (2 * a + b) k in
     omega arith
 
-pub near-unique : (a b k : ℕ) → 2 * b * k ≤ 2 * a + b → 2 * a < 2 * b * k + b → near a b ≡ k
+pub near_unique : (a b k : ℕ) → 2 * b * k ≤ 2 * a + b → 2 * a < 2 * b * k + b → near a b ≡ k
 unfolding near
-near-unique a b k h g = N.div-eq_of_lt-le (2 * b) (omega arith) (omega arith)
+near_unique a b k h g = N.div-eq_of_lt-le (2 * b) (omega arith) (omega arith)
 
-pub near-mono : (a a' b : ℕ) → 0 < b → a ≤ a' → near a b ≤ near a' b
+pub near_mono : (a a' b : ℕ) → 0 < b → a ≤ a' → near a b ≤ near a' b
 unfolding near
-near-mono a a' b h g =
+near_mono a a' b h g =
     let z : 0 < 2 * b = omega arith in
     (N.le-div_iff_mul-le z).1 (omega (arith, N.div-mul-le_self (2 * a + b) (2 * b)))
 
 pub near_mul : (a b : ℕ) → 0 < b → near (b * a) b ≡ a
-near_mul a b h = near-unique (b * a) b a (omega arith) (omega arith)
+near_mul a b h = near_unique (b * a) b a (omega arith) (omega arith)
 
-pub near-above : (a b k : ℕ) → 0 < b → b * k ≤ a → k ≤ near a b
-near-above a b k h g = rw (near_mul k b h) at (near-mono (b * k) a b h g)
+pub near_above : (a b k : ℕ) → 0 < b → b * k ≤ a → k ≤ near a b
+near_above a b k h g = rw (near_mul k b h) at (near_mono (b * k) a b h g)
 
-pub near-below : (a b k : ℕ) → 0 < b → a ≤ b * k → near a b ≤ k
-near-below a b k h g = rw (near_mul k b h) at (near-mono a (b * k) b h g)
+pub near_below : (a b k : ℕ) → 0 < b → a ≤ b * k → near a b ≤ k
+near_below a b k h g = rw (near_mul k b h) at (near_mono a (b * k) b h g)
 
-pub near-zero : (b : ℕ) → 0 < b → near 0 b ≡ 0
-near-zero b h = near-unique 0 b 0 (omega arith) (omega arith)
+pub near_zero : (b : ℕ) → 0 < b → near 0 b ≡ 0
+near_zero b h = near_unique 0 b 0 (omega arith) (omega arith)
 
 -- A division by 0 is 0.
-pub near-by-zero : (a : ℕ) → near a 0 ≡ 0
+pub near_by_zero : (a : ℕ) → near a 0 ≡ 0
 unfolding near
-near-by-zero a = N.div-zero (2 * a + 0)
+near_by_zero a = N.div-zero (2 * a + 0)
 
 -- ---- the nearest of any quotient
 
-pub nearest-pos : (a b : ℕ) → nearest (pos a) b ≡ pos (near a b)
+pub nearest_pos : (a b : ℕ) → nearest (pos a) b ≡ pos (near a b)
 unfolding nearest
-nearest-pos a b = refl
+nearest_pos a b = refl
 
 pub nearest_zero : (b : ℕ) → 0 < b → nearest (pos 0) b ≡ pos 0
-nearest_zero b h = nearest-pos 0 b ∙ ap pos (near-zero b h)
+nearest_zero b h = nearest_pos 0 b ∙ ap pos (near_zero b h)
 
-pub nearest-neg : (a : ℤ) (b : ℕ) → 0 < b → nearest (neg_ℤ a) b ≡ neg_ℤ (nearest a b)
+pub nearest_neg : (a : ℤ) (b : ℕ) → 0 < b → nearest (neg_ℤ a) b ≡ neg_ℤ (nearest a b)
 unfolding nearest
-nearest-neg (pos zero) b h = ap pos (near-zero b h) ∙ ap (λ x. neg_ℤ (pos x)) (sym (near-zero b h))
-nearest-neg (pos (suc a)) b h = refl
-nearest-neg (negsuc a) b h = sym (neg_ℤ-neg_ℤ (pos (near (suc a) b)))
+nearest_neg (pos zero) b h = ap pos (near_zero b h) ∙ ap (λ x. neg_ℤ (pos x)) (sym (near_zero b h))
+nearest_neg (pos (suc a)) b h = refl
+nearest_neg (negsuc a) b h = sym (neg_ℤ-neg_ℤ (pos (near (suc a) b)))
 
-natAbs-neg : (a : ℤ) → nat_abs (neg_ℤ a) ≡ nat_abs a
-natAbs-neg (pos zero) = refl
-natAbs-neg (pos (suc a)) = refl
-natAbs-neg (negsuc a) = refl
+nat_abs_neg : (a : ℤ) → nat_abs (neg_ℤ a) ≡ nat_abs a
+nat_abs_neg (pos zero) = refl
+nat_abs_neg (pos (suc a)) = refl
+nat_abs_neg (negsuc a) = refl
 
-pub nearest-natAbs : (a : ℤ) (b : ℕ) → nat_abs (nearest a b) ≡ near (nat_abs a) b
+pub nearest_nat_abs : (a : ℤ) (b : ℕ) → nat_abs (nearest a b) ≡ near (nat_abs a) b
 unfolding nearest
-nearest-natAbs (pos a) b = refl
-nearest-natAbs (negsuc a) b = natAbs-neg (pos (near (suc a) b))
+nearest_nat_abs (pos a) b = refl
+nearest_nat_abs (negsuc a) b = nat_abs_neg (pos (near (suc a) b))
 
-pub nearest-mul : (a : ℤ) (b : ℕ) → 0 < b → nearest (pos b *ℤ a) b ≡ a
+pub nearest_mul : (a : ℤ) (b : ℕ) → 0 < b → nearest (pos b *ℤ a) b ≡ a
 unfolding nearest
-nearest-mul (pos a) b h = ap pos (near_mul a b h)
-nearest-mul (negsuc a) b h = nearest-neg (pos (b * suc a)) b h ∙ ap (λ x. neg_ℤ (pos x)) (near_mul (suc a) b h)
+nearest_mul (pos a) b h = ap pos (near_mul a b h)
+nearest_mul (negsuc a) b h = nearest_neg (pos (b * suc a)) b h ∙ ap (λ x. neg_ℤ (pos x)) (near_mul (suc a) b h)
 
 -- Two numbers of which neither is more than b above the other.
 difference : (x y b : ℕ) → x ≤ y + b → y ≤ x + b → nat_abs (pos x -ℤ pos y) ≤ b
@@ -89,95 +89,95 @@ difference x (suc y) b h g = go (ltb x (suc y)) (nltb→le x (suc y)) (ltb→lt 
     go true f k = let l : x < suc y = k tt in omega arith
     go false f k = let l : suc y ≤ x = f tt in omega arith
 
-mul-neg : (x y : ℕ) → pos x *ℤ neg_ℤ (pos y) ≡ neg_ℤ (pos (x * y))
-mul-neg x zero = rw N.mul-zero
-mul-neg x (suc y) = refl
+mul_neg : (x y : ℕ) → pos x *ℤ neg_ℤ (pos y) ≡ neg_ℤ (pos (x * y))
+mul_neg x zero = rw N.mul-zero
+mul_neg x (suc y) = refl
 
 -- Both signs changed, a difference is as large as it was.
-difference-neg : (x y z : ℕ) → nat_abs (pos x *ℤ neg_ℤ (pos y) -ℤ neg_ℤ (pos z)) ≡ nat_abs (pos (x * y) -ℤ pos z)
-difference-neg x y z =
-    ap (λ m. nat_abs (m -ℤ neg_ℤ (pos z))) (mul-neg x y)
+difference_neg : (x y z : ℕ) → nat_abs (pos x *ℤ neg_ℤ (pos y) -ℤ neg_ℤ (pos z)) ≡ nat_abs (pos (x * y) -ℤ pos z)
+difference_neg x y z =
+    ap (λ m. nat_abs (m -ℤ neg_ℤ (pos z))) (mul_neg x y)
     ∙ ap nat_abs (sym (neg_ℤ-+ℤ (pos (x * y)) (neg_ℤ (pos z))))
-    ∙ natAbs-neg (pos (x * y) -ℤ pos z)
+    ∙ nat_abs_neg (pos (x * y) -ℤ pos z)
 
 within : (a b : ℕ) → 0 < b → nat_abs (pos (2 * b * near a b) -ℤ pos (2 * a)) ≤ b
-within a b h = difference (2 * b * near a b) (2 * a) b (near-low a b) (omega (arith, near-high a b h))
+within a b h = difference (2 * b * near a b) (2 * a) b (near_low a b) (omega (arith, near_high a b h))
 
-pub nearest-within : (a : ℤ) (b : ℕ) → 0 < b → nat_abs (pos (2 * b) *ℤ nearest a b -ℤ pos 2 *ℤ a) ≤ b
+pub nearest_within : (a : ℤ) (b : ℕ) → 0 < b → nat_abs (pos (2 * b) *ℤ nearest a b -ℤ pos 2 *ℤ a) ≤ b
 unfolding nearest
-nearest-within (pos a) b h = within a b h
-nearest-within (negsuc a) b h =
-    subst (λ x. x ≤ b) (sym (difference-neg (2 * b) (near (suc a) b) (2 * suc a))) (within (suc a) b h)
+nearest_within (pos a) b h = within a b h
+nearest_within (negsuc a) b h =
+    subst (λ x. x ≤ b) (sym (difference_neg (2 * b) (near (suc a) b) (2 * suc a))) (within (suc a) b h)
 
-own-neg : (n : ℕ) → neg_ℤ (pos n) ≡ pos n → n ≡ 0
-own-neg zero e = refl
-own-neg (suc n) e = absurd (pos-ne-negsuc (suc n) n (sym e))
+own_neg : (n : ℕ) → neg_ℤ (pos n) ≡ pos n → n ≡ 0
+own_neg zero e = refl
+own_neg (suc n) e = absurd (pos-ne-negsuc (suc n) n (sym e))
 
 -- The only number with these bounds that is not on the other side of zero.
-pub nearest-unique : (a k : ℤ) (b : ℕ) →
+pub nearest_unique : (a k : ℤ) (b : ℕ) →
     2 * b * nat_abs k ≤ 2 * nat_abs a + b →
     2 * nat_abs a < 2 * b * nat_abs k + b →
     a *ℤ k ≡ pos (nat_abs a * nat_abs k) →
     nearest a b ≡ k
 unfolding nearest
-nearest-unique (pos a) (pos k) b h g s = ap pos (near-unique a b k h g)
-nearest-unique (negsuc a) (negsuc k) b h g s = ap (λ x. neg_ℤ (pos x)) (near-unique (suc a) b (suc k) h g)
-nearest-unique (pos a) (negsuc k) b h g s =
-    let z : a * suc k ≡ 0 = own-neg (a * suc k) s in
+nearest_unique (pos a) (pos k) b h g s = ap pos (near_unique a b k h g)
+nearest_unique (negsuc a) (negsuc k) b h g s = ap (λ x. neg_ℤ (pos x)) (near_unique (suc a) b (suc k) h g)
+nearest_unique (pos a) (negsuc k) b h g s =
+    let z : a * suc k ≡ 0 = own_neg (a * suc k) s in
     let l : a ≡ 0 = omega arith in
     absurd (let f : ⊥ = omega arith in f)
-nearest-unique (negsuc a) (pos k) b h g s =
-    let z : suc a * k ≡ 0 = own-neg (suc a * k) s in
+nearest_unique (negsuc a) (pos k) b h g s =
+    let z : suc a * k ≡ 0 = own_neg (suc a * k) s in
     let l : k ≡ 0 = omega arith in
-    ap (λ x. neg_ℤ (pos x)) (near-unique (suc a) b k h g ∙ l) ∙ ap pos (sym l)
+    ap (λ x. neg_ℤ (pos x)) (near_unique (suc a) b k h g ∙ l) ∙ ap pos (sym l)
 
-pub neg-below : (x y : ℕ) → neg_ℤ (pos x) ≤ℤ pos y
-neg-below zero y = record { le = le→leb 0 y (omega arith) }
-neg-below (suc x) y = record { le = tt }
+pub neg_below : (x y : ℕ) → neg_ℤ (pos x) ≤ℤ pos y
+neg_below zero y = record { le = le→leb 0 y (omega arith) }
+neg_below (suc x) y = record { le = tt }
 
-neg-mono : (x y : ℕ) → x ≤ y → neg_ℤ (pos y) ≤ℤ neg_ℤ (pos x)
-neg-mono zero y h = neg-below y 0
-neg-mono (suc x) zero h = absurd (N.not-suc-le-zero h)
-neg-mono (suc x) (suc y) h = record { le = le→leb x y (N.le_of_suc-le-suc h) }
+neg_mono : (x y : ℕ) → x ≤ y → neg_ℤ (pos y) ≤ℤ neg_ℤ (pos x)
+neg_mono zero y h = neg_below y 0
+neg_mono (suc x) zero h = absurd (N.not-suc-le-zero h)
+neg_mono (suc x) (suc y) h = record { le = le→leb x y (N.le_of_suc-le-suc h) }
 
-pub nearest-mono : (a a' : ℤ) (b : ℕ) → 0 < b → a ≤ℤ a' → nearest a b ≤ℤ nearest a' b
+pub nearest_mono : (a a' : ℤ) (b : ℕ) → 0 < b → a ≤ℤ a' → nearest a b ≤ℤ nearest a' b
 unfolding nearest
-nearest-mono (pos a) (pos a') b h g = record { le = le→leb (near a b) (near a' b) (near-mono a a' b h (leb→le a a' g.le)) }
-nearest-mono (pos a) (negsuc a') b h g = absurd g.le
-nearest-mono (negsuc a) (pos a') b h g = neg-below (near (suc a) b) (near a' b)
-nearest-mono (negsuc a) (negsuc a') b h g =
-    neg-mono (near (suc a') b) (near (suc a) b) (near-mono (suc a') (suc a) b h (suc-le-suc (leb→le a' a g.le)))
+nearest_mono (pos a) (pos a') b h g = record { le = le→leb (near a b) (near a' b) (near_mono a a' b h (leb→le a a' g.le)) }
+nearest_mono (pos a) (negsuc a') b h g = absurd g.le
+nearest_mono (negsuc a) (pos a') b h g = neg_below (near (suc a) b) (near a' b)
+nearest_mono (negsuc a) (negsuc a') b h g =
+    neg_mono (near (suc a') b) (near (suc a) b) (near_mono (suc a') (suc a) b h (suc-le-suc (leb→le a' a g.le)))
 
 -- ---- up
 
-pub up-low : (a b : ℕ) → 0 < b → a ≤ b * up a b
+pub up_low : (a b : ℕ) → 0 < b → a ≤ b * up a b
 unfolding up
-up-low a b h = omega (arith, N.lt-mul-div-succ (a + (b - 1)) h)
+up_low a b h = omega (arith, N.lt-mul-div-succ (a + (b - 1)) h)
 
-pub up-high : (a b : ℕ) → 0 < b → b * up a b < a + b
+pub up_high : (a b : ℕ) → 0 < b → b * up a b < a + b
 unfolding up
-up-high a b h = omega (arith, N.mul-div-le (a + (b - 1)) b)
+up_high a b h = omega (arith, N.mul-div-le (a + (b - 1)) b)
 
-pub up-unique : (a b k : ℕ) → a ≤ b * k → b * k < a + b → up a b ≡ k
+pub up_unique : (a b k : ℕ) → a ≤ b * k → b * k < a + b → up a b ≡ k
 unfolding up
-up-unique a b k h g = N.div-eq_of_lt-le b (omega arith) (omega arith)
+up_unique a b k h g = N.div-eq_of_lt-le b (omega arith) (omega arith)
 
 pub up_least : (a b k : ℕ) → 0 < b → a ≤ b * k → up a b ≤ k
 up_least a b k h g =
-    N.le_of_suc-le-suc (N.lt_of_mul-lt-mul_left b (omega (arith, up-high a b h, N.mul-suc b k)))
+    N.le_of_suc-le-suc (N.lt_of_mul-lt-mul_left b (omega (arith, up_high a b h, N.mul-suc b k)))
 
-pub up-mono : (a a' b : ℕ) → 0 < b → a ≤ a' → up a b ≤ up a' b
-up-mono a a' b h g = up_least a b (up a' b) h (N.le_trans g (up-low a' b h))
+pub up_mono : (a a' b : ℕ) → 0 < b → a ≤ a' → up a b ≤ up a' b
+up_mono a a' b h g = up_least a b (up a' b) h (N.le_trans g (up_low a' b h))
 
-pub up-mul : (a b : ℕ) → 0 < b → up (b * a) b ≡ a
-up-mul a b h = up-unique (b * a) b a (omega arith) (omega arith)
+pub up_mul : (a b : ℕ) → 0 < b → up (b * a) b ≡ a
+up_mul a b h = up_unique (b * a) b a (omega arith) (omega arith)
 
 pub up_above : (a b k : ℕ) → 0 < b → b * k ≤ a → k ≤ up a b
-up_above a b k h g = rw (up-mul k b h) at (up-mono (b * k) a b h g)
+up_above a b k h g = rw (up_mul k b h) at (up_mono (b * k) a b h g)
 
-pub up-zero : (b : ℕ) → 0 < b → up 0 b ≡ 0
-up-zero b h = up-unique 0 b 0 (omega arith) (omega arith)
+pub up_zero : (b : ℕ) → 0 < b → up 0 b ≡ 0
+up_zero b h = up_unique 0 b 0 (omega arith) (omega arith)
 
-pub up-by-zero : (a : ℕ) → up a 0 ≡ 0
+pub up_by_zero : (a : ℕ) → up a 0 ≡ 0
 unfolding up
-up-by-zero a = N.div-zero (a + (0 - 1))
+up_by_zero a = N.div-zero (a + (0 - 1))

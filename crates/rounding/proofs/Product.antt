@@ -5,13 +5,13 @@ use Prim.Native.Nat.{ℕ, ◌+◌, ◌*◌, ◌/◌, ◌%◌, ◌^◌, ◌<◌, 
 use native.Mathlib.Nat as N
 use native.Mathlib.Omega.{arith}
 
-pub split-left : (a b m : ℕ) → a * b ≡ a / m * b * m + a % m * b
-split-left a b m =
+pub split_left : (a b m : ℕ) → a * b ≡ a / m * b * m + a % m * b
+split_left a b m =
     ap (λ x. x * b) (sym (N.div-add-mod' a m))
     ∙ N.add-mul (a / m * m) (a % m) b ∙ ap (λ x. x + a % m * b) (N.mul_right_comm (a / m) m b)
 
-pub split-right : (a b m : ℕ) → a * b ≡ a * (b / m) * m + a * (b % m)
-split-right a b m =
+pub split_right : (a b m : ℕ) → a * b ≡ a * (b / m) * m + a * (b % m)
+split_right a b m =
     ap (λ x. a * x) (sym (N.div-add-mod' b m))
     ∙ N.mul-add a (b / m * m) (b % m) ∙ ap (λ x. x + a * (b % m)) (sym (N.mul_assoc a (b / m) m))
 
@@ -23,8 +23,8 @@ pub record UnitParts (a b : ℕ) : Type 0 where
   pub at_most : a * b ≤ a * 1000000000000
   pub sum : a * b ≡ a / 1000000000000 * b * 1000000000000 + (a % 1000000000000 / 1000000 * b * 1000000 + a % 1000000000000 % 1000000 * b)
 
-pub unit-parts : (a b : ℕ) → a < 2 ^ 64 → b < 10 ^ 12 → UnitParts a b
-unit-parts a b h g =
+pub unit_parts : (a b : ℕ) → a < 2 ^ 64 → b < 10 ^ 12 → UnitParts a b
+unit_parts a b h g =
     let b' : b ≤ 999999999999 = omega arith in
     let x : a / 1000000000000 ≤ 18446744 = omega arith in
     let y : a % 1000000000000 / 1000000 ≤ 999999 = omega arith in
@@ -34,7 +34,7 @@ unit-parts a b h g =
       middle = N.mul-le-mul y b';
       low = N.mul-le-mul z b';
       at_most = N.mul-le-mul_left a (omega arith);
-      sum = split-left a b 1000000000000 ∙ ap (λ x. a / 1000000000000 * b * 1000000000000 + x) (split-left (a % 1000000000000) b 1000000);
+      sum = split_left a b 1000000000000 ∙ ap (λ x. a / 1000000000000 * b * 1000000000000 + x) (split_left (a % 1000000000000) b 1000000);
     }
 
 -- The parts for a up to 10^18 and b up to 10^13.
@@ -44,8 +44,8 @@ pub record SmallParts (a b : ℕ) : Type 0 where
   pub low : a % 1000000000000 % 1000000 * b ≤ 999999 * 10000000000000
   pub sum : a * b ≡ a / 1000000000000 * b * 1000000000000 + (a % 1000000000000 / 1000000 * b * 1000000 + a % 1000000000000 % 1000000 * b)
 
-pub small-parts : (a b : ℕ) → a ≤ 10 ^ 18 → b ≤ 10 ^ 13 → SmallParts a b
-small-parts a b h g =
+pub small_parts : (a b : ℕ) → a ≤ 10 ^ 18 → b ≤ 10 ^ 13 → SmallParts a b
+small_parts a b h g =
     let x : a / 1000000000000 ≤ 1000000 = omega arith in
     let y : a % 1000000000000 / 1000000 ≤ 999999 = omega arith in
     let z : a % 1000000000000 % 1000000 ≤ 999999 = omega arith in
@@ -53,7 +53,7 @@ small-parts a b h g =
       high = N.mul-le-mul x g;
       middle = N.mul-le-mul y g;
       low = N.mul-le-mul z g;
-      sum = split-left a b 1000000000000 ∙ ap (λ x. a / 1000000000000 * b * 1000000000000 + x) (split-left (a % 1000000000000) b 1000000);
+      sum = split_left a b 1000000000000 ∙ ap (λ x. a / 1000000000000 * b * 1000000000000 + x) (split_left (a % 1000000000000) b 1000000);
     }
 
 pub record MillionParts (a b : ℕ) : Type 0 where
@@ -62,20 +62,20 @@ pub record MillionParts (a b : ℕ) : Type 0 where
   pub at_most : a * b ≤ a * 1000000
   pub sum : a * b ≡ a / 1000000 * b * 1000000 + a % 1000000 * b
 
-pub million-parts : (a b : ℕ) → a < 2 ^ 64 → b < 10 ^ 6 → MillionParts a b
-million-parts a b h g =
+pub million_parts : (a b : ℕ) → a < 2 ^ 64 → b < 10 ^ 6 → MillionParts a b
+million_parts a b h g =
     let b' : b ≤ 999999 = omega arith in
     let x : a / 1000000 ≤ 18446744073709 = omega arith in
     let y : a % 1000000 ≤ 999999 = omega arith in
-    record { high = N.mul-le-mul x b'; low = N.mul-le-mul y b'; at_most = N.mul-le-mul_left a (omega arith); sum = split-left a b 1000000 }
+    record { high = N.mul-le-mul x b'; low = N.mul-le-mul y b'; at_most = N.mul-le-mul_left a (omega arith); sum = split_left a b 1000000 }
 
 -- A part of p, with a times w whole units added to it.
 module _ (a w unit p q l : ℕ) (e : p ≡ q * unit + l) where
-  pub whole-fits : a * w * unit + p ≡ (a * w + q) * unit + l
-  whole-fits = omega (arith, N.add-mul (a * w) q unit)
+  pub whole_fits : a * w * unit + p ≡ (a * w + q) * unit + l
+  whole_fits = omega (arith, N.add-mul (a * w) q unit)
 
-  pub whole-many : 2 ^ 64 ≤ a * w + q → 2 ^ 64 * unit ≤ a * w * unit + p
-  whole-many h = omega (arith, N.mul-le-mul_right unit h, N.add-mul (a * w) q unit)
+  pub whole_many : 2 ^ 64 ≤ a * w + q → 2 ^ 64 * unit ≤ a * w * unit + p
+  whole_many h = omega (arith, N.mul-le-mul_right unit h, N.add-mul (a * w) q unit)
 
-pub whole-none : (a w unit p : ℕ) → w ≡ 0 → a * w * unit + p ≡ p
-whole-none a w unit p h = rw (h, N.mul-zero, N.zero-mul, N.zero-add)
+pub whole_none : (a w unit p : ℕ) → w ≡ 0 → a * w * unit + p ≡ p
+whole_none a w unit p h = rw (h, N.mul-zero, N.zero-mul, N.zero-add)

@@ -8,8 +8,8 @@ use native.Mathlib.Omega.{arith}
 use Rattle.rounding.specs.Division.{Divided}
 use Rattle.rounding.specs.Rounding.{near}
 use Rattle.rounding.specs.Word.{largest, word, scaled}
-use Rattle.rounding.proofs.Rest.{near-rest-low, near-rest-high, by_units, rest_below, half-low, half_high}
-use Rattle.rounding.proofs.Word.{near-rounds, scaled-few, word-is}
+use Rattle.rounding.proofs.Rest.{near_rest_low, near_rest_high, by_units, rest_below, half_low, half_high}
+use Rattle.rounding.proofs.Word.{near_rounds, scaled_few, word_is}
 
 module _ {p unit q l : ℕ} {fits : Bool} (d : Divided p unit q l fits) (t : fits ≡ true) (n : ℕ) (k : 0 < n) (g : q ≤ largest) where
   positive : 0 < unit
@@ -25,18 +25,18 @@ module _ {p unit q l : ℕ} {fits : Bool} (d : Divided p unit q l fits) (t : fit
   below = rest_below (q % n) l n unit (N.mod-lt q k) d.below
 
   quotient_is : word (q / n) ≡ q / n
-  quotient_is = word-is (q / n) (N.le_trans (N.div-le_self q n) g)
+  quotient_is = word_is (q / n) (N.le_trans (N.div-le_self q n) g)
 
-  near-few : scaled near p n unit ≡ word (near p (n * unit))
-  near-few = scaled-few near-rounds p unit positive n few
+  near_few : scaled near p n unit ≡ word (near p (n * unit))
+  near_few = scaled_few near_rounds p unit positive n few
 
-  pub near-units-low : (c : ℕ) → 2 * l < (c + 1) * unit → 2 * (q % n) + c < n → scaled near p n unit ≡ q / n
-  near-units-low c s r =
-      near-few
-      ∙ ap word (near-rest-low p (n * unit) (q / n) (q % n * unit + l) split (half-low (q % n) l n unit c s r))
+  pub near_units_low : (c : ℕ) → 2 * l < (c + 1) * unit → 2 * (q % n) + c < n → scaled near p n unit ≡ q / n
+  near_units_low c s r =
+      near_few
+      ∙ ap word (near_rest_low p (n * unit) (q / n) (q % n * unit + l) split (half_low (q % n) l n unit c s r))
       ∙ quotient_is
 
-  pub near-units-high : (c : ℕ) → c * unit ≤ 2 * l → n ≤ 2 * (q % n) + c → scaled near p n unit ≡ word (q / n + 1)
-  near-units-high c s r =
-      near-few
-      ∙ ap word (near-rest-high p (n * unit) (q / n) (q % n * unit + l) split (half_high (q % n) l n unit c s r) below)
+  pub near_units_high : (c : ℕ) → c * unit ≤ 2 * l → n ≤ 2 * (q % n) + c → scaled near p n unit ≡ word (q / n + 1)
+  near_units_high c s r =
+      near_few
+      ∙ ap word (near_rest_high p (n * unit) (q / n) (q % n * unit + l) split (half_high (q % n) l n unit c s r) below)

@@ -2,45 +2,45 @@
 use Rattle.std.specs.Prelude.{◌≡◌, Bool, ◌&&◌, List, [], ◌∷◌, ℕ, suc, ◌+◌, leb, ltb, length}
 use Rattle.fund.specs.declared.Rate.{Rate}
 use Rattle.fund.specs.declared.Member.{Member}
-use Rattle.fund.specs.Limits.{most-rates, most-age, most-rate, most-members, least-group, most-group, most-amount, least-lives, most-lives}
-use Rattle.fund.specs.Reading.{Reading, between, headerLines, livesInAll}
+use Rattle.fund.specs.Limits.{most_rates, most_age, most_rate, most_members, least_group, most_group, most_amount, least_lives, most_lives}
+use Rattle.fund.specs.Reading.{Reading, between, header_lines, lives_in_all}
 
 -- The place of the line behind the header and so many rows.
-abbrev pub linePlace : ℕ → ℕ → ℕ
-linePlace rated enrolled = suc (length headerLines + rated + enrolled)
+abbrev pub line_place : ℕ → ℕ → ℕ
+line_place rated enrolled = suc (length header_lines + rated + enrolled)
 
 -- "strictly rising": the least age that a row behind these may have.
-unfoldable pub leastAge : List Rate → ℕ
-leastAge [] = 0
-leastAge (r ∷ []) = suc r.age
-leastAge (r ∷ s ∷ rs) = leastAge (s ∷ rs)
+unfoldable pub least_age : List Rate → ℕ
+least_age [] = 0
+least_age (r ∷ []) = suc r.age
+least_age (r ∷ s ∷ rs) = least_age (s ∷ rs)
 
--- `rateInRange` and `memberInRange`, from the number of the rows before, the least age and the lives so far.
-unfoldable pub rateFits : ℕ → ℕ → Rate → Bool
-rateFits rated least r =
-    ltb rated most-rates
-    && leb r.age most-age
+-- `rate_in_range` and `member_in_range`, from the number of the rows before, the least age and the lives so far.
+unfoldable pub rate_fits : ℕ → ℕ → Rate → Bool
+rate_fits rated least r =
+    ltb rated most_rates
+    && leb r.age most_age
     && leb least r.age
-    && leb r.q most-rate
-    && leb r.i most-rate
-    && leb (r.q + r.i) most-rate
+    && leb r.q most_rate
+    && leb r.i most_rate
+    && leb (r.q + r.i) most_rate
 
-unfoldable pub memberFits : ℕ → ℕ → Member → Bool
-memberFits enrolled lives m =
-    ltb enrolled most-members
-    && leb m.age most-age
-    && between least-group most-group m.group
-    && leb m.d most-amount
-    && leb m.e most-amount
-    && between least-lives most-lives m.lives
-    && leb (lives + m.lives) most-lives
+unfoldable pub member_fits : ℕ → ℕ → Member → Bool
+member_fits enrolled lives m =
+    ltb enrolled most_members
+    && leb m.age most_age
+    && between least_group most_group m.group
+    && leb m.d most_amount
+    && leb m.e most_amount
+    && between least_lives most_lives m.lives
+    && leb (lives + m.lives) most_lives
 
 -- Rows of these counts; the next is of the least age or above it, behind so many lives.
 pub record Counted (rs : List Rate) (ms : List Member) (rated enrolled least lives : ℕ) : Type 0 where
-  pub rated-is : length rs ≡ rated
-  pub enrolled-is : length ms ≡ enrolled
-  pub least-is : leastAge rs ≡ least
-  pub lives-are : livesInAll ms ≡ lives
+  pub rated_is : length rs ≡ rated
+  pub enrolled_is : length ms ≡ enrolled
+  pub least_is : least_age rs ≡ least
+  pub lives_are : lives_in_all ms ≡ lives
 
 -- The reading behind rows.
 abbrev pub Behind : Type 0

@@ -3,7 +3,7 @@ mod ranges;
 
 ghost use Rattle.std.specs.Prelude.{◌≡◌};
 ghost use Rattle.fund.specs.Reading.{stopped};
-ghost use Rattle.rows.specs.Read.{fileRead};
+ghost use Rattle.rows.specs.Read.{file_read};
 
 use fund::{Frequencies, Fund, Member, Rate, Refusal, Verdict};
 pub use ranges::{member_in_range, rate_in_range, within};
@@ -22,7 +22,7 @@ pub struct FileRead {
 
 // A refusal at a line; all else is blank.
 pub fn without_rows(why: Refusal, place: u64) -> FileRead
-    ensures { result ≡ fileRead (stopped why place) }
+    ensures { result ≡ file_read (stopped why place) }
 {
     let fund = Fund {
         rates: 0,

@@ -30,20 +30,20 @@ across x y p q a b c d C D h k e =
     le_antisymm (transfer x y p q a b c d C D h k (le_of_eq e)) (transfer y x q p b a d c D C k h (le_of_eq (sym e)))
 
 -- and the other way round
-pub back-le : (x y p q a b c d : ℕ) → 0 < p → 0 < q → x * c ≡ a * p → y * d ≡ b * q → x * q ≤ y * p → a * d ≤ b * c
-back-le x y p q a b c d P Q h k l = transfer a b c d x y p q P Q (sym h) (sym k) l
+pub back_le : (x y p q a b c d : ℕ) → 0 < p → 0 < q → x * c ≡ a * p → y * d ≡ b * q → x * q ≤ y * p → a * d ≤ b * c
+back_le x y p q a b c d P Q h k l = transfer a b c d x y p q P Q (sym h) (sym k) l
 
 -- ---- tests
 or_split : (a b : Bool) → T (a || b) → T a ⊎ T b
 or_split true b t = inl tt
 or_split false b t = inr t
 
-zero-num : (m u : ℕ) → m ≡ 0 → m * u ≡ 0
-zero-num m u e = ap (λ (z : ℕ). z * u) e ∙ zero-mul u
+zero_num : (m u : ℕ) → m ≡ 0 → m * u ≡ 0
+zero_num m u e = ap (λ (z : ℕ). z * u) e ∙ zero-mul u
 
-level-true : (s : Bool) (a b : ℕ) → (s ≡ true → a ≡ 0) → a ≡ b → T (eqb a b && (beq s false || eqb a 0))
-level-true true a b z e = and_i (eqb a b) (eqb a 0) (eq→eqb e) (eq→eqb (z refl))
-level-true false a b z e = and_i (eqb a b) true (eq→eqb e) tt
+level_true : (s : Bool) (a b : ℕ) → (s ≡ true → a ≡ 0) → a ≡ b → T (eqb a b && (beq s false || eqb a 0))
+level_true true a b z e = and_i (eqb a b) (eqb a 0) (eq→eqb e) (eq→eqb (z refl))
+level_true false a b z e = and_i (eqb a b) true (eq→eqb e) tt
 
 -- ---- x is a / c, y is b / d and has no sign
 -- x == y where the fractions are equal
@@ -55,16 +55,16 @@ is→eq (fin s m p) nan a c b d C D h k e = absurd k
 is→eq (fin s m p) (inf t) a c b d C D h k e = absurd k
 is→eq (fin s m p) (fin true n q) a c b d C D h k e = absurd (true≢false k.0)
 is→eq (fin s m p) (fin false n q) a c b d C D h k e =
-    level-true s (m * up p * down q) (n * up q * down p) (λ t. zero-num (m * up p) (down q) (zero-num m (up p) (h.0 t)))
+    level_true s (m * up p * down q) (n * up q * down p) (λ t. zero_num (m * up p) (down q) (zero_num m (up p) (h.0 t)))
     (across (m * up p) (n * up q) (down p) (down q) a b c d C D h.1 k.1 e)
 
 -- and only there: what equals y is y's fraction
-first-zero : (m u : ℕ) → 0 < u → m * u ≡ 0 → m ≡ 0
-first-zero m u U e = eq_of_mul-eq-mul_right u U m 0 (e ∙ sym (zero-mul u))
+first_zero : (m u : ℕ) → 0 < u → m * u ≡ 0 → m ≡ 0
+first_zero m u U e = eq_of_mul-eq-mul_right u U m 0 (e ∙ sym (zero-mul u))
 
-level-sign : (s b : Bool) → s ≡ true → T (beq s false || b) → T b
-level-sign true b e t = t
-level-sign false b e t = absurd (false≢true e)
+level_sign : (s b : Bool) → s ≡ true → T (beq s false || b) → T b
+level_sign true b e t = t
+level_sign false b e t = absurd (false≢true e)
 
 pub eq→is : (x y : Float) (b d : ℕ) → HasValue y false b d → T (eq x y) → Is x b d
 unfolding eq
@@ -80,7 +80,7 @@ eq→is (fin s m p) (fin false n q) b d k t =
     let y = n * up q * down p in
     let e : x ≡ y = eqb→eq x y (and_l (eqb x y) (beq s false || eqb x 0) t) in
     let z = and_r (eqb x y) (beq s false || eqb x 0) t in (
-      (λ r. first-zero m (up p) (up_pos p) (first-zero (m * up p) (down q) (down_pos q) (eqb→eq x 0 (level-sign s (eqb x 0) r z)))),
+      (λ r. first_zero m (up p) (up_pos p) (first_zero (m * up p) (down q) (down_pos q) (eqb→eq x 0 (level_sign s (eqb x 0) r z)))),
       eq_of_mul-eq-mul_right (down q) (down_pos q) (m * up p * d) (b * down p)
           (mul_right_comm (m * up p) d (down q) ∙ ap (λ (w : ℕ). w * d) e ∙ mul_right_comm (n * up q) (down p) d ∙ ap (λ (w : ℕ). w * down p) k.1 ∙ mul_right_comm b (down q) (down p)),
     )
@@ -99,9 +99,9 @@ below_true : (s : Bool) (a b : ℕ) → (s ≡ true → a ≡ 0) → a < b → T
 below_true true a b z h = lt→ltb 0 (a + b) (omega arith)
 below_true false a b z h = lt→ltb a b h
 
-below-lt : (s : Bool) (a b : ℕ) → (s ≡ true → a ≡ 0) → T (below s a false b) → a < b
-below-lt true a b z t = let e : a ≡ 0 = z refl in let l : 0 < a + b = ltb→lt 0 (a + b) t in omega arith
-below-lt false a b z t = ltb→lt a b t
+below_lt : (s : Bool) (a b : ℕ) → (s ≡ true → a ≡ 0) → T (below s a false b) → a < b
+below_lt true a b z t = let e : a ≡ 0 = z refl in let l : 0 < a + b = ltb→lt 0 (a + b) t in omega arith
+below_lt false a b z t = ltb→lt a b t
 
 pub lt→less : (x y : Float) (a c b d : ℕ) → 0 < c → 0 < d → Is x a c → HasValue y false b d → T (lt x y) → a * d < b * c
 unfolding lt
@@ -111,7 +111,7 @@ lt→less (fin s m p) nan a c b d C D h k t = absurd k
 lt→less (fin s m p) (inf r) a c b d C D h k t = absurd k
 lt→less (fin s m p) (fin true n q) a c b d C D h k t = absurd (true≢false k.0)
 lt→less (fin s m p) (fin false n q) a c b d C D h k t =
-    let l = below-lt s (m * up p * down q) (n * up q * down p) (λ r. zero-num (m * up p) (down q) (zero-num m (up p) (h.0 r))) t in
+    let l = below_lt s (m * up p * down q) (n * up q * down p) (λ r. zero_num (m * up p) (down q) (zero_num m (up p) (h.0 r))) t in
     lt_of_not-le (λ g. not-le_of_lt l (transfer (n * up q) (m * up p) (down q) (down p) b a d c D C k.1 h.1 g))
 
 pub less→lt : (x y : Float) (a c b d : ℕ) → Is x a c → HasValue y false b d → a * d < b * c → T (lt x y)
@@ -122,12 +122,12 @@ less→lt (fin s m p) nan a c b d h k l = absurd k
 less→lt (fin s m p) (inf r) a c b d h k l = absurd k
 less→lt (fin s m p) (fin true n q) a c b d h k l = absurd (true≢false k.0)
 less→lt (fin s m p) (fin false n q) a c b d h k l =
-    below_true s (m * up p * down q) (n * up q * down p) (λ r. zero-num (m * up p) (down q) (zero-num m (up p) (h.0 r)))
-    (lt_of_not-le (λ g. not-le_of_lt l (back-le (n * up q) (m * up p) (down q) (down p) b a d c (down_pos q) (down_pos p) k.1 h.1 g)))
+    below_true s (m * up p * down q) (n * up q * down p) (λ r. zero_num (m * up p) (down q) (zero_num m (up p) (h.0 r)))
+    (lt_of_not-le (λ g. not-le_of_lt l (back_le (n * up q) (m * up p) (down q) (down p) b a d c (down_pos q) (down_pos p) k.1 h.1 g)))
 
 -- ---- two floats with no sign
-lt-or-eq : (a b : ℕ) → T (ltb a b || (eqb a b && true)) → a ≤ b
-lt-or-eq a b t = elim (or_split (ltb a b) (eqb a b && true) t) [ inl u ↦ le_of_lt (ltb→lt a b u) | inr u ↦ le_of_eq (eqb→eq a b (and_l (eqb a b) true u)) ]
+lt_or_eq : (a b : ℕ) → T (ltb a b || (eqb a b && true)) → a ≤ b
+lt_or_eq a b t = elim (or_split (ltb a b) (eqb a b && true) t) [ inl u ↦ le_of_lt (ltb→lt a b u) | inr u ↦ le_of_eq (eqb→eq a b (and_l (eqb a b) true u)) ]
 
 pub le→cross : (x y : Float) (a c b d : ℕ) → HasValue x false a c → HasValue y false b d → T (le x y) → a * d ≤ b * c
 unfolding le
@@ -138,7 +138,7 @@ le→cross (fin false m p) nan a c b d h k t = absurd k
 le→cross (fin false m p) (inf r) a c b d h k t = absurd k
 le→cross (fin false m p) (fin true n q) a c b d h k t = absurd (true≢false k.0)
 le→cross (fin false m p) (fin false n q) a c b d h k t =
-    back-le (m * up p) (n * up q) (down p) (down q) a b c d (down_pos p) (down_pos q) h.1 k.1 (lt-or-eq (m * up p * down q) (n * up q * down p) t)
+    back_le (m * up p) (n * up q) (down p) (down q) a b c d (down_pos p) (down_pos q) h.1 k.1 (lt_or_eq (m * up p * down q) (n * up q * down p) t)
 
 -- what lies between two finite floats is finite
 pub between : (x y z : Float) → T (finite x) → T (finite z) → T (le x y) → T (le y z) → T (finite y)

@@ -2,8 +2,8 @@
 ghost use Rattle.std.specs.Prelude.{◌≡◌, ◌+◌, ◌^◌, ◌≤◌, ◌<◌, length, take, drop};
 ghost use Rattle.std.specs.Float.{binary64};
 ghost use Rattle.std.specs.Float.Ieee.{nan_bits, of_bits};
-ghost use Rattle.fund.specs.SheetCells.{leastFirst};
-ghost use Rattle.sheet_cells.specs.Plain.{ratesOf, members_of};
+ghost use Rattle.fund.specs.SheetCells.{least_first};
+ghost use Rattle.sheet_cells.specs.Plain.{rates_of, members_of};
 
 use fund::{MemberFloats, RateFloats};
 
@@ -28,28 +28,28 @@ fn float(bits: u64) -> f64
 // The bits of two bytes, of four, and of the eight of a cell, from `at` on.
 fn two(row: &[u8], at: usize) -> u64
     requires { at + 2 ≤ length row.now }
-    ensures { (result ≡ leastFirst (take 2 (drop at row.now))) × (result < 2 ^ 16) }
+    ensures { (result ≡ least_first (take 2 (drop at row.now))) × (result < 2 ^ 16) }
 {
     row[at + 1] as u64 * 0x100 + row[at] as u64
 }
 
 fn four(row: &[u8], at: usize) -> u64
     requires { at + 4 ≤ length row.now }
-    ensures { (result ≡ leastFirst (take 4 (drop at row.now))) × (result < 2 ^ 32) }
+    ensures { (result ≡ least_first (take 4 (drop at row.now))) × (result < 2 ^ 32) }
 {
     two(row, at + 2) * 0x1_0000 + two(row, at)
 }
 
 pub(crate) fn word(row: &[u8], at: usize) -> u64
     requires { at + 8 ≤ length row.now }
-    ensures { result ≡ leastFirst (take 8 (drop at row.now)) }
+    ensures { result ≡ least_first (take 8 (drop at row.now)) }
 {
     four(row, at + 4) * 0x1_0000_0000 + four(row, at)
 }
 
 // Three floats, each from its bits.
 pub(crate) fn rate_floats(age: u64, q: u64, i: u64) -> RateFloats
-    ensures { result ≡ ratesOf age q i }
+    ensures { result ≡ rates_of age q i }
 {
     RateFloats {
         age: float(age),

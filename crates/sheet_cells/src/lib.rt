@@ -3,13 +3,13 @@ mod floats;
 mod number;
 
 ghost use Rattle.std.specs.Prelude.{◌≡◌};
-ghost use Rattle.fund.specs.SheetCells.{rateJoined, memberJoined, rateRowOf, memberRowOf};
+ghost use Rattle.fund.specs.SheetCells.{rate_joined, member_joined, rate_row_of, member_row_of};
 
 use fund::{Fund, Member, Rate, SheetRow, Taken};
 
 // A row of the rates' sheet: the bits of its cells, and the record of floats that they are. Each is classified by its bits, then taken or not.
 pub fn rate_row(row: &[u8]) -> SheetRow
-    ensures { result ≡ rateRowOf row.now }
+    ensures { result ≡ rate_row_of row.now }
 {
     if row.len() != Fund::RATE_WIDTH {
         return SheetRow::NotTaken;
@@ -27,7 +27,7 @@ pub fn rate_row(row: &[u8]) -> SheetRow
 
 // A row of the members' sheet, in the same way.
 pub fn member_row(row: &[u8]) -> SheetRow
-    ensures { result ≡ memberRowOf row.now }
+    ensures { result ≡ member_row_of row.now }
 {
     if row.len() != Fund::MEMBER_WIDTH {
         return SheetRow::NotTaken;
@@ -52,7 +52,7 @@ pub fn member_row(row: &[u8]) -> SheetRow
 
 // A row is taken where all its cells are.
 fn rate_joined(age: Taken, q: Taken, i: Taken) -> SheetRow
-    ensures { result ≡ rateJoined age q i }
+    ensures { result ≡ rate_joined age q i }
 {
     let Taken::As(age) = age else {
         return SheetRow::NotTaken;
@@ -67,7 +67,7 @@ fn rate_joined(age: Taken, q: Taken, i: Taken) -> SheetRow
 }
 
 fn member_joined(age: Taken, group: Taken, d: Taken, e: Taken, lives: Taken) -> SheetRow
-    ensures { result ≡ memberJoined age group d e lives }
+    ensures { result ≡ member_joined age group d e lives }
 {
     let Taken::As(age) = age else {
         return SheetRow::NotTaken;

@@ -4,7 +4,7 @@
 ghost use Rattle.std.specs.Prelude.{◌≡◌, ◌^◌, ◌≤◌, not, T};
 ghost use Rattle.std.specs.Float.{binary64};
 ghost use Rattle.std.specs.Float.Ieee.{of_bits, is_nan};
-ghost use Rattle.fund.specs.SheetCells.{cell_of, whole_of, rateOf, at_least, wholeIn, amountOf, rateIn};
+ghost use Rattle.fund.specs.SheetCells.{cell_of, whole_of, rate_of, at_least, whole_in, amount_of, rate_in};
 ghost use Rattle.sheet_cells.specs.Part.{OnlyWhole};
 ghost use Rattle.sheet_cells.specs.Plain.{subnormal, Plain, NoNan};
 
@@ -61,7 +61,7 @@ fn whole(x: f64, most: u64) -> Taken
 // A number that is no subnormal, as a rate in millionths; each quotient is one division, rounded once.
 fn rate(x: f64) -> Taken
     requires { Plain x }
-    ensures { result ≡ rateOf x }
+    ensures { result ≡ rate_of x }
 {
     let mut lo = 0u64;
     let mut hi = Fund::MOST_RATE + 1;
@@ -103,7 +103,7 @@ fn at_least(least: u64, taken: Taken) -> Taken
 // A whole number from `least` to `most`.
 pub(crate) fn number(least: u64, most: u64, cell: SheetCell) -> Taken
     requires { (most ≤ 2 ^ 53) × NoNan cell }
-    ensures { result ≡ wholeIn least most cell }
+    ensures { result ≡ whole_in least most cell }
 {
     match cell {
         SheetCell::Blank => Taken::Not,
@@ -114,7 +114,7 @@ pub(crate) fn number(least: u64, most: u64, cell: SheetCell) -> Taken
 // "A blank is allowed only in an amount and is 0 there."
 pub(crate) fn amount(cell: SheetCell) -> Taken
     requires { NoNan cell }
-    ensures { result ≡ amountOf cell }
+    ensures { result ≡ amount_of cell }
 {
     match cell {
         SheetCell::Blank => Taken::As(0),
@@ -125,7 +125,7 @@ pub(crate) fn amount(cell: SheetCell) -> Taken
 // A rate: a blank and a subnormal are none.
 pub(crate) fn rate_in(cell: SheetCell) -> Taken
     requires { NoNan cell }
-    ensures { result ≡ rateIn cell }
+    ensures { result ≡ rate_in cell }
 {
     let SheetCell::Number(q) = cell else {
         return Taken::Not;

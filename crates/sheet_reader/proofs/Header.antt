@@ -1,4 +1,4 @@
--- Behind the header text: bytes are form at their line (more_bytes), and else the rows follow (rows-follow); where the header stops, so does reading (header-stops).
+-- Behind the header text: bytes are form at their line (more_bytes), and else the rows follow (rows_follow); where the header stops, so does reading (header_stops).
 use mathlib.Core.Path.{◌≡◌, ap, ◌∙◌}
 use mathlib.Core.List.{List, []}
 use Prim.Native.Nat.{ℕ, suc, ◌+◌, ◌≤◌, ◌<◌}
@@ -8,28 +8,28 @@ use Rattle.fund.specs.declared.Fund.{Fund}
 use Rattle.fund.specs.declared.Refusal.{Refusal}
 use Rattle.fund.specs.declared.Refusal.TheVariants.{Form}
 use Rattle.fund.specs.Lines.{lines_from}
-use Rattle.fund.specs.Reading.{stopped, headerLines}
-use Rattle.fund.specs.Sheets.{sheetRows, readSheetRows, readSheets, sheetReading}
+use Rattle.fund.specs.Reading.{stopped, header_lines}
+use Rattle.fund.specs.Sheets.{sheet_rows, read_sheet_rows, read_sheets, sheet_reading}
 use Rattle.lines.specs.declared.header.Header.TheVariants.{Whole, Stopped}
 use Rattle.lines.specs.Header.{HeaderRead}
-use Rattle.lines.proofs.Lines.{line-left}
-use Rattle.sheet_reader.specs.Rows.{rowsLeft, rows_from}
+use Rattle.lines.proofs.Lines.{line_left}
+use Rattle.sheet_reader.specs.Rows.{rows_left, rows_from}
 
 module _ (header rates members : List ℕ) where
-  pub header-stops : (why : Refusal) (place : ℕ) → HeaderRead header (Stopped why place) → sheetReading header rates members ≡ stopped why place
-  unfolding sheetReading
-  header-stops why place e = e.same (readSheets (sheetRows rates members))
+  pub header_stops : (why : Refusal) (place : ℕ) → HeaderRead header (Stopped why place) → sheet_reading header rates members ≡ stopped why place
+  unfolding sheet_reading
+  header_stops why place e = e.same (read_sheets (sheet_rows rates members))
 
   module _ (fund : Fund) (at : ℕ) (e : HeaderRead header (Whole fund at)) where
-    pub more_bytes : at < length header → sheetReading header rates members ≡ stopped Form (length headerLines + 1)
-    unfolding sheetReading readSheets
+    pub more_bytes : at < length header → sheet_reading header rates members ≡ stopped Form (length header_lines + 1)
+    unfolding sheet_reading read_sheets
     more_bytes h =
-        let w = line-left header at h in
-        let z : suc (length headerLines) ≡ length headerLines + 1 = omega arith in
-        e.same (readSheets (sheetRows rates members)) ∙ rw w.1.1 (ap (stopped Form) z)
+        let w = line_left header at h in
+        let z : suc (length header_lines) ≡ length header_lines + 1 = omega arith in
+        e.same (read_sheets (sheet_rows rates members)) ∙ rw w.1.1 (ap (stopped Form) z)
 
-    pub rows-follow : length header ≤ at → sheetReading header rates members ≡ rows_from rates members fund [] []
-    unfolding sheetReading readSheets lines_from rows_from rowsLeft sheetRows
-    rows-follow h =
-        let z : suc (length headerLines) ≡ suc (length headerLines + 0 + 0) = omega arith in
-        e.same (readSheets (sheetRows rates members)) ∙ rw (drop_of_length-le header h) (ap (λ n. readSheetRows n fund [] [] (sheetRows rates members)) z)
+    pub rows_follow : length header ≤ at → sheet_reading header rates members ≡ rows_from rates members fund [] []
+    unfolding sheet_reading read_sheets lines_from rows_from rows_left sheet_rows
+    rows_follow h =
+        let z : suc (length header_lines) ≡ suc (length header_lines + 0 + 0) = omega arith in
+        e.same (read_sheets (sheet_rows rates members)) ∙ rw (drop_of_length-le header h) (ap (λ n. read_sheet_rows n fund [] [] (sheet_rows rates members)) z)

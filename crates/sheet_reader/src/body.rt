@@ -1,8 +1,8 @@
 // The rows of both sheets in their order, rate rows first.
 ghost use Rattle.std.specs.Prelude.{◌≡◌, [], ◌+◌, ◌≤◌};
-ghost use Rattle.fund.specs.Limits.{most-rates, most-members};
-ghost use Rattle.rows.specs.Read.{fileRead};
-ghost use Rattle.sheet_reader.specs.Rows.{RowEnd, NextIs, rowStep, RowStepped, rows_from};
+ghost use Rattle.fund.specs.Limits.{most_rates, most_members};
+ghost use Rattle.rows.specs.Read.{file_read};
+ghost use Rattle.sheet_reader.specs.Rows.{RowEnd, NextIs, row_step, RowStepped, rows_from};
 
 use fund::{Fund, Member, Rate, Refusal, SheetRow, Verdict};
 use rows::FileRead;
@@ -36,7 +36,7 @@ fn row_end(at: usize, width: usize, size: usize) -> usize
 
 // The row behind `rated` rate rows and `enrolled` member rows.
 fn next_row(rates: &[u8], members: &[u8], rated: usize, enrolled: usize) -> NextRow
-    requires { (rated ≤ most-rates) × (enrolled ≤ most-members) }
+    requires { (rated ≤ most_rates) × (enrolled ≤ most_members) }
     ensures { NextIs rates.now members.now rated enrolled result }
 {
     let at = Fund::RATE_WIDTH * rated;
@@ -54,8 +54,8 @@ fn next_row(rates: &[u8], members: &[u8], rated: usize, enrolled: usize) -> Next
 
 // A row behind so many others: a cell that is not taken has the row's place, counted from 1, and range the line that the row has in a file.
 fn step_of(row: SheetRow, rated: usize, enrolled: usize, least: u64, lives: u64) -> RowStep
-    requires { (rated ≤ most-rates) × (enrolled ≤ most-members) }
-    ensures { result ≡ rowStep rated enrolled least lives row }
+    requires { (rated ≤ most_rates) × (enrolled ≤ most_members) }
+    ensures { result ≡ row_step rated enrolled least lives row }
 {
     let place = rated as u64 + enrolled as u64 + 1;
     let line = Fund::HEADER_LINES as u64 + place;
@@ -84,7 +84,7 @@ fn row_step(
     least: u64,
     lives: u64,
 ) -> RowStep
-    requires { (rated ≤ most-rates) × (enrolled ≤ most-members) }
+    requires { (rated ≤ most_rates) × (enrolled ≤ most_members) }
     ensures { RowStepped rates.now members.now rated enrolled least lives result }
 {
     match next_row(rates, members, rated, enrolled) {
@@ -95,7 +95,7 @@ fn row_step(
 
 // Every row of both sheets, behind the header.
 pub(crate) fn read_rows(fund: Fund, rates: &[u8], members: &[u8]) -> FileRead
-    ensures { result ≡ fileRead (rows_from rates.now members.now fund [] []) }
+    ensures { result ≡ file_read (rows_from rates.now members.now fund [] []) }
 {
     let blank = rows::without_rows(Refusal::Form, 0);
     let mut rate_rows = blank.rates;

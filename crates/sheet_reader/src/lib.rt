@@ -2,8 +2,8 @@
 mod body;
 
 ghost use Rattle.std.specs.Prelude.{◌≡◌};
-ghost use Rattle.fund.specs.Sheets.{sheetReading};
-ghost use Rattle.rows.specs.Read.{fileRead};
+ghost use Rattle.fund.specs.Sheets.{sheet_reading};
+ghost use Rattle.rows.specs.Read.{file_read};
 
 use fund::{Fund, Refusal};
 use lines::Header;
@@ -11,7 +11,7 @@ use rows::FileRead;
 
 // Reads the lines of the header text, then the rows of both sheets. Bytes behind the last header line are form at their line.
 pub fn read(header: &[u8], rates: &[u8], members: &[u8]) -> FileRead
-    ensures { result ≡ fileRead (sheetReading header.now rates.now members.now) }
+    ensures { result ≡ file_read (sheet_reading header.now rates.now members.now) }
 {
     match lines::read_header(header) {
         Header::Whole(fund, at) => {

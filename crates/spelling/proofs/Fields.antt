@@ -11,22 +11,22 @@ use lib.Dec.{eqb, eqb-suc-suc}
 use lib.ListN.{length, take, drop, set, length-drop}
 use lib.Seq.{take-suc-set, take_all, drop-drop}
 use Rattle.fund.specs.Base.{if◌then◌else◌}
-use Rattle.fund.specs.Spelling.{is_number, value, inFirst, fields, allNumbers, numbers}
+use Rattle.fund.specs.Spelling.{is_number, value, in_first, fields, all_numbers, numbers}
 use Rattle.spelling.specs.declared.Number.TheVariants.{Value, Misspelled}
-use Rattle.spelling.specs.Text.{before, readNumber}
-use Rattle.spelling.proofs.Texts.{before-within}
+use Rattle.spelling.specs.Text.{before, read_number}
+use Rattle.spelling.proofs.Texts.{before_within}
 
-fields-last : (s : List ℕ) → length s ≤ before 44 s → fields s ≡ s ∷ []
-unfolding before fields inFirst
-fields-last [] h = refl
-fields-last (b ∷ s) h = go (eqb b 44) h (fields-last s)
+fields_last : (s : List ℕ) → length s ≤ before 44 s → fields s ≡ s ∷ []
+unfolding before fields in_first
+fields_last [] h = refl
+fields_last (b ∷ s) h = go (eqb b 44) h (fields_last s)
   where
-    go : (t : Bool) → suc (length s) ≤ (if t then 0 else suc (before 44 s)) → (length s ≤ before 44 s → fields s ≡ s ∷ []) → (if t then [] ∷ fields s else inFirst b (fields s)) ≡ (b ∷ s) ∷ []
+    go : (t : Bool) → suc (length s) ≤ (if t then 0 else suc (before 44 s)) → (length s ≤ before 44 s → fields s ≡ s ∷ []) → (if t then [] ∷ fields s else in_first b (fields s)) ≡ (b ∷ s) ∷ []
     go true w ih = absurd (omega arith)
     go false w ih = rw (ih (omega arith))
 
 fields_split : (s : List ℕ) → before 44 s < length s → fields s ≡ take (before 44 s) s ∷ fields (drop (suc (before 44 s)) s)
-unfolding before fields inFirst
+unfolding before fields in_first
 fields_split [] h = absurd (omega arith)
 fields_split (b ∷ s) h = go (eqb b 44) h (fields_split s)
   where
@@ -34,69 +34,69 @@ fields_split (b ∷ s) h = go (eqb b 44) h (fields_split s)
         : (t : Bool)
         → (if t then 0 else suc (before 44 s)) < suc (length s)
         → (before 44 s < length s → fields s ≡ take (before 44 s) s ∷ fields (drop (suc (before 44 s)) s))
-        → (if t then [] ∷ fields s else inFirst b (fields s))
+        → (if t then [] ∷ fields s else in_first b (fields s))
         ≡ take (if t then 0 else suc (before 44 s)) (b ∷ s) ∷ fields (drop (suc (if t then 0 else suc (before 44 s))) (b ∷ s))
     go true w ih = refl
     go false w ih = rw (ih (omega arith))
 
-fields-first : (s : List ℕ) → (rest : List (List ℕ)) × (fields s ≡ take (before 44 s) s ∷ rest)
-unfolding before fields inFirst
-fields-first [] = ([], refl)
-fields-first (b ∷ s) = go (eqb b 44) (fields-first s)
+fields_first : (s : List ℕ) → (rest : List (List ℕ)) × (fields s ≡ take (before 44 s) s ∷ rest)
+unfolding before fields in_first
+fields_first [] = ([], refl)
+fields_first (b ∷ s) = go (eqb b 44) (fields_first s)
   where
     go
         : (t : Bool)
         → (rest : List (List ℕ)) × (fields s ≡ take (before 44 s) s ∷ rest)
-        → (rest : List (List ℕ)) × ((if t then [] ∷ fields s else inFirst b (fields s)) ≡ take (if t then 0 else suc (before 44 s)) (b ∷ s) ∷ rest)
+        → (rest : List (List ℕ)) × ((if t then [] ∷ fields s else in_first b (fields s)) ≡ take (if t then 0 else suc (before 44 s)) (b ∷ s) ∷ rest)
     go true ih = (fields s, refl)
     go false ih = (ih.0, rw ih.1)
 
 -- The numbers ns and then just `left` more from a text, or none.
 unfoldable pub collected : List ℕ → ℕ → List ℕ → Option (List ℕ)
-collected ns left s = if eqb (length (fields s)) left && allNumbers (fields s) then some (ns ++ map value (fields s)) else none
+collected ns left s = if eqb (length (fields s)) left && all_numbers (fields s) then some (ns ++ map value (fields s)) else none
 
-pub numbers-collected : (count : ℕ) (s : List ℕ) → numbers count s ≡ collected [] count s
+pub numbers_collected : (count : ℕ) (s : List ℕ) → numbers count s ≡ collected [] count s
 unfolding numbers collected
-numbers-collected count s = refl
+numbers_collected count s = refl
 
-spelled-well : (t : List ℕ) (v : ℕ) → readNumber t ≡ Value v → (is_number t ≡ true) × (value t ≡ v)
-unfolding readNumber
-spelled-well t v e = go (is_number t) refl e
+spelled_well : (t : List ℕ) (v : ℕ) → read_number t ≡ Value v → (is_number t ≡ true) × (value t ≡ v)
+unfolding read_number
+spelled_well t v e = go (is_number t) refl e
   where
     go : (b : Bool) → is_number t ≡ b → (if b then Value (value t) else Misspelled) ≡ Value v → (is_number t ≡ true) × (value t ≡ v)
     go true w e' = (w, (cc))
     go false w e' = let z : ◌≡◌ {A = ℕ} 0 1 = cc in absurd (omega arith)
 
-spelled-ill : (t : List ℕ) → readNumber t ≡ Misspelled → is_number t ≡ false
-unfolding readNumber
-spelled-ill t e = go (is_number t) refl e
+spelled_ill : (t : List ℕ) → read_number t ≡ Misspelled → is_number t ≡ false
+unfolding read_number
+spelled_ill t e = go (is_number t) refl e
   where
     go : (b : Bool) → is_number t ≡ b → (if b then Value (value t) else Misspelled) ≡ Misspelled → is_number t ≡ false
     go true w e' = let z : ◌≡◌ {A = ℕ} 0 1 = cc in absurd (omega arith)
     go false w e' = w
 
-collected-more : (ns : List ℕ) (left : ℕ) (s : List ℕ) (v : ℕ) → before 44 s < length s → readNumber (take (before 44 s) s) ≡ Value v → collected ns (suc left) s ≡ collected (ns ++ (v ∷ [])) left (drop (suc (before 44 s)) s)
-unfolding collected allNumbers
-collected-more ns left s v h e =
-    let w = spelled-well (take (before 44 s) s) v e in
+collected_more : (ns : List ℕ) (left : ℕ) (s : List ℕ) (v : ℕ) → before 44 s < length s → read_number (take (before 44 s) s) ≡ Value v → collected ns (suc left) s ≡ collected (ns ++ (v ∷ [])) left (drop (suc (before 44 s)) s)
+unfolding collected all_numbers
+collected_more ns left s v h e =
+    let w = spelled_well (take (before 44 s) s) v e in
     rw (fields_split s h, eqb-suc-suc (length (fields (drop (suc (before 44 s)) s))) left, w.0, w.1, append_assoc ns (v ∷ []) (map value (fields (drop (suc (before 44 s)) s))))
 
-collected-last : (ns : List ℕ) (left : ℕ) (s : List ℕ) (v : ℕ) → length s ≤ before 44 s → readNumber s ≡ Value v → collected ns left s ≡ (if eqb 1 left then some (ns ++ (v ∷ [])) else none)
-unfolding collected allNumbers
-collected-last ns left s v h e =
-    let w = spelled-well s v e in
-    rw (fields-last s h, w.0, w.1, and-true (eqb 1 left))
+collected_last : (ns : List ℕ) (left : ℕ) (s : List ℕ) (v : ℕ) → length s ≤ before 44 s → read_number s ≡ Value v → collected ns left s ≡ (if eqb 1 left then some (ns ++ (v ∷ [])) else none)
+unfolding collected all_numbers
+collected_last ns left s v h e =
+    let w = spelled_well s v e in
+    rw (fields_last s h, w.0, w.1, and-true (eqb 1 left))
 
-collected-ill : (ns : List ℕ) (left : ℕ) (s : List ℕ) → readNumber (take (before 44 s) s) ≡ Misspelled → collected ns left s ≡ none
-unfolding collected allNumbers
-collected-ill ns left s e =
-    let f = fields-first s in
-    rw (f.1, spelled-ill (take (before 44 s) s) e, and-false (eqb (suc (length f.0)) left))
+collected_ill : (ns : List ℕ) (left : ℕ) (s : List ℕ) → read_number (take (before 44 s) s) ≡ Misspelled → collected ns left s ≡ none
+unfolding collected all_numbers
+collected_ill ns left s e =
+    let f = fields_first s in
+    rw (f.1, spelled_ill (take (before 44 s) s) e, and-false (eqb (suc (length f.0)) left))
 
-pub collected-over : (ns s : List ℕ) → collected ns 0 s ≡ none
+pub collected_over : (ns s : List ℕ) → collected ns 0 s ≡ none
 unfolding collected
-collected-over ns s =
-    let f = fields-first s in
+collected_over ns s =
+    let f = fields_first s in
     rw (f.1, ne_eqb (suc (length f.0)) 0 (λ w. omega arith))
 
 -- The last number is the count's, or there are too few.
@@ -117,20 +117,20 @@ module _ (text : List ℕ) (at end : ℕ) (e : end ≡ at + before 44 (drop at t
   size : end - at ≡ before 44 (drop at text)
   size = omega arith
 
-  pub end-within : at ≤ length text → end ≤ length text
-  end-within h = omega (arith, before-within 44 (drop at text), length-drop at text)
+  pub end_within : at ≤ length text → end ≤ length text
+  end_within h = omega (arith, before_within 44 (drop at text), length-drop at text)
 
-  pub more-at : (ns : List ℕ) (left v : ℕ) → end < length text → readNumber (take (end - at) (drop at text)) ≡ Value v → collected ns (suc left) (drop at text) ≡ collected (ns ++ (v ∷ [])) left (drop (end + 1) text)
-  more-at ns left v h n =
+  pub more_at : (ns : List ℕ) (left v : ℕ) → end < length text → read_number (take (end - at) (drop at text)) ≡ Value v → collected ns (suc left) (drop at text) ≡ collected (ns ++ (v ∷ [])) left (drop (end + 1) text)
+  more_at ns left v h n =
       let w : before 44 (drop at text) < length (drop at text) = omega (arith, length-drop at text) in
       let p : at + suc (before 44 (drop at text)) ≡ end + 1 = omega arith in
-      collected-more ns left (drop at text) v w (ap (λ k. readNumber (take k (drop at text))) (sym size) ∙ n)
+      collected_more ns left (drop at text) v w (ap (λ k. read_number (take k (drop at text))) (sym size) ∙ n)
       ∙ ap (collected (ns ++ (v ∷ [])) left) (drop-drop (suc (before 44 (drop at text))) at text ∙ ap (λ k. drop k text) p)
 
-  pub last-at : (ns : List ℕ) (left v : ℕ) → length text ≤ end → readNumber (take (end - at) (drop at text)) ≡ Value v → collected ns left (drop at text) ≡ (if eqb 1 left then some (ns ++ (v ∷ [])) else none)
-  last-at ns left v h n =
+  pub last_at : (ns : List ℕ) (left v : ℕ) → length text ≤ end → read_number (take (end - at) (drop at text)) ≡ Value v → collected ns left (drop at text) ≡ (if eqb 1 left then some (ns ++ (v ∷ [])) else none)
+  last_at ns left v h n =
       let w : length (drop at text) ≤ end - at = omega (arith, length-drop at text) in
-      collected-last ns left (drop at text) v (omega (arith, size)) (ap readNumber (sym (take_all (end - at) (drop at text) w)) ∙ n)
+      collected_last ns left (drop at text) v (omega (arith, size)) (ap read_number (sym (take_all (end - at) (drop at text) w)) ∙ n)
 
-  pub ill-at : (ns : List ℕ) (left : ℕ) → readNumber (take (end - at) (drop at text)) ≡ Misspelled → collected ns left (drop at text) ≡ none
-  ill-at ns left n = collected-ill ns left (drop at text) (ap (λ k. readNumber (take k (drop at text))) (sym size) ∙ n)
+  pub ill_at : (ns : List ℕ) (left : ℕ) → read_number (take (end - at) (drop at text)) ≡ Misspelled → collected ns left (drop at text) ≡ none
+  ill_at ns left n = collected_ill ns left (drop at text) (ap (λ k. read_number (take k (drop at text))) (sym size) ∙ n)

@@ -12,68 +12,68 @@ use lib.Seq.{drop-cons}
 use Rattle.fund.specs.Base.{if◌then◌else◌}
 use Rattle.fund.specs.Spelling.{behind, numbers}
 use Rattle.spelling.specs.declared.Numbers.{Numbers}
-use Rattle.spelling.specs.Text.{before, numbersIn, fewNumbers, NumbersOf}
+use Rattle.spelling.specs.Text.{before, numbers_in, few_numbers, NumbersOf}
 
 pub before_here : (b : ℕ) (s : List ℕ) (i : ℕ) → i < length s → get_or s i 0 ≡ b → before b (drop i s) ≡ 0
 unfolding before
 before_here b s i h e = rw (drop-cons s i 0 h, eq-eqb (get_or s i 0) b e)
 
-pub before-next : (b : ℕ) (s : List ℕ) (i : ℕ) → i < length s → (get_or s i 0 ≡ b → ⊥) → before b (drop i s) ≡ suc (before b (drop (suc i) s))
+pub before_next : (b : ℕ) (s : List ℕ) (i : ℕ) → i < length s → (get_or s i 0 ≡ b → ⊥) → before b (drop i s) ≡ suc (before b (drop (suc i) s))
 unfolding before
-before-next b s i h e = rw (drop-cons s i 0 h, ne_eqb (get_or s i 0) b e)
+before_next b s i h e = rw (drop-cons s i 0 h, ne_eqb (get_or s i 0) b e)
 
-pub before-end : (b : ℕ) (s : List ℕ) (i : ℕ) → length s ≤ i → before b (drop i s) ≡ 0
+pub before_end : (b : ℕ) (s : List ℕ) (i : ℕ) → length s ≤ i → before b (drop i s) ≡ 0
 unfolding before
-before-end b s i h = rw (drop_of_length-le s h)
+before_end b s i h = rw (drop_of_length-le s h)
 
-pub before-within : (b : ℕ) (s : List ℕ) → before b s ≤ length s
+pub before_within : (b : ℕ) (s : List ℕ) → before b s ≤ length s
 unfolding before
-before-within b [] = omega arith
-before-within b (x ∷ s) = go (eqb x b) (before-within b s)
+before_within b [] = omega arith
+before_within b (x ∷ s) = go (eqb x b) (before_within b s)
   where
     go : (t : Bool) → before b s ≤ length s → (if t then 0 else suc (before b s)) ≤ suc (length s)
     go true ih = omega arith
     go false ih = omega arith
 
-pub behind-next : (key s : List ℕ) (i : ℕ) → i < length key → i < length s → get_or s i 0 ≡ get_or key i 0 → behind (drop i key) (drop i s) ≡ behind (drop (suc i) key) (drop (suc i) s)
+pub behind_next : (key s : List ℕ) (i : ℕ) → i < length key → i < length s → get_or s i 0 ≡ get_or key i 0 → behind (drop i key) (drop i s) ≡ behind (drop (suc i) key) (drop (suc i) s)
 unfolding behind
-behind-next key s i h g e = rw (drop-cons key i 0 h, drop-cons s i 0 g, eq-eqb (get_or key i 0) (get_or s i 0) (sym e))
+behind_next key s i h g e = rw (drop-cons key i 0 h, drop-cons s i 0 g, eq-eqb (get_or key i 0) (get_or s i 0) (sym e))
 
-pub behind-not : (key s : List ℕ) (i : ℕ) → i < length key → i < length s → (get_or s i 0 ≡ get_or key i 0 → ⊥) → behind (drop i key) (drop i s) ≡ none
+pub behind_not : (key s : List ℕ) (i : ℕ) → i < length key → i < length s → (get_or s i 0 ≡ get_or key i 0 → ⊥) → behind (drop i key) (drop i s) ≡ none
 unfolding behind
-behind-not key s i h g e = rw (drop-cons key i 0 h, drop-cons s i 0 g, ne_eqb (get_or key i 0) (get_or s i 0) (λ w. e (sym w)))
+behind_not key s i h g e = rw (drop-cons key i 0 h, drop-cons s i 0 g, ne_eqb (get_or key i 0) (get_or s i 0) (λ w. e (sym w)))
 
-pub behind-short : (key s : List ℕ) (i : ℕ) → i < length key → length s ≤ i → behind (drop i key) (drop i s) ≡ none
+pub behind_short : (key s : List ℕ) (i : ℕ) → i < length key → length s ≤ i → behind (drop i key) (drop i s) ≡ none
 unfolding behind
-behind-short key s i h g = rw (drop-cons key i 0 h, drop_of_length-le s g)
+behind_short key s i h g = rw (drop-cons key i 0 h, drop_of_length-le s g)
 
-pub behind-end : (key s : List ℕ) (i : ℕ) → length key ≤ i → behind (drop i key) (drop i s) ≡ some (drop i s)
+pub behind_end : (key s : List ℕ) (i : ℕ) → length key ≤ i → behind (drop i key) (drop i s) ≡ some (drop i s)
 unfolding behind
-behind-end key s i h = rw (drop_of_length-le key h)
+behind_end key s i h = rw (drop_of_length-le key h)
 
 -- What an answer says by its flag.
-pub numbers-none : (count : ℕ) (r : Numbers) → r.spelled ≡ false → numbersIn count r ≡ none
-unfolding numbersIn
-numbers-none count r e = rw e
+pub numbers_none : (count : ℕ) (r : Numbers) → r.spelled ≡ false → numbers_in count r ≡ none
+unfolding numbers_in
+numbers_none count r e = rw e
 
-pub numbers-some : (count : ℕ) (r : Numbers) → r.spelled ≡ true → numbersIn count r ≡ some (take count r.values)
-unfolding numbersIn
-numbers-some count r e = rw e
+pub numbers_some : (count : ℕ) (r : Numbers) → r.spelled ≡ true → numbers_in count r ≡ some (take count r.values)
+unfolding numbers_in
+numbers_some count r e = rw e
 
-pub few-numbers : (count : ℕ) (s : List ℕ) → count ≤ 5 → fewNumbers count s ≡ numbers count s
-unfolding fewNumbers
-few-numbers count s h = rw (le-leb count 5 h)
+pub few_numbers_lem : (count : ℕ) (s : List ℕ) → count ≤ 5 → few_numbers count s ≡ numbers count s
+unfolding few_numbers
+few_numbers_lem count s h = rw (le-leb count 5 h)
 
-pub many-numbers : (count : ℕ) (s : List ℕ) → 5 < count → fewNumbers count s ≡ none
-unfolding fewNumbers
-many-numbers count s h = rw (lt-leb count 5 h)
+pub many_numbers : (count : ℕ) (s : List ℕ) → 5 < count → few_numbers count s ≡ none
+unfolding few_numbers
+many_numbers count s h = rw (lt-leb count 5 h)
 
 -- A text that is not spelled so has blank numbers.
-pub no-numbers : (count : ℕ) (text : List ℕ) (r : Numbers) → r ≡ record { spelled = false; values = replicate 5 0 } → fewNumbers count text ≡ none → NumbersOf count text r
-unfolding numbersIn
-no-numbers count text r e n = rw e (record { numbers-are = sym n; behind = refl; blank = λ s. refl })
+pub no_numbers : (count : ℕ) (text : List ℕ) (r : Numbers) → r ≡ record { spelled = false; values = replicate 5 0 } → few_numbers count text ≡ none → NumbersOf count text r
+unfolding numbers_in
+no_numbers count text r e n = rw e (record { numbers_are = sym n; behind = refl; blank = λ s. refl })
 
 -- An answer that is not spelled so has no numbers.
-pub none_in : (count : ℕ) (r : Numbers) → r.spelled ≡ false → numbersIn count r ≡ none
-unfolding numbersIn
+pub none_in : (count : ℕ) (r : Numbers) → r.spelled ≡ false → numbers_in count r ≡ none
+unfolding numbers_in
 none_in count r e = rw e

@@ -13,23 +13,23 @@ before b [] = 0
 before b (x ∷ xs) = if eqb x b then 0 else suc (before b xs)
 
 -- What stands behind a key of n bytes, where the text begins with it.
-abbrev pub behindIf : Bool → ℕ → List ℕ → Option (List ℕ)
-behindIf true n text = some (drop n text)
-behindIf false n text = none
+abbrev pub behind_if : Bool → ℕ → List ℕ → Option (List ℕ)
+behind_if true n text = some (drop n text)
+behind_if false n text = none
 
-unfoldable pub readNumber : List ℕ → Number
-readNumber text = if is_number text then Value (value text) else Misspelled
+unfoldable pub read_number : List ℕ → Number
+read_number text = if is_number text then Value (value text) else Misspelled
 
 -- The first numbers of an answer, where the text is spelled so.
-unfoldable pub numbersIn : ℕ → Numbers → Option (List ℕ)
-numbersIn count r = if r.spelled then some (take count r.values) else none
+unfoldable pub numbers_in : ℕ → Numbers → Option (List ℕ)
+numbers_in count r = if r.spelled then some (take count r.values) else none
 
 -- Just `count` numbers between commas, where these are at most five.
-unfoldable pub fewNumbers : ℕ → List ℕ → Option (List ℕ)
-fewNumbers count text = if leb count 5 then numbers count text else none
+unfoldable pub few_numbers : ℕ → List ℕ → Option (List ℕ)
+few_numbers count text = if leb count 5 then numbers count text else none
 
 -- The numbers of the text, and zeros behind them; zeros where it is not spelled so.
 pub record NumbersOf (count : ℕ) (text : List ℕ) (r : Numbers) : Type 0 where
-  pub numbers-are : numbersIn count r ≡ fewNumbers count text
+  pub numbers_are : numbers_in count r ≡ few_numbers count text
   pub behind : drop count r.values ≡ drop count (replicate 5 0)
   pub blank : r.spelled ≡ false → r.values ≡ replicate 5 0

@@ -1,6 +1,6 @@
 // A level in units of 10^-12, as an argument of a program spells it.
 ghost use Rattle.std.specs.Prelude.{◌≡◌};
-ghost use Rattle.spelling.specs.Level.{levelIn};
+ghost use Rattle.spelling.specs.Level.{level_in};
 
 // What an argument says.
 #[derive(Drop)]
@@ -11,7 +11,7 @@ pub enum Argument {
 
 // One digit or more, whose value fits a word.
 pub fn level_of(text: &[u8]) -> Argument
-    ensures { result ≡ levelIn text.now }
+    ensures { result ≡ level_in text.now }
 {
     if text.len() == 0 {
         return Argument::Misspelled;

@@ -3,7 +3,7 @@ mod level;
 
 ghost use Rattle.std.specs.Prelude.{◌≡◌, false, ◌+◌, ◌≤◌, length, drop, replicate};
 ghost use Rattle.fund.specs.Spelling.{behind, numbers};
-ghost use Rattle.spelling.specs.Text.{before, behindIf, readNumber, numbersIn, NumbersOf};
+ghost use Rattle.spelling.specs.Text.{before, behind_if, read_number, numbers_in, NumbersOf};
 
 use fund::Fund;
 pub use level::{Argument, level_of};
@@ -40,7 +40,7 @@ pub fn find(s: &[u8], b: u8, from: usize) -> usize
 
 // Whether the key begins the text.
 pub fn begins(text: &[u8], key: &[u8]) -> bool
-    ensures { behind key.now text.now ≡ behindIf result (length key.now) text.now }
+    ensures { behind key.now text.now ≡ behind_if result (length key.now) text.now }
 {
     let mut i = 0;
     while i < key.len() {
@@ -57,7 +57,7 @@ pub fn begins(text: &[u8], key: &[u8]) -> bool
 
 // "decimal, without sign, space or leading zero (0 itself is `0`), of one to seven digits"
 fn number_of(text: &[u8]) -> Number
-    ensures { result ≡ readNumber text.now }
+    ensures { result ≡ read_number text.now }
 {
     let n = text.len();
     if n == 0 {
@@ -91,7 +91,7 @@ fn number_of(text: &[u8]) -> Number
 // Just `count` numbers between commas.
 fn collect_numbers(text: &[u8], count: usize) -> Numbers
     requires { count ≤ 5 }
-    ensures { (numbersIn count result ≡ numbers count text.now) × (drop count result.values ≡ drop count (replicate 5 0)) }
+    ensures { (numbers_in count result ≡ numbers count text.now) × (drop count result.values ≡ drop count (replicate 5 0)) }
 {
     let mut values = [0u64; 5];
     let mut k: usize = 0;

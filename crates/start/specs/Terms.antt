@@ -10,33 +10,33 @@ use Rattle.whole.specs.Sums.{sum_of}
 use Rattle.start.specs.declared.StartSum.{StartSum}
 
 -- a t(n) and a c(n) are at most these, for lambda up to the most load
-abbrev pub most-t : ℕ
-most-t = 10 ^ 15
+abbrev pub most_t : ℕ
+most_t = 10 ^ 15
 
-abbrev pub most-c : ℕ
-most-c = 1000
+abbrev pub most_c : ℕ
+most_c = 1000
 
 -- c(n) from the one before it
-unfoldable pub nextC : ℕ → ℕ → ℕ → ℕ
-nextC zero c n = 0
-nextC (suc lambda) c n = up (c * suc lambda) (n * 10 ^ 12) + 1
+unfoldable pub next_c : ℕ → ℕ → ℕ → ℕ
+next_c zero c n = 0
+next_c (suc lambda) c n = up (c * suc lambda) (n * 10 ^ 12) + 1
 
 -- the sums over the first n
 pub record TermsTo (lambda n : ℕ) (s : Sums) : Type 0 where
   pub sum_is : sum_of s ≡ sumℤ n (λ k. alternate k (pos (t lambda k)))
-  pub bound-is : s.bound ≡ sum n (c lambda)
-  pub plus-within : s.plus ≤ n * most-t
-  pub minus-within : s.minus ≤ n * most-t
-  pub bound-within : s.bound ≤ n * most-c
+  pub bound_is : s.bound ≡ sum n (c lambda)
+  pub plus_within : s.plus ≤ n * most_t
+  pub minus_within : s.minus ≤ n * most_t
+  pub bound_within : s.bound ≤ n * most_c
 
 -- the sums of all, by sign and size; 0 has no sign
 pub record StartSumIs (lambda : ℕ) (s : StartSum) : Type 0 where
   pub sum_is : signed s.negative s.size ≡ alternating lambda
   pub unsigned : s.size ≡ 0 → s.negative ≡ false
-  pub bound-is : s.bound ≡ sum 64 (c lambda)
+  pub bound_is : s.bound ≡ sum 64 (c lambda)
 
 -- of a lambda up to the largest load
 pub record StartSums (lambda : ℕ) (s : StartSum) : Type 0 where
   pub is : StartSumIs (min lambda most_load) s
-  pub size-within : s.size ≤ 200 * most-t
-  pub bound-within : s.bound ≤ 691
+  pub size_within : s.size ≤ 200 * most_t
+  pub bound_within : s.bound ≤ 691

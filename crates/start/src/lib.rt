@@ -2,7 +2,7 @@
 ghost use Rattle.std.specs.Prelude.{◌≡◌, ◌*◌, ◌^◌, ◌<◌, ◌≤◌};
 ghost use Rattle.fund.specs.Limits.{most_load};
 ghost use Rattle.rounding.specs.Rounding.{near};
-ghost use Rattle.start.specs.Terms.{most-t, most-c, nextC, TermsTo, StartSums};
+ghost use Rattle.start.specs.Terms.{most_t, most_c, next_c, TermsTo, StartSums};
 
 use fund::Fund;
 use rounding::UNIT;
@@ -17,7 +17,7 @@ pub struct StartSum {
 
 // t(n) from t(n-1): all are 0 from the first that is.
 fn next_term(t: u64, lambda: u64, n: u64) -> u64
-    requires { (t ≤ most-t) × (lambda ≤ most_load) × (0 < n) }
+    requires { (t ≤ most_t) × (lambda ≤ most_load) × (0 < n) }
     ensures { result ≡ near (t * lambda) (n * 10 ^ 12) }
 {
     if t == 0 {
@@ -28,8 +28,8 @@ fn next_term(t: u64, lambda: u64, n: u64) -> u64
 
 // c(n) from c(n-1): all are 0 if lambda is. The product is at most 1,000 times the largest load, so it is a word.
 fn next_bound(c: u64, lambda: u64, n: u64) -> u64
-    requires { (c ≤ most-c) × (lambda ≤ most_load) × (0 < n) × (n ≤ 64) }
-    ensures { result ≡ nextC lambda c n }
+    requires { (c ≤ most_c) × (lambda ≤ most_load) × (0 < n) × (n ≤ 64) }
+    ensures { result ≡ next_c lambda c n }
 {
     if lambda == 0 {
         return 0;

@@ -1,4 +1,4 @@
--- The definitions give every row of the table of sheets that are cut short (every-cut), by computing both sides. A rate of 1 is taken, the largest (rate-one), and a blank is a NaN and nothing else,
+-- The definitions give every row of the table of sheets that are cut short (every_cut), by computing both sides. A rate of 1 is taken, the largest (rate_one), and a blank is a NaN and nothing else,
 -- infinity neither (only_nan).
 use mathlib.Core.Path.{◌≡◌, refl}
 use mathlib.Core.Bool.{Bool, true}
@@ -11,37 +11,37 @@ use Rattle.fund.specs.declared.SheetCell.TheVariants.{Blank}
 use Rattle.fund.specs.declared.Taken.TheVariants.{As}
 use Rattle.fund.specs.Base.{bytes, total, sum, sumℤ, table, alternate}
 use Rattle.fund.specs.Lines.{begun, lines_from, lines}
-use Rattle.fund.specs.Spelling.{digits, is_number, valueFrom, value, inFirst, fields, allNumbers, numbers, behind, spelled}
-use Rattle.fund.specs.Reading.{between, inRanges, headerLines, headerOf, row_of, rising, rateInRange, livesInAll, memberInRange, noMember, atEnd, readRows, readHeader, reading}
-use Rattle.fund.specs.Folding.{heldUntil, rateInForce, folded, life, point, points, copies, lives}
-use Rattle.fund.specs.Transform.{unit, nextRow, row, placed, termOf, rowTerms, singleTerms, deathWeight, disabilityWeight, replacedTerm, replacedTerms, terms, sumD, sumH, D, H, lambda, load, w, truncation, mean}
-use Rattle.fund.specs.Recursion.{t, alternating, multiplied, start, c, start_bound, entries, sumR, sumF, nextCell, cells}
-use Rattle.fund.specs.Premium.{sumBelow, boundBelow, premium, within}
-use Rattle.fund.specs.Tariff.{loading, withBound, gross}
-use Rattle.fund.specs.Refusals.{first, unmatched, half, half_line, wide, anyShort, short, refuse, at0, firstMember, valued, matched, verdict}
-use Rattle.fund.specs.Quantile.{runningSum}
-use Rattle.fund.specs.Distribution.{distributionBound}
-use Rattle.fund.specs.Answer.{fundTerms, fundStart, fundCells, fundTruncation, fundMean, fundPremium, fundWithin, fundFigures, line_at, part, refused, lent, accepted, answer_of, answerTo}
-use Rattle.fund.specs.Listing.{digitsWithin, decimal, signedDecimal, joined, cellLine, cellLines, listed, refusedLine, printed, horizonIn, listingTo, listing}
-use Rattle.fund.specs.Limits.{most-rate}
-use Rattle.fund.specs.SheetCells.{leastFirst, cell_of, quotient, or_else, seek, whole_of, rateOf, at_least, wholeIn, amountOf, memberJoined, rateRowOf, memberRowOf}
-use Rattle.fund.specs.Sheets.{rowCount, row_at, rows_of, sheetRows, readSheetRows, readSheets, sheetReading, sheetListing}
+use Rattle.fund.specs.Spelling.{digits, is_number, value_from, value, in_first, fields, all_numbers, numbers, behind, spelled}
+use Rattle.fund.specs.Reading.{between, in_ranges, header_lines, header_of, row_of, rising, rate_in_range, lives_in_all, member_in_range, no_member, at_end, read_rows, read_header, reading}
+use Rattle.fund.specs.Folding.{held_until, rate_in_force, folded, life, point, points, copies, lives}
+use Rattle.fund.specs.Transform.{unit, next_row, row, placed, term_of, row_terms, single_terms, death_weight, disability_weight, replaced_term, replaced_terms, terms, sum_d, sum_h, D, H, lambda, load, w, truncation, mean}
+use Rattle.fund.specs.Recursion.{t, alternating, multiplied, start, c, start_bound, entries, sum_r, sum_f, next_cell, cells}
+use Rattle.fund.specs.Premium.{sum_below, bound_below, premium, within}
+use Rattle.fund.specs.Tariff.{loading, with_bound, gross}
+use Rattle.fund.specs.Refusals.{first, unmatched, half, half_line, wide, any_short, short, refuse, at0, first_member, valued, matched, verdict}
+use Rattle.fund.specs.Quantile.{running_sum}
+use Rattle.fund.specs.Distribution.{distribution_bound}
+use Rattle.fund.specs.Answer.{fund_terms, fund_start, fund_cells, fund_truncation, fund_mean, fund_premium, fund_within, fund_figures, line_at, part, refused, lent, accepted, answer_of, answer_to}
+use Rattle.fund.specs.Listing.{digits_within, decimal, signed_decimal, joined, cell_line, cell_lines, listed, refused_line, printed, horizon_in, listing_to, listing}
+use Rattle.fund.specs.Limits.{most_rate}
+use Rattle.fund.specs.SheetCells.{least_first, cell_of, quotient, or_else, seek, whole_of, rate_of, at_least, whole_in, amount_of, member_joined, rate_row_of, member_row_of}
+use Rattle.fund.specs.Sheets.{row_count, row_at, rows_of, sheet_rows, read_sheet_rows, read_sheets, sheet_reading, sheet_listing}
 use Rattle.fund.specs.Starred.{text, file}
-use Rattle.tables.specs.SheetFunds.{headerText, firstHeader, one}
-use Rattle.tables.specs.CutSheets.{SheetBytes, cutSheets}
+use Rattle.tables.specs.SheetFunds.{header_text, first_header, one}
+use Rattle.tables.specs.CutSheets.{SheetBytes, cut_sheets}
 
-pub every-cut : map (λ (r : SheetBytes). record { rates = r.rates; members = r.members; listing = sheetListing firstHeader r.rates r.members }) cutSheets ≡ cutSheets
-unfolding near nearest up bytes total sum sumℤ table alternate begun lines_from lines digits is_number valueFrom value inFirst fields allNumbers numbers behind spelled between inRanges headerLines headerOf row_of rising rateInRange livesInAll memberInRange noMember atEnd readRows readHeader reading heldUntil rateInForce folded life point points copies lives unit nextRow row placed termOf rowTerms singleTerms deathWeight disabilityWeight replacedTerm replacedTerms terms sumD sumH D H lambda load w truncation mean t alternating multiplied start c start_bound entries sumR sumF nextCell cells sumBelow boundBelow premium within loading withBound gross first unmatched half half_line wide anyShort short refuse at0 firstMember valued matched verdict runningSum distributionBound fundTerms fundStart fundCells fundTruncation fundMean fundPremium fundWithin fundFigures line_at part refused lent accepted answer_of answerTo digitsWithin decimal signedDecimal joined cellLine cellLines listed refusedLine printed horizonIn listingTo text file leastFirst of_bits eq of_int cell_of or_else seek whole_of at_least wholeIn amountOf memberJoined rateRowOf memberRowOf rowCount row_at rows_of sheetRows readSheetRows readSheets sheetReading headerText cutSheets
-every-cut = refl
+pub every_cut : map (λ (r : SheetBytes). record { rates = r.rates; members = r.members; listing = sheet_listing first_header r.rates r.members }) cut_sheets ≡ cut_sheets
+unfolding near nearest up bytes total sum sumℤ table alternate begun lines_from lines digits is_number value_from value in_first fields all_numbers numbers behind spelled between in_ranges header_lines header_of row_of rising rate_in_range lives_in_all member_in_range no_member at_end read_rows read_header reading held_until rate_in_force folded life point points copies lives unit next_row row placed term_of row_terms single_terms death_weight disability_weight replaced_term replaced_terms terms sum_d sum_h D H lambda load w truncation mean t alternating multiplied start c start_bound entries sum_r sum_f next_cell cells sum_below bound_below premium within loading with_bound gross first unmatched half half_line wide any_short short refuse at0 first_member valued matched verdict running_sum distribution_bound fund_terms fund_start fund_cells fund_truncation fund_mean fund_premium fund_within fund_figures line_at part refused lent accepted answer_of answer_to digits_within decimal signed_decimal joined cell_line cell_lines listed refused_line printed horizon_in listing_to text file least_first of_bits eq of_int cell_of or_else seek whole_of at_least whole_in amount_of member_joined rate_row_of member_row_of row_count row_at rows_of sheet_rows read_sheet_rows read_sheets sheet_reading header_text cut_sheets
+every_cut = refl
 
 -- the largest number that is asked comes first
-seek-first : (p : ℕ → Bool) (n : ℕ) → p n ≡ true → seek p (suc n) ≡ As n
+seek_first : (p : ℕ → Bool) (n : ℕ) → p n ≡ true → seek p (suc n) ≡ As n
 unfolding seek or_else
-seek-first p n e = rw e
+seek_first p n e = rw e
 
-pub rate-one : rateOf (of_bits binary64 (leastFirst one)) ≡ As most-rate
-unfolding rateOf quotient leastFirst eq of_bits div of_int
-rate-one = seek-first (λ (k : ℕ). eq (of_bits binary64 (leastFirst one)) (quotient k 1000000)) most-rate refl
+pub rate_one : rate_of (of_bits binary64 (least_first one)) ≡ As most_rate
+unfolding rate_of quotient least_first eq of_bits div of_int
+rate_one = seek_first (λ (k : ℕ). eq (of_bits binary64 (least_first one)) (quotient k 1000000)) most_rate refl
 
 pub only_nan : (x : Float) → cell_of x ≡ Blank → x ≡ nan
 unfolding cell_of

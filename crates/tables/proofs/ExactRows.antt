@@ -6,19 +6,19 @@ use Prim.Native.Nat.{ℕ, suc, ◌*◌, ◌^◌}
 use lib.IntN.{ℤ, pos, ◌*ℤ◌}
 use Rattle.fund.specs.Base.{bytes, total, sum, sumℤ, table}
 use Rattle.fund.specs.Lines.{begun, lines_from, lines}
-use Rattle.fund.specs.Spelling.{digits, is_number, valueFrom, value, inFirst, fields, allNumbers, numbers, behind, spelled}
-use Rattle.fund.specs.Reading.{FundFile, Reading, read, stopped, between, inRanges, headerLines, headerOf, row_of, rising, rateInRange, livesInAll, memberInRange, noMember, atEnd, readRows, readHeader, reading}
-use Rattle.fund.specs.Folding.{heldUntil, rateInForce, folded, life, point, points, copies, lives}
-use Rattle.fund.specs.Transform.{deathWeight, disabilityWeight, lambda, mean}
-use Rattle.fund.specs.Exact.{factorial, singles, denominator, shifted, one, singlePart, weightAt, convolved, fold, series, replacedPart, power, exponential, exact, exactPremium, after, outcomes, excess}
+use Rattle.fund.specs.Spelling.{digits, is_number, value_from, value, in_first, fields, all_numbers, numbers, behind, spelled}
+use Rattle.fund.specs.Reading.{FundFile, Reading, read, stopped, between, in_ranges, header_lines, header_of, row_of, rising, rate_in_range, lives_in_all, member_in_range, no_member, at_end, read_rows, read_header, reading}
+use Rattle.fund.specs.Folding.{held_until, rate_in_force, folded, life, point, points, copies, lives}
+use Rattle.fund.specs.Transform.{death_weight, disability_weight, lambda, mean}
+use Rattle.fund.specs.Exact.{factorial, singles, denominator, shifted, one, single_part, weight_at, convolved, fold, series, replaced_part, power, exponential, exact, exact_premium, after, outcomes, excess}
 use Rattle.fund.specs.Starred.{text}
-use Rattle.tables.specs.ExactRows.{Fraction, ExactRow, exactRows}
+use Rattle.tables.specs.ExactRows.{Fraction, ExactRow, exact_rows}
 
 -- The exact values from x on, the exact premium and the average excess, each times the row's denominator.
-abbrev valuesFrom : FundFile → ℕ → List Fraction → List ℤ
-valuesFrom file x [] = []
-valuesFrom file x (v ∷ vs) =
-    (exact file.header.horizon file.header.frequency (lives file) x *ℤ pos v.den) ∷ valuesFrom file (suc x) vs
+abbrev values_from : FundFile → ℕ → List Fraction → List ℤ
+values_from file x [] = []
+values_from file x (v ∷ vs) =
+    (exact file.header.horizon file.header.frequency (lives file) x *ℤ pos v.den) ∷ values_from file (suc x) vs
 
 abbrev computed : Reading → ExactRow → List ℤ
 computed (stopped why place) r = []
@@ -27,8 +27,8 @@ computed (read file) r =
     let M = file.header.deductible in
     let a = file.header.frequency in
     let ms = lives file in
-    valuesFrom file 0 r.values
-    ++ ((exactPremium X M (mean a ms) a ms *ℤ pos r.premium.den)
+    values_from file 0 r.values
+    ++ ((exact_premium X M (mean a ms) a ms *ℤ pos r.premium.den)
     ∷ map (λ (v : Fraction). pos (10 ^ 12 * excess M (outcomes ms) * v.den)) r.average)
 
 -- The row's numerators, each times METHOD 10's denominator.
@@ -40,6 +40,6 @@ stated (read file) r =
     ++ (pos (r.premium.num * D)
     ∷ map (λ (v : Fraction). pos (v.num * 10 ^ (6 * singles (lives file)))) r.average)
 
-pub every-exact-row : map (λ (r : ExactRow). computed (reading r.file) r) exactRows ≡ map (λ (r : ExactRow). stated (reading r.file) r) exactRows
-unfolding bytes total sum sumℤ table begun lines_from lines digits is_number valueFrom value inFirst fields allNumbers numbers behind spelled between inRanges headerLines headerOf row_of rising rateInRange livesInAll memberInRange noMember atEnd readRows readHeader reading heldUntil rateInForce folded life point points copies lives deathWeight disabilityWeight lambda mean factorial singles denominator shifted one singlePart weightAt convolved fold series replacedPart power exponential exact exactPremium after outcomes excess text exactRows
-every-exact-row = refl
+pub every_exact_row : map (λ (r : ExactRow). computed (reading r.file) r) exact_rows ≡ map (λ (r : ExactRow). stated (reading r.file) r) exact_rows
+unfolding bytes total sum sumℤ table begun lines_from lines digits is_number value_from value in_first fields all_numbers numbers behind spelled between in_ranges header_lines header_of row_of rising rate_in_range lives_in_all member_in_range no_member at_end read_rows read_header reading held_until rate_in_force folded life point points copies lives death_weight disability_weight lambda mean factorial singles denominator shifted one single_part weight_at convolved fold series replaced_part power exponential exact exact_premium after outcomes excess text exact_rows
+every_exact_row = refl

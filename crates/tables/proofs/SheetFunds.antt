@@ -1,27 +1,27 @@
 -- The definitions give every row of the tables of sheets: from a header text and rows to the text that is printed and the part that is handed back
--- (every-sheet), and from the bytes of a row to the row (every-row-of-bytes). By computing both sides.
+-- (every_sheet), and from the bytes of a row to the row (every_row_of_bytes). By computing both sides.
 use mathlib.Core.Path.{◌≡◌, refl}
 use mathlib.Core.List.{map}
 use lib.Ieee.{of_bits, of_int, eq}
 use Rattle.rounding.specs.Rounding.{near, nearest, up}
 use Rattle.fund.specs.Base.{bytes, total, sum, sumℤ, table, alternate}
 use Rattle.fund.specs.Lines.{begun, lines_from, lines}
-use Rattle.fund.specs.Spelling.{digits, is_number, valueFrom, value, inFirst, fields, allNumbers, numbers, behind, spelled}
-use Rattle.fund.specs.Reading.{between, inRanges, headerLines, headerOf, rising, rateInRange, livesInAll, memberInRange, readHeader}
-use Rattle.fund.specs.Folding.{heldUntil, rateInForce, folded, life, point, points, copies, lives}
-use Rattle.fund.specs.Transform.{unit, nextRow, row, placed, termOf, rowTerms, singleTerms, deathWeight, disabilityWeight, replacedTerm, replacedTerms, terms, sumD, sumH, D, H, lambda, load, w, truncation, mean}
-use Rattle.fund.specs.Recursion.{t, alternating, multiplied, start, c, start_bound, entries, sumR, sumF, nextCell, cells}
-use Rattle.fund.specs.Premium.{sumBelow, boundBelow, premium, within}
-use Rattle.fund.specs.Tariff.{loading, withBound, gross}
-use Rattle.fund.specs.Refusals.{first, unmatched, half, half_line, wide, anyShort, short, refuse, at0, firstMember, valued, matched, verdict}
-use Rattle.fund.specs.Quantile.{runningSum}
-use Rattle.fund.specs.Distribution.{distributionBound}
-use Rattle.fund.specs.Answer.{fundTerms, fundStart, fundCells, fundTruncation, fundMean, fundPremium, fundWithin, fundFigures, line_at, part, refused, lent, accepted, answer_of, answerTo}
-use Rattle.fund.specs.Listing.{digitsWithin, decimal, signedDecimal, joined, cellLine, cellLines, listed, refusedLine, printed, horizonIn, enough, listingTo}
-use Rattle.fund.specs.SheetCells.{leastFirst, cell_of, or_else, seek, whole_of, at_least, wholeIn, amountOf, memberJoined, memberRowOf}
-use Rattle.fund.specs.Sheets.{readSheetRows, readSheets, rowsReading}
+use Rattle.fund.specs.Spelling.{digits, is_number, value_from, value, in_first, fields, all_numbers, numbers, behind, spelled}
+use Rattle.fund.specs.Reading.{between, in_ranges, header_lines, header_of, rising, rate_in_range, lives_in_all, member_in_range, read_header}
+use Rattle.fund.specs.Folding.{held_until, rate_in_force, folded, life, point, points, copies, lives}
+use Rattle.fund.specs.Transform.{unit, next_row, row, placed, term_of, row_terms, single_terms, death_weight, disability_weight, replaced_term, replaced_terms, terms, sum_d, sum_h, D, H, lambda, load, w, truncation, mean}
+use Rattle.fund.specs.Recursion.{t, alternating, multiplied, start, c, start_bound, entries, sum_r, sum_f, next_cell, cells}
+use Rattle.fund.specs.Premium.{sum_below, bound_below, premium, within}
+use Rattle.fund.specs.Tariff.{loading, with_bound, gross}
+use Rattle.fund.specs.Refusals.{first, unmatched, half, half_line, wide, any_short, short, refuse, at0, first_member, valued, matched, verdict}
+use Rattle.fund.specs.Quantile.{running_sum}
+use Rattle.fund.specs.Distribution.{distribution_bound}
+use Rattle.fund.specs.Answer.{fund_terms, fund_start, fund_cells, fund_truncation, fund_mean, fund_premium, fund_within, fund_figures, line_at, part, refused, lent, accepted, answer_of, answer_to}
+use Rattle.fund.specs.Listing.{digits_within, decimal, signed_decimal, joined, cell_line, cell_lines, listed, refused_line, printed, horizon_in, enough, listing_to}
+use Rattle.fund.specs.SheetCells.{least_first, cell_of, or_else, seek, whole_of, at_least, whole_in, amount_of, member_joined, member_row_of}
+use Rattle.fund.specs.Sheets.{read_sheet_rows, read_sheets, rows_reading}
 use Rattle.fund.specs.Starred.{text}
-use Rattle.tables.specs.SheetFunds.{SheetFund, RowBytes, headerText, sheetFunds, memberBytes}
+use Rattle.tables.specs.SheetFunds.{SheetFund, RowBytes, header_text, sheet_funds, member_bytes}
 
 -- What the definitions give for a table's row.
 abbrev given : SheetFund → SheetFund
@@ -29,14 +29,14 @@ given s =
     record {
       header = s.header;
       rows = s.rows;
-      listing = listingTo s.header (rowsReading s.header s.rows);
-      part = (answerTo s.header enough (rowsReading s.header s.rows)).part;
+      listing = listing_to s.header (rows_reading s.header s.rows);
+      part = (answer_to s.header enough (rows_reading s.header s.rows)).part;
     }
 
-pub every-sheet : map given sheetFunds ≡ sheetFunds
-unfolding near nearest up bytes total sum sumℤ table alternate begun lines_from lines digits is_number valueFrom value inFirst fields allNumbers numbers behind spelled between inRanges headerLines headerOf rising rateInRange livesInAll memberInRange readHeader heldUntil rateInForce folded life point points copies lives unit nextRow row placed termOf rowTerms singleTerms deathWeight disabilityWeight replacedTerm replacedTerms terms sumD sumH D H lambda load w truncation mean t alternating multiplied start c start_bound entries sumR sumF nextCell cells sumBelow boundBelow premium within loading withBound gross first unmatched half half_line wide anyShort short refuse at0 firstMember valued matched verdict runningSum distributionBound fundTerms fundStart fundCells fundTruncation fundMean fundPremium fundWithin fundFigures line_at part refused lent accepted answer_of answerTo digitsWithin decimal signedDecimal joined cellLine cellLines listed refusedLine printed horizonIn listingTo text readSheetRows readSheets headerText sheetFunds
-every-sheet = refl
+pub every_sheet : map given sheet_funds ≡ sheet_funds
+unfolding near nearest up bytes total sum sumℤ table alternate begun lines_from lines digits is_number value_from value in_first fields all_numbers numbers behind spelled between in_ranges header_lines header_of rising rate_in_range lives_in_all member_in_range read_header held_until rate_in_force folded life point points copies lives unit next_row row placed term_of row_terms single_terms death_weight disability_weight replaced_term replaced_terms terms sum_d sum_h D H lambda load w truncation mean t alternating multiplied start c start_bound entries sum_r sum_f next_cell cells sum_below bound_below premium within loading with_bound gross first unmatched half half_line wide any_short short refuse at0 first_member valued matched verdict running_sum distribution_bound fund_terms fund_start fund_cells fund_truncation fund_mean fund_premium fund_within fund_figures line_at part refused lent accepted answer_of answer_to digits_within decimal signed_decimal joined cell_line cell_lines listed refused_line printed horizon_in listing_to text read_sheet_rows read_sheets header_text sheet_funds
+every_sheet = refl
 
-pub every-row-of-bytes : map (λ (r : RowBytes). record { bytes = r.bytes; row = memberRowOf r.bytes }) memberBytes ≡ memberBytes
-unfolding leastFirst of_bits eq of_int cell_of or_else seek whole_of at_least wholeIn amountOf memberJoined memberRowOf memberBytes
-every-row-of-bytes = refl
+pub every_row_of_bytes : map (λ (r : RowBytes). record { bytes = r.bytes; row = member_row_of r.bytes }) member_bytes ≡ member_bytes
+unfolding least_first of_bits eq of_int cell_of or_else seek whole_of at_least whole_in amount_of member_joined member_row_of member_bytes
+every_row_of_bytes = refl

@@ -9,8 +9,8 @@ pub record SheetBytes : Type 0 where
   pub members : List ℕ
   pub listing : List ℕ
 
-unfoldable pub cutSheets : List SheetBytes
-cutSheets =
+unfoldable pub cut_sheets : List SheetBytes
+cut_sheets =
     record { rates = 0 ∷ []; members = []; listing = text ("refused=11,1" ∷ []) }
     ∷ record { rates = []; members = 0 ∷ []; listing = text ("refused=11,1" ∷ []) }
     ∷ record { rates = []; members = oldest one ++ (0 ∷ []); listing = text ("refused=11,2" ∷ []) }

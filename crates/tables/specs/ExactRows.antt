@@ -18,8 +18,8 @@ pub record ExactRow : Type 0 where
   pub premium : Fraction
   pub average : List Fraction
 
-unfoldable pub exactRows : List ExactRow
-exactRows =
+unfoldable pub exact_rows : List ExactRow
+exact_rows =
     -- empty
     record {
       file = text ("rates=2030" ∷ "members=2030" ∷ "horizon=1" ∷ "order=12" ∷ "frequency=1000,1000" ∷ "deductible=2" ∷ "worth=100" ∷ "end=0" ∷ []);

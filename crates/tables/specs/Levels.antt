@@ -3,7 +3,7 @@
 use Rattle.std.specs.Prelude.{List, [], ◌∷◌, ℕ, ℤ, pos}
 use Rattle.fund.specs.declared.Quantile.{Quantile}
 use Rattle.fund.specs.declared.Quantile.TheVariants.{At, None}
-use Rattle.fund.specs.Starred.{file, oneMember, eight}
+use Rattle.fund.specs.Starred.{file, one_member, eight}
 
 pub record LevelRow : Type 0 where
   pub file : List ℕ
@@ -12,18 +12,18 @@ pub record LevelRow : Type 0 where
   pub quantile : Quantile
 
 -- The first fund at a level.
-abbrev pub firstFund : ℕ → Quantile → LevelRow
-firstFund level answer =
+abbrev pub first_fund : ℕ → Quantile → LevelRow
+first_fund level answer =
     record {
-      file = file "horizon=2" "order=3" "deductible=2" oneMember;
+      file = file "horizon=2" "order=3" "deductible=2" one_member;
       sums = pos 900000000000 ∷ pos 1000000000000 ∷ pos 1000000000000 ∷ [];
       level = level;
       quantile = answer;
     }
 
 -- Two members of group 1 whose f add to 2 units above 10^12.
-abbrev pub passingFund : ℕ → Quantile → LevelRow
-passingFund level answer =
+abbrev pub passing_fund : ℕ → Quantile → LevelRow
+passing_fund level answer =
     record {
       file = file "horizon=2" "order=12" "deductible=0" ("rate=40,120,0" ∷ "member=40,1,1,0,1" ∷ "member=40,1,1,0,1" ∷ "end=2" ∷ []);
       sums = pos 999760014400 ∷ pos 999999985601 ∷ pos 1000000000002 ∷ [];
@@ -32,8 +32,8 @@ passingFund level answer =
     }
 
 -- One member of group 1 whose f(6) is -1, so that F falls behind 5.
-abbrev pub fallingFund : ℕ → Quantile → LevelRow
-fallingFund level answer =
+abbrev pub falling_fund : ℕ → Quantile → LevelRow
+falling_fund level answer =
     record {
       file = file "horizon=6" "order=12" "deductible=2" ("rate=40,1530,1421" ∷ "member=40,1,2,3,1" ∷ "end=1" ∷ []);
       sums =
@@ -52,17 +52,17 @@ fallingFund level answer =
 unfoldable pub levels : List LevelRow
 levels =
     -- A level that is just reached, and one unit more. Level 0 and 10^12.
-    firstFund 900000000000 (At 0)
-    ∷ firstFund 900000000001 (At 1)
-    ∷ firstFund 0 (At 0)
-    ∷ firstFund 1000000000000 (At 1)
+    first_fund 900000000000 (At 0)
+    ∷ first_fund 900000000001 (At 1)
+    ∷ first_fund 0 (At 0)
+    ∷ first_fund 1000000000000 (At 1)
     -- A level above 10^12 has none, whether a sum reaches it or not.
-    ∷ firstFund 1000000000001 None
-    ∷ passingFund 1000000000000 (At 2)
-    ∷ passingFund 1000000000001 None
+    ∷ first_fund 1000000000001 None
+    ∷ passing_fund 1000000000000 (At 2)
+    ∷ passing_fund 1000000000001 None
     -- The first x, not the last, nor the one that a bisection meets, where F falls.
-    ∷ fallingFund 1000000000000 (At 3)
-    ∷ fallingFund 997049000001 (At 2)
+    ∷ falling_fund 1000000000000 (At 3)
+    ∷ falling_fund 997049000001 (At 2)
     -- None up to the horizon.
     ∷ record {
       file = file "horizon=1" "order=3" "deductible=2" ("rate=40,1000000,0" ∷ eight ("end=8" ∷ []));
@@ -72,7 +72,7 @@ levels =
     }
     -- A refused fund: zeros, and none.
     ∷ record {
-      file = file "horizon=2" "order=2" "deductible=2" oneMember;
+      file = file "horizon=2" "order=2" "deductible=2" one_member;
       sums = pos 0 ∷ pos 0 ∷ pos 0 ∷ [];
       level = 0;
       quantile = None;

@@ -6,8 +6,8 @@ use Rattle.fund.specs.declared.SheetRow.{SheetRow}
 use Rattle.fund.specs.declared.SheetRow.TheVariants.{Rate as RateRow, Member as MemberRow, NotTaken}
 use Rattle.fund.specs.Base.{bytes}
 use Rattle.fund.specs.Answer.{Part, empty}
-use Rattle.fund.specs.Starred.{text, oneMemberListing}
-use Rattle.fund.specs.SeveralLives.{twoLivesListing}
+use Rattle.fund.specs.Starred.{text, one_member_listing}
+use Rattle.fund.specs.SeveralLives.{two_lives_listing}
 
 pub record SheetFund : Type 0 where
   pub header : List ℕ
@@ -15,8 +15,8 @@ pub record SheetFund : Type 0 where
   pub listing : List ℕ
   pub part : Part
 
-unfoldable pub headerText : String → String → List String → List ℕ
-headerText members horizon more = text ("rates=2030" ∷ members ∷ horizon ∷ "order=3" ∷ "frequency=1000,1000" ∷ "deductible=2" ∷ more)
+unfoldable pub header_text : String → String → List String → List ℕ
+header_text members horizon more = text ("rates=2030" ∷ members ∷ horizon ∷ "order=3" ∷ "frequency=1000,1000" ∷ "deductible=2" ∷ more)
 
 abbrev pub rate : ℕ → ℕ → ℕ → SheetRow
 rate age q i = RateRow (record { age = age; q = q; i = i })
@@ -25,45 +25,45 @@ abbrev pub member : ℕ → ℕ → ℕ → ℕ → ℕ → SheetRow
 member age group d e lives = MemberRow (record { age = age; group = group; d = d; e = e; lives = lives })
 
 -- The header text of the first fund.
-abbrev pub firstHeader : List ℕ
-firstHeader = headerText "members=2030" "horizon=2" ("worth=100" ∷ [])
+abbrev pub first_header : List ℕ
+first_header = header_text "members=2030" "horizon=2" ("worth=100" ∷ [])
 
 -- Behind it, rows that are refused: no part is handed back.
-abbrev pub behindHeader : List SheetRow → String → SheetFund
-behindHeader rows refused = record { header = firstHeader; rows = rows; listing = text (refused ∷ []); part = empty }
+abbrev pub behind_header : List SheetRow → String → SheetFund
+behind_header rows refused = record { header = first_header; rows = rows; listing = text (refused ∷ []); part = empty }
 
-unfoldable pub sheetFunds : List SheetFund
-sheetFunds =
+unfoldable pub sheet_funds : List SheetFund
+sheet_funds =
     -- The first fund, priced as the file with the same rows.
-    record { header = firstHeader; rows = rate 40 100000 0 ∷ member 40 1 1 0 1 ∷ []; listing = text oneMemberListing; part = empty }
+    record { header = first_header; rows = rate 40 100000 0 ∷ member 40 1 1 0 1 ∷ []; listing = text one_member_listing; part = empty }
     -- A row that is not taken, at the row counted from 1: the first, behind rates, behind members; whatever follows it.
-    ∷ behindHeader (NotTaken ∷ []) "refused=11,1"
-    ∷ behindHeader (rate 40 100000 0 ∷ rate 50 100000 0 ∷ NotTaken ∷ []) "refused=11,3"
-    ∷ behindHeader (rate 40 100000 0 ∷ member 40 1 1 0 1 ∷ NotTaken ∷ rate 30 0 0 ∷ []) "refused=11,3"
+    ∷ behind_header (NotTaken ∷ []) "refused=11,1"
+    ∷ behind_header (rate 40 100000 0 ∷ rate 50 100000 0 ∷ NotTaken ∷ []) "refused=11,3"
+    ∷ behind_header (rate 40 100000 0 ∷ member 40 1 1 0 1 ∷ NotTaken ∷ rate 30 0 0 ∷ []) "refused=11,3"
     -- An earlier row's 2 comes before a later row's 11, and an earlier row's 11 before a later row's 2.
-    ∷ behindHeader (rate 40 600000 400001 ∷ NotTaken ∷ []) "refused=2,8"
-    ∷ behindHeader (NotTaken ∷ rate 40 600000 400001 ∷ []) "refused=11,1"
+    ∷ behind_header (rate 40 600000 400001 ∷ NotTaken ∷ []) "refused=2,8"
+    ∷ behind_header (NotTaken ∷ rate 40 600000 400001 ∷ []) "refused=11,1"
     -- Age order, q + i, 5 and 6 keep the file's number and line.
-    ∷ behindHeader (rate 40 100000 0 ∷ rate 40 100000 0 ∷ []) "refused=2,9"
-    ∷ behindHeader (rate 40 100000 0 ∷ rate 50 1000000 1 ∷ []) "refused=2,9"
-    ∷ behindHeader (rate 40 100000 0 ∷ member 40 1 1 0 1 ∷ member 39 1 1 0 1 ∷ []) "refused=5,10"
-    ∷ behindHeader (rate 40 500000 0 ∷ member 40 1 1 0 1 ∷ []) "refused=6,9"
+    ∷ behind_header (rate 40 100000 0 ∷ rate 40 100000 0 ∷ []) "refused=2,9"
+    ∷ behind_header (rate 40 100000 0 ∷ rate 50 1000000 1 ∷ []) "refused=2,9"
+    ∷ behind_header (rate 40 100000 0 ∷ member 40 1 1 0 1 ∷ member 39 1 1 0 1 ∷ []) "refused=5,10"
+    ∷ behind_header (rate 40 500000 0 ∷ member 40 1 1 0 1 ∷ []) "refused=6,9"
     -- METHOD 9 (§8): a row of several lives is priced as the file, a place counts rows, and lives in all keep the file's number and line.
-    ∷ record { header = firstHeader; rows = rate 40 100000 0 ∷ member 40 1 1 0 2 ∷ []; listing = text twoLivesListing; part = empty }
-    ∷ behindHeader (rate 40 100000 0 ∷ member 40 1 1 0 2 ∷ NotTaken ∷ []) "refused=11,3"
-    ∷ behindHeader (rate 40 100000 0 ∷ member 40 1 0 0 999 ∷ member 40 2 0 0 2 ∷ NotTaken ∷ []) "refused=2,10"
+    ∷ record { header = first_header; rows = rate 40 100000 0 ∷ member 40 1 1 0 2 ∷ []; listing = text two_lives_listing; part = empty }
+    ∷ behind_header (rate 40 100000 0 ∷ member 40 1 1 0 2 ∷ NotTaken ∷ []) "refused=11,3"
+    ∷ behind_header (rate 40 100000 0 ∷ member 40 1 0 0 999 ∷ member 40 2 0 0 2 ∷ NotTaken ∷ []) "refused=2,10"
     -- 11 belongs to reading: it comes before 3.
-    ∷ record { header = headerText "members=2031" "horizon=2" ("worth=100" ∷ []); rows = NotTaken ∷ []; listing = text ("refused=11,1" ∷ []); part = empty }
-    ∷ record { header = headerText "members=2031" "horizon=2" ("worth=100" ∷ []); rows = []; listing = text ("refused=3,0" ∷ []); part = empty }
+    ∷ record { header = header_text "members=2031" "horizon=2" ("worth=100" ∷ []); rows = NotTaken ∷ []; listing = text ("refused=11,1" ∷ []); part = empty }
+    ∷ record { header = header_text "members=2031" "horizon=2" ("worth=100" ∷ []); rows = []; listing = text ("refused=3,0" ∷ []); part = empty }
     -- The header text comes before any row, with its line: range at line 3, form at line 7, and where line 7 is missing.
-    ∷ record { header = headerText "members=2030" "horizon=4096" ("worth=100" ∷ []); rows = NotTaken ∷ []; listing = text ("refused=2,3" ∷ []); part = record { start = 24; size = 12 } }
-    ∷ record { header = headerText "members=2030" "horizon=2" ("worth=100 " ∷ []); rows = NotTaken ∷ []; listing = text ("refused=1,7" ∷ []); part = record { start = 75; size = 10 } }
-    ∷ record { header = headerText "members=2030" "horizon=2" []; rows = NotTaken ∷ []; listing = text ("refused=1,7" ∷ []); part = empty }
-    ∷ record { header = headerText "members=2030" "horizon=2" [] ++ bytes "worth=100"; rows = NotTaken ∷ []; listing = text ("refused=1,7" ∷ []); part = record { start = 75; size = 9 } }
+    ∷ record { header = header_text "members=2030" "horizon=4096" ("worth=100" ∷ []); rows = NotTaken ∷ []; listing = text ("refused=2,3" ∷ []); part = record { start = 24; size = 12 } }
+    ∷ record { header = header_text "members=2030" "horizon=2" ("worth=100 " ∷ []); rows = NotTaken ∷ []; listing = text ("refused=1,7" ∷ []); part = record { start = 75; size = 10 } }
+    ∷ record { header = header_text "members=2030" "horizon=2" []; rows = NotTaken ∷ []; listing = text ("refused=1,7" ∷ []); part = empty }
+    ∷ record { header = header_text "members=2030" "horizon=2" [] ++ bytes "worth=100"; rows = NotTaken ∷ []; listing = text ("refused=1,7" ∷ []); part = record { start = 75; size = 9 } }
     -- Bytes behind the last header line are form at line 8, and that line is handed back: up to its line feed, or to the end.
-    ∷ record { header = headerText "members=2030" "horizon=2" ("worth=100" ∷ "rate=40,100000,0" ∷ "end=0" ∷ []); rows = NotTaken ∷ []; listing = text ("refused=1,8" ∷ []); part = record { start = 85; size = 16 } }
-    ∷ record { header = firstHeader ++ bytes " "; rows = []; listing = text ("refused=1,8" ∷ []); part = record { start = 85; size = 1 } }
-    ∷ record { header = firstHeader ++ (10 ∷ []); rows = []; listing = text ("refused=1,8" ∷ []); part = record { start = 85; size = 0 } }
+    ∷ record { header = header_text "members=2030" "horizon=2" ("worth=100" ∷ "rate=40,100000,0" ∷ "end=0" ∷ []); rows = NotTaken ∷ []; listing = text ("refused=1,8" ∷ []); part = record { start = 85; size = 16 } }
+    ∷ record { header = first_header ++ bytes " "; rows = []; listing = text ("refused=1,8" ∷ []); part = record { start = 85; size = 1 } }
+    ∷ record { header = first_header ++ (10 ∷ []); rows = []; listing = text ("refused=1,8" ∷ []); part = record { start = 85; size = 0 } }
     ∷ []
 
 -- Cells from their bytes.
@@ -80,14 +80,14 @@ two = 0 ∷ 0 ∷ 0 ∷ 0 ∷ 0 ∷ 0 ∷ 0 ∷ 64 ∷ []
 abbrev pub half : List ℕ
 half = 0 ∷ 0 ∷ 0 ∷ 0 ∷ 0 ∷ 0 ∷ 224 ∷ 63 ∷ []
 
-abbrev pub hundredTwenty : List ℕ
-hundredTwenty = 0 ∷ 0 ∷ 0 ∷ 0 ∷ 0 ∷ 0 ∷ 94 ∷ 64 ∷ []
+abbrev pub hundred_twenty : List ℕ
+hundred_twenty = 0 ∷ 0 ∷ 0 ∷ 0 ∷ 0 ∷ 0 ∷ 94 ∷ 64 ∷ []
 
-abbrev pub hundredTwentyOne : List ℕ
-hundredTwentyOne = 0 ∷ 0 ∷ 0 ∷ 0 ∷ 0 ∷ 64 ∷ 94 ∷ 64 ∷ []
+abbrev pub hundred_twenty_one : List ℕ
+hundred_twenty_one = 0 ∷ 0 ∷ 0 ∷ 0 ∷ 0 ∷ 64 ∷ 94 ∷ 64 ∷ []
 
-abbrev pub mostAmount : List ℕ
-mostAmount = 0 ∷ 0 ∷ 0 ∷ 0 ∷ 224 ∷ 255 ∷ 239 ∷ 64 ∷ []
+abbrev pub most_amount_file : List ℕ
+most_amount_file = 0 ∷ 0 ∷ 0 ∷ 0 ∷ 224 ∷ 255 ∷ 239 ∷ 64 ∷ []
 
 -- The NaN with the least payload and a sign.
 abbrev pub blank : List ℕ
@@ -96,28 +96,28 @@ blank = 1 ∷ 0 ∷ 0 ∷ 0 ∷ 0 ∷ 0 ∷ 240 ∷ 255 ∷ []
 abbrev pub thousand : List ℕ
 thousand = 0 ∷ 0 ∷ 0 ∷ 0 ∷ 0 ∷ 64 ∷ 143 ∷ 64 ∷ []
 
-abbrev pub thousandOne : List ℕ
-thousandOne = 0 ∷ 0 ∷ 0 ∷ 0 ∷ 0 ∷ 72 ∷ 143 ∷ 64 ∷ []
+abbrev pub thousand_one : List ℕ
+thousand_one = 0 ∷ 0 ∷ 0 ∷ 0 ∷ 0 ∷ 72 ∷ 143 ∷ 64 ∷ []
 
 abbrev pub zero : List ℕ
 zero = 0 ∷ 0 ∷ 0 ∷ 0 ∷ 0 ∷ 0 ∷ 0 ∷ 0 ∷ []
 
 -- A row of age 120 and group 2 that has the largest death amount and a blank.
 abbrev pub oldest : List ℕ → List ℕ
-oldest lives = hundredTwenty ++ (two ++ (mostAmount ++ (blank ++ lives)))
+oldest lives = hundred_twenty ++ (two ++ (most_amount_file ++ (blank ++ lives)))
 
-unfoldable pub memberBytes : List RowBytes
-memberBytes =
+unfoldable pub member_bytes : List RowBytes
+member_bytes =
     record { bytes = oldest one; row = member 120 2 65535 0 1 }
-    ∷ record { bytes = hundredTwenty ++ (one ++ (blank ++ (mostAmount ++ thousand))); row = member 120 1 0 65535 1000 }
+    ∷ record { bytes = hundred_twenty ++ (one ++ (blank ++ (most_amount_file ++ thousand))); row = member 120 1 0 65535 1000 }
     -- An age of 121, a group of a half, a blank age, a blank group.
-    ∷ record { bytes = hundredTwentyOne ++ (two ++ (mostAmount ++ (blank ++ one))); row = NotTaken }
-    ∷ record { bytes = hundredTwenty ++ (half ++ (mostAmount ++ (blank ++ one))); row = NotTaken }
-    ∷ record { bytes = blank ++ (two ++ (mostAmount ++ (blank ++ one))); row = NotTaken }
-    ∷ record { bytes = hundredTwenty ++ (blank ++ (mostAmount ++ (blank ++ one))); row = NotTaken }
+    ∷ record { bytes = hundred_twenty_one ++ (two ++ (most_amount_file ++ (blank ++ one))); row = NotTaken }
+    ∷ record { bytes = hundred_twenty ++ (half ++ (most_amount_file ++ (blank ++ one))); row = NotTaken }
+    ∷ record { bytes = blank ++ (two ++ (most_amount_file ++ (blank ++ one))); row = NotTaken }
+    ∷ record { bytes = hundred_twenty ++ (blank ++ (most_amount_file ++ (blank ++ one))); row = NotTaken }
     -- METHOD 9 (§8): 0 lives, 1,001, a half, and a blank.
     ∷ record { bytes = oldest zero; row = NotTaken }
-    ∷ record { bytes = oldest thousandOne; row = NotTaken }
+    ∷ record { bytes = oldest thousand_one; row = NotTaken }
     ∷ record { bytes = oldest half; row = NotTaken }
     ∷ record { bytes = oldest blank; row = NotTaken }
     -- Cut short: without the lives, and without their last byte.

@@ -51,14 +51,14 @@ pub record GrossRow : Type 0 where
   pub gross : ℕ
 
 -- One member of group 2 whose amount lies beyond the horizon.
-unfoldable pub oneBeyond : String → String → ℕ → GrossRow
-oneBeyond horizon deductible gross =
+unfoldable pub one_beyond : String → String → ℕ → GrossRow
+one_beyond horizon deductible gross =
     record { file = file horizon "order=1" deductible ("rate=40,1000000,0" ∷ "member=40,2,65535,0,1" ∷ "end=1" ∷ []); gross = gross }
 
 -- By the deductible, where the horizon stands on another step.
-unfoldable pub grossFiles : List GrossRow
-grossFiles =
-    oneBeyond "horizon=100" "deductible=99" 9820864
-    ∷ oneBeyond "horizon=100" "deductible=100" 11130204
-    ∷ oneBeyond "horizon=99" "deductible=100" 11130204
+unfoldable pub gross_files : List GrossRow
+gross_files =
+    one_beyond "horizon=100" "deductible=99" 9820864
+    ∷ one_beyond "horizon=100" "deductible=100" 11130204
+    ∷ one_beyond "horizon=99" "deductible=100" 11130204
     ∷ []

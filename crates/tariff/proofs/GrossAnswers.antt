@@ -1,5 +1,5 @@
--- What the tariff answers where the worth is in its range (gross-inside), from the sum's two words (gross-from), and where it is not (gross-low,
--- gross-high). And the largest loaded worth of one unit (loaded-le).
+-- What the tariff answers where the worth is in its range (gross_inside), from the sum's two words (gross_from), and where it is not (gross_low,
+-- gross_high). And the largest loaded worth of one unit (loaded_le).
 use mathlib.Core.Path.{◌≡◌, sym, ◌∙◌, ap}
 use Prim.Native.Nat.{ℕ, ◌+◌, ◌*◌, ◌^◌, ◌≤◌, ◌<◌}
 use native.Mathlib.Nat as N
@@ -7,34 +7,34 @@ use native.Mathlib.Omega.{arith}
 use borrow.Author.Tests.{le-leb, lt-leb}
 use lib.IntN.{ℤ}
 use Rattle.fund.specs.declared.Fund.{Fund}
-use Rattle.fund.specs.Limits.{least-worth, most-worth}
+use Rattle.fund.specs.Limits.{least_worth, most_worth}
 use Rattle.fund.specs.Reading.{between}
-use Rattle.fund.specs.Tariff.{loading, withBound, gross}
-use Rattle.laws.specs.Tariff.{loading-le}
+use Rattle.fund.specs.Tariff.{loading, with_bound, gross}
+use Rattle.laws.specs.Tariff.{loading_le}
 use Rattle.rounding.specs.Rounding.{up}
 use Rattle.tariff.specs.declared.TwoWords.{TwoWords}
 use Rattle.tariff.specs.declared.Gross.TheVariants.{Centimes, Outside}
-use Rattle.tariff.specs.Gross.{grossOf, InTwoWords}
+use Rattle.tariff.specs.Gross.{gross_of, InTwoWords}
 
-pub loaded-le : (worth M : ℕ) → worth ≤ most-worth → worth * loading M ≤ 21000000000
-loaded-le worth M h = N.le_trans (N.mul-le-mul h (loading-le M)) (omega arith)
+pub loaded_le : (worth M : ℕ) → worth ≤ most_worth → worth * loading M ≤ 21000000000
+loaded_le worth M h = N.le_trans (N.mul-le-mul h (loading_le M)) (omega arith)
 
 module _ (fund : Fund) (premium : ℤ) (within : ℕ) where
-  pub gross-inside : least-worth ≤ fund.worth → fund.worth ≤ most-worth → grossOf fund premium within ≡ Centimes (gross fund.deductible fund.worth premium within)
-  unfolding grossOf between
-  gross-inside l m = rw (le-leb _ _ l, le-leb _ _ m)
+  pub gross_inside : least_worth ≤ fund.worth → fund.worth ≤ most_worth → gross_of fund premium within ≡ Centimes (gross fund.deductible fund.worth premium within)
+  unfolding gross_of between
+  gross_inside l m = rw (le-leb _ _ l, le-leb _ _ m)
 
-  pub gross-low : fund.worth < least-worth → Outside ≡ grossOf fund premium within
-  unfolding grossOf between
-  gross-low l = rw (lt-leb _ _ l)
+  pub gross_low : fund.worth < least_worth → Outside ≡ gross_of fund premium within
+  unfolding gross_of between
+  gross_low l = rw (lt-leb _ _ l)
 
-  pub gross-high : least-worth ≤ fund.worth → most-worth < fund.worth → Outside ≡ grossOf fund premium within
-  unfolding grossOf between
-  gross-high l m = rw (le-leb _ _ l, lt-leb _ _ m)
+  pub gross_high : least_worth ≤ fund.worth → most_worth < fund.worth → Outside ≡ gross_of fund premium within
+  unfolding gross_of between
+  gross_high l m = rw (le-leb _ _ l, lt-leb _ _ m)
 
-  pub gross-from : (c : TwoWords) → InTwoWords premium within c → least-worth ≤ fund.worth → fund.worth ≤ most-worth →
-      Centimes (up ((c.high * 10 ^ 15 + c.low) * (fund.worth * loading fund.deductible)) (10 ^ 15)) ≡ grossOf fund premium within
+  pub gross_from : (c : TwoWords) → InTwoWords premium within c → least_worth ≤ fund.worth → fund.worth ≤ most_worth →
+      Centimes (up ((c.high * 10 ^ 15 + c.low) * (fund.worth * loading fund.deductible)) (10 ^ 15)) ≡ gross_of fund premium within
   unfolding gross
-  gross-from c k l m =
-      ap (λ x. Centimes (up x (10 ^ 15))) (ap (λ x. x * (fund.worth * loading fund.deductible)) k.sum_is ∙ sym (N.mul_assoc (withBound premium within) fund.worth (loading fund.deductible)))
-      ∙ sym (gross-inside l m)
+  gross_from c k l m =
+      ap (λ x. Centimes (up x (10 ^ 15))) (ap (λ x. x * (fund.worth * loading fund.deductible)) k.sum_is ∙ sym (N.mul_assoc (with_bound premium within) fund.worth (loading fund.deductible)))
+      ∙ sym (gross_inside l m)

@@ -2,20 +2,20 @@
 use Rattle.std.specs.Prelude.{◌≡◌, ℕ, ◌+◌, ◌*◌, ◌^◌, ◌<◌, ◌≤◌, ℤ}
 use Rattle.fund.specs.declared.Fund.{Fund}
 use Rattle.fund.specs.Base.{if◌then◌else◌}
-use Rattle.fund.specs.Limits.{least-worth, most-worth}
+use Rattle.fund.specs.Limits.{least_worth, most_worth}
 use Rattle.fund.specs.Reading.{between}
-use Rattle.fund.specs.Tariff.{withBound, gross}
+use Rattle.fund.specs.Tariff.{with_bound, gross}
 use Rattle.tariff.specs.declared.TwoWords.{TwoWords}
 use Rattle.tariff.specs.declared.Gross.{Gross}
 use Rattle.tariff.specs.declared.Gross.TheVariants.{Centimes, Outside}
 
 -- The definition's gross premium, of a worth that a fund may state.
-unfoldable pub grossOf : Fund → ℤ → ℕ → Gross
-grossOf fund premium within =
-    if between least-worth most-worth fund.worth then Centimes (gross fund.deductible fund.worth premium within) else Outside
+unfoldable pub gross_of : Fund → ℤ → ℕ → Gross
+gross_of fund premium within =
+    if between least_worth most_worth fund.worth then Centimes (gross fund.deductible fund.worth premium within) else Outside
 
 -- A premium with its bound, in two words.
 pub record InTwoWords (premium : ℤ) (within : ℕ) (c : TwoWords) : Type 0 where
-  pub sum_is : c.high * 10 ^ 15 + c.low ≡ withBound premium within
+  pub sum_is : c.high * 10 ^ 15 + c.low ≡ with_bound premium within
   pub high_le : c.high ≤ 27669
-  pub low-lt : c.low < 2 * 10 ^ 15
+  pub low_lt : c.low < 2 * 10 ^ 15

@@ -2,7 +2,7 @@
 ghost use Rattle.std.specs.Prelude.{◌≡◌, ◌+◌, ◌*◌, ◌^◌, ◌<◌, ◌≤◌};
 ghost use Rattle.rounding.specs.Rounding.{up};
 ghost use Rattle.fund.specs.Tariff.{loading};
-ghost use Rattle.tariff.specs.Gross.{grossOf, InTwoWords};
+ghost use Rattle.tariff.specs.Gross.{gross_of, InTwoWords};
 
 use fund::Fund;
 
@@ -76,7 +76,7 @@ fn centimes(high: u64, low: u64, loaded: u64) -> u64
 
 // The gross premium of a fund with these terms, whatever the premium and its bound.
 pub fn gross_premium(fund: Fund, premium: i64, within: u64) -> Gross
-    ensures { result ≡ grossOf fund premium within }
+    ensures { result ≡ gross_of fund premium within }
 {
     if fund.worth < Fund::LEAST_WORTH {
         return Gross::Outside;

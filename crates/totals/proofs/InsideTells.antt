@@ -1,4 +1,4 @@
--- The test of a header and a table tells whether they are in their ranges (inside-tells).
+-- The test of a header and a table tells whether they are in their ranges (inside_tells).
 use mathlib.Core.Path.{◌≡◌, refl, sym}
 use mathlib.Core.Bool.{Bool, true, false, true≢false, not, ◌&&◌, ◌||◌}
 use mathlib.Core.List.{List, [], ◌∷◌}
@@ -9,76 +9,76 @@ use Rattle.fund.specs.declared.Fund.{Fund}
 use Rattle.fund.specs.declared.Life.{Life}
 use Rattle.fund.specs.declared.ModelPoint.{ModelPoint}
 use Rattle.fund.specs.Folding.{claim, single}
-use Rattle.fund.specs.Limits.{most-members, most-lives, half-rate}
+use Rattle.fund.specs.Limits.{most_members, most_lives, half_rate}
 use Rattle.laws.specs.Accepted.{All, Limited}
-use Rattle.laws.specs.Copies.{livesOf}
+use Rattle.laws.specs.Copies.{lives_of}
 use Rattle.laws.specs.Ranges.{FrequenciesOk}
-use Rattle.laws.specs.Tells.{Tells, tells_as, tells-lt, tells-eq}
+use Rattle.laws.specs.Tells.{Tells, tells_as, tells_lt, tells_eq}
 use Rattle.widths.specs.Lives.{InRange}
-use Rattle.totals.specs.Inside.{HeaderIn, frequenciesInside, headerInside, foldedRate, lifeInside, pointInside, allInside, inside}
+use Rattle.totals.specs.Inside.{HeaderIn, frequencies_inside, header_inside, folded_rate, life_inside, point_inside, all_inside, inside}
 use Rattle.totals.specs.Table.{PointIn, Points}
 use Rattle.totals.proofs.Conjunctions.{at_most as le}
 
-tells-and : {P Q : Type 0} (a b : Bool) → Tells a P → Tells b Q → Tells (a && b) (P × Q)
-tells-and true b p q = record { yes = λ e. (p.yes refl, q.yes e); no = λ h. q.no h.1 }
-tells-and false b p q = record { yes = λ e. absurd (true≢false (sym e)); no = λ h. absurd (true≢false (sym (p.no h.0))) }
+tells_and : {P Q : Type 0} (a b : Bool) → Tells a P → Tells b Q → Tells (a && b) (P × Q)
+tells_and true b p q = record { yes = λ e. (p.yes refl, q.yes e); no = λ h. q.no h.1 }
+tells_and false b p q = record { yes = λ e. absurd (true≢false (sym e)); no = λ h. absurd (true≢false (sym (p.no h.0))) }
 
-tells-if : {P Q : Type 0} (a b : Bool) → Tells a P → Tells b Q → Tells (not a || b) (P → Q)
-tells-if true b p q = record { yes = λ e h. q.yes e; no = λ f. q.no (f (p.yes refl)) }
-tells-if false b p q = record { yes = λ e h. absurd (true≢false (sym (p.no h))); no = λ f. refl }
+tells_if : {P Q : Type 0} (a b : Bool) → Tells a P → Tells b Q → Tells (not a || b) (P → Q)
+tells_if true b p q = record { yes = λ e h. q.yes e; no = λ f. q.no (f (p.yes refl)) }
+tells_if false b p q = record { yes = λ e h. absurd (true≢false (sym (p.no h))); no = λ f. refl }
 
 eq : (m n : ℕ) → Tells (eqb m n) (m ≡ n)
-eq m n = tells-eq m n (λ h. h) (λ h. h)
+eq m n = tells_eq m n (λ h. h) (λ h. h)
 
-frequencies-tell : (ab : Frequencies) → Tells (frequenciesInside ab) (FrequenciesOk ab)
-unfolding frequenciesInside
-frequencies-tell ab = tells_as (tells-and _ _ (le _ _) (le _ _)) (λ h. record { death = h.0; disability = h.1 }) (λ h. (h.death, h.disability))
+frequencies_tell : (ab : Frequencies) → Tells (frequencies_inside ab) (FrequenciesOk ab)
+unfolding frequencies_inside
+frequencies_tell ab = tells_as (tells_and _ _ (le _ _) (le _ _)) (λ h. record { death = h.0; disability = h.1 }) (λ h. (h.death, h.disability))
 
-header-tells : (fund : Fund) → Tells (headerInside fund) (HeaderIn fund)
-unfolding headerInside
-header-tells fund =
+header_tells : (fund : Fund) → Tells (header_inside fund) (HeaderIn fund)
+unfolding header_inside
+header_tells fund =
     tells_as
-    (tells-and _ _ (le _ _) (tells-and _ _ (le _ _) (tells-and _ _ (frequencies-tell fund.frequency) (tells-and _ _ (le _ _) (tells-and _ _ (le _ _) (le _ _))))))
-    (λ h. record { horizon = h.0; order = h.1.0; frequency = h.1.1.0; deductible = h.1.1.1.0; worth-least = h.1.1.1.1.0; worth-most = h.1.1.1.1.1 })
-    (λ h. (h.horizon, (h.order, (h.frequency, (h.deductible, (h.worth-least, h.worth-most))))))
+    (tells_and _ _ (le _ _) (tells_and _ _ (le _ _) (tells_and _ _ (frequencies_tell fund.frequency) (tells_and _ _ (le _ _) (tells_and _ _ (le _ _) (le _ _))))))
+    (λ h. record { horizon = h.0; order = h.1.0; frequency = h.1.1.0; deductible = h.1.1.1.0; worth_least = h.1.1.1.1.0; worth_most = h.1.1.1.1.1 })
+    (λ h. (h.horizon, (h.order, (h.frequency, (h.deductible, (h.worth_least, h.worth_most))))))
 
-folded-tells : (rate amount : ℕ) → Tells (foldedRate rate amount) (amount ≡ 0 → rate ≡ 0)
-unfolding foldedRate
-folded-tells rate amount = tells-if (eqb amount 0) (eqb rate 0) (eq amount 0) (eq rate 0)
+folded_tells : (rate amount : ℕ) → Tells (folded_rate rate amount) (amount ≡ 0 → rate ≡ 0)
+unfolding folded_rate
+folded_tells rate amount = tells_if (eqb amount 0) (eqb rate 0) (eq amount 0) (eq rate 0)
 
-limited-tells : (m : Life) → Tells (not (single m) || ltb (claim m) half-rate) (Limited m)
-limited-tells m = tells-if (single m) (ltb (claim m) half-rate) (record { yes = λ e. e; no = λ e. e }) (tells-lt _ _ (λ h. h) (λ h. h))
+limited_tells : (m : Life) → Tells (not (single m) || ltb (claim m) half_rate) (Limited m)
+limited_tells m = tells_if (single m) (ltb (claim m) half_rate) (record { yes = λ e. e; no = λ e. e }) (tells_lt _ _ (λ h. h) (λ h. h))
 
-life-tells : (m : Life) → Tells (lifeInside m) (InRange m)
-unfolding lifeInside
-life-tells m =
+life_tells : (m : Life) → Tells (life_inside m) (InRange m)
+unfolding life_inside
+life_tells m =
     tells_as
-    (tells-and _ _ (le _ _) (tells-and _ _ (le _ _) (tells-and _ _ (le _ _) (tells-and _ _ (limited-tells m)
-    (tells-and _ _ (le _ _) (tells-and _ _ (le _ _) (tells-and _ _ (folded-tells m.q m.d) (folded-tells m.i m.e))))))))
+    (tells_and _ _ (le _ _) (tells_and _ _ (le _ _) (tells_and _ _ (le _ _) (tells_and _ _ (limited_tells m)
+    (tells_and _ _ (le _ _) (tells_and _ _ (le _ _) (tells_and _ _ (folded_tells m.q m.d) (folded_tells m.i m.e))))))))
     (λ h. record {
-      group-least = h.0;
-      group-most = h.1.0;
+      group_least = h.0;
+      group_most = h.1.0;
       rates = h.1.1.0;
       limited = h.1.1.1.0;
       death = h.1.1.1.1.0;
       disability = h.1.1.1.1.1.0;
-      no-death = h.1.1.1.1.1.1.0;
-      no-disability = h.1.1.1.1.1.1.1;
+      no_death = h.1.1.1.1.1.1.0;
+      no_disability = h.1.1.1.1.1.1.1;
     })
-    (λ h. (h.group-least, (h.group-most, (h.rates, (h.limited, (h.death, (h.disability, (h.no-death, h.no-disability))))))))
+    (λ h. (h.group_least, (h.group_most, (h.rates, (h.limited, (h.death, (h.disability, (h.no_death, h.no_disability))))))))
 
-point-tells : (p : ModelPoint) → Tells (pointInside p) (PointIn p)
-unfolding pointInside
-point-tells p = tells_as (tells-and _ _ (life-tells p.life) (le _ _)) (λ h. record { life-in = h.0; lives-most = h.1 }) (λ h. (h.life-in, h.lives-most))
+point_tells : (p : ModelPoint) → Tells (point_inside p) (PointIn p)
+unfolding point_inside
+point_tells p = tells_as (tells_and _ _ (life_tells p.life) (le _ _)) (λ h. record { life_in = h.0; lives_most = h.1 }) (λ h. (h.life_in, h.lives_most))
 
-all-tells : (ps : List ModelPoint) → Tells (allInside ps) (All PointIn ps)
-unfolding allInside
-all-tells [] = record { yes = λ e. tt; no = λ h. refl }
-all-tells (p ∷ ps) = tells-and (pointInside p) (allInside ps) (point-tells p) (all-tells ps)
+all_tells : (ps : List ModelPoint) → Tells (all_inside ps) (All PointIn ps)
+unfolding all_inside
+all_tells [] = record { yes = λ e. tt; no = λ h. refl }
+all_tells (p ∷ ps) = tells_and (point_inside p) (all_inside ps) (point_tells p) (all_tells ps)
 
-points-tell : (ps : List ModelPoint) → Tells (leb (livesOf ps) most-lives && allInside ps) (Points ps)
-points-tell ps = tells_as (tells-and _ (allInside ps) (le (livesOf ps) most-lives) (all-tells ps)) (λ h. record { few = h.0; in-range = h.1 }) (λ h. (h.few, h.in-range))
+points_tell : (ps : List ModelPoint) → Tells (leb (lives_of ps) most_lives && all_inside ps) (Points ps)
+points_tell ps = tells_as (tells_and _ (all_inside ps) (le (lives_of ps) most_lives) (all_tells ps)) (λ h. record { few = h.0; in_range = h.1 }) (λ h. (h.few, h.in_range))
 
-pub inside-tells : (fund : Fund) (count : ℕ) (ps : List ModelPoint) → Tells (inside fund count ps) ((count ≤ most-members) × (HeaderIn fund × Points ps))
+pub inside_tells : (fund : Fund) (count : ℕ) (ps : List ModelPoint) → Tells (inside fund count ps) ((count ≤ most_members) × (HeaderIn fund × Points ps))
 unfolding inside
-inside-tells fund count ps = tells-and (leb count most-members) _ (le count most-members) (tells-and (headerInside fund) _ (header-tells fund) (points-tell ps))
+inside_tells fund count ps = tells_and (leb count most_members) _ (le count most_members) (tells_and (header_inside fund) _ (header_tells fund) (points_tell ps))

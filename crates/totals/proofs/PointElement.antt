@@ -5,14 +5,14 @@ use Rattle.fund.specs.contracts.ModelPoint as P
 use Rattle.fund.proofs.ModelPoint.TheLaws as P'
 use Rattle.fund.specs.contracts.Fund as G
 use Rattle.fund.proofs.Fund.TheLaws as G'
-use Rattle.laws.specs.Rows.{blankPoint}
+use Rattle.laws.specs.Rows.{blank_point}
 use Rattle.walks.specs.Element.{Element}
 use Rattle.walks.specs.Plain.{Plain, declared}
 use Rattle.totals.specs.contracts.Totals as T
 use Rattle.totals.proofs.Totals.TheLaws as T'
 
 abbrev pub point : Element
-point = record { type = P.the_type; laws = P'.the_laws; copied = P'.the_copy; blank = blankPoint; sized = tt }
+point = record { type = P.the_type; laws = P'.the_laws; copied = P'.the_copy; blank = blank_point; sized = tt }
 
 pub room : Room P.the_row 1000
 room = (omega arith, omega arith)

@@ -17,12 +17,12 @@ use Rattle.fund.specs.Folding.{copies}
 use Rattle.fund.specs.contracts.Frequencies as F
 use Rattle.fund.proofs.Frequencies.TheLaws as F'
 use Rattle.laws.specs.Accepted.{All}
-use Rattle.laws.specs.Copies.{total-copies}
+use Rattle.laws.specs.Copies.{total_copies}
 use Rattle.totals.specs.Table.{PointIn, Points}
 use Rattle.walks.specs.ByHand.{Ura, Name, RValue, Ty, w64, int, rv_opd, vint, Model, Routines, Closed, Running, tables, !, lit, of_opd, u64, RattleType, id⊢, Triple}
 use Rattle.walks.specs.Plain.{word, declared}
 use Rattle.walks.specs.Walks.{Stated}
-use Rattle.walks.specs.WalkForm.{word_ty, stepEnded, walkEnded, stepClauses, walkClauses, function, Says, Extra, First, Facts}
+use Rattle.walks.specs.WalkForm.{word_ty, step_ended, walk_ended, step_clauses, walk_clauses, function, Says, Extra, First, Facts}
 use Rattle.walks.specs.WalkTable.{meets}
 use Rattle.totals.proofs.PointElement.{point}
 
@@ -30,16 +30,16 @@ use Rattle.totals.proofs.PointElement.{point}
 abbrev zero : RValue
 zero = rv_opd (int w64 0)
 
-unfoldable pub u64-local : Extra u64 word_ty
-u64-local = record {
+unfoldable pub u64_local : Extra u64 word_ty
+u64_local = record {
   plain = word;
   copies = λ 𝓛. uint_copy 𝓛 w64;
   last = λ x. tt;
   silent = λ {𝓤 = 𝓤} 𝓛 x. id⊢ 𝓤 _;
 }
 
-unfoldable pub frequencies-local : Extra F.the_row F'.mir
-frequencies-local = record {
+unfoldable pub frequencies_local : Extra F.the_row F'.mir
+frequencies_local = record {
   plain = declared F.the_type F'.the_laws F'.the_plain;
   copies = λ 𝓛. LL.copy F.the_type F'.the_copy 𝓛;
   last = λ x. tt;
@@ -60,17 +60,17 @@ module _ (X : RattleType) (part : X.Denot → Life → ℕ) (Ok : X.Denot → Ty
   Needs ps x = Points ps × Ok x
 
   -- what a line adds
-  abbrev linePart : X.Denot → ModelPoint → ℕ
-  linePart x p = p.lives * part x p.life
+  abbrev line_part : X.Denot → ModelPoint → ℕ
+  line_part x p = p.lives * part x p.life
 
-  by_lines : (x : X.Denot) (ps : List ModelPoint) → 0 + total (linePart x) ps ≡ whole x (copies ps)
-  by_lines x ps = N.zero-add (total (linePart x) ps) ∙ sym (is x (copies ps) ∙ total-copies (part x) ps)
+  by_lines : (x : X.Denot) (ps : List ModelPoint) → 0 + total (line_part x) ps ≡ whole x (copies ps)
+  by_lines x ps = N.zero-add (total (line_part x) ps) ∙ sym (is x (copies ps) ∙ total_copies (part x) ps)
 
   -- a sum that fits
   abbrev pub adds : Says point u64 X true true
   adds = record {
-    asks = λ r p x. PointIn p × Ok x × (r + linePart x p < 2 ^ 64);
-    gives = λ r p x r'. r' ≡ r + linePart x p;
+    asks = λ r p x. PointIn p × Ok x × (r + line_part x p < 2 ^ 64);
+    gives = λ r p x r'. r' ≡ r + line_part x p;
     needs = Needs;
     ends = λ ps x r. r ≡ whole x (copies ps);
   }
@@ -78,18 +78,18 @@ module _ (X : RattleType) (part : X.Denot → Life → ℕ) (Ok : X.Denot → Ty
   module _ (fits : (ps : List ModelPoint) (x : X.Denot) → Needs ps x → whole x (copies ps) < 2 ^ 64) where
     record Added (ps : List ModelPoint) (x : X.Denot) (rest : List ModelPoint) (r : ℕ) : Type 0 where
       rest_in : All PointIn rest
-      x-ok : Ok x
+      x_ok : Ok x
       small : whole x (copies ps) < 2 ^ 64
-      sum_is : r + total (linePart x) rest ≡ whole x (copies ps)
+      sum_is : r + total (line_part x) rest ≡ whole x (copies ps)
 
     pub adding : Facts point u64 X true true adds (λ x. 0)
     unfolding total
     adding = record {
       free = λ e. absurd (true≢false e);
       Inv = Added;
-      none = λ ps x n. record { rest_in = n.0.in-range; x-ok = n.1; small = fits ps x n; sum_is = by_lines x ps };
-      asked = λ ps x p rest r i. (i.rest_in.0, i.x-ok, omega (arith, i.sum_is, i.small));
-      more = λ ps x p rest r i r' g. record { rest_in = i.rest_in.1; x-ok = i.x-ok; small = i.small; sum_is = omega (arith, i.sum_is, g) };
+      none = λ ps x n. record { rest_in = n.0.in_range; x_ok = n.1; small = fits ps x n; sum_is = by_lines x ps };
+      asked = λ ps x p rest r i. (i.rest_in.0, i.x_ok, omega (arith, i.sum_is, i.small));
+      more = λ ps x p rest r i r' g. record { rest_in = i.rest_in.1; x_ok = i.x_ok; small = i.small; sum_is = omega (arith, i.sum_is, g) };
       all = λ ps x r i. omega (arith, i.sum_is);
     }
 
@@ -98,31 +98,31 @@ module _ (X : RattleType) (part : X.Denot → Life → ℕ) (Ok : X.Denot → Ty
     abbrev pub caps : Says point u64 X true true
     caps = record {
       asks = λ r p x. PointIn p × Ok x × (r ≤ cap);
-      gives = λ r p x r'. r' ≡ min (r + linePart x p) cap;
+      gives = λ r p x r'. r' ≡ min (r + line_part x p) cap;
       needs = Needs;
       ends = λ ps x r. r ≡ min (whole x (copies ps)) cap;
     }
 
     record Capped (ps : List ModelPoint) (x : X.Denot) (rest : List ModelPoint) (r : ℕ) : Type 0 where
       rest_in : All PointIn rest
-      x-ok : Ok x
+      x_ok : Ok x
       within : r ≤ cap
-      sum_is : min (r + total (linePart x) rest) cap ≡ min (whole x (copies ps)) cap
+      sum_is : min (r + total (line_part x) rest) cap ≡ min (whole x (copies ps)) cap
 
     pub capping : Facts point u64 X true true caps (λ x. 0)
     unfolding total
     capping = record {
       free = λ e. absurd (true≢false e);
       Inv = Capped;
-      none = λ ps x n. record { rest_in = n.0.in-range; x-ok = n.1; within = omega arith; sum_is = ap (λ s. min s cap) (by_lines x ps) };
-      asked = λ ps x p rest r i. (i.rest_in.0, i.x-ok, i.within);
-      more = λ ps x p rest r i r' g. record { rest_in = i.rest_in.1; x-ok = i.x-ok; within = omega (arith, g); sum_is = omega (arith, i.sum_is, g) };
+      none = λ ps x n. record { rest_in = n.0.in_range; x_ok = n.1; within = omega arith; sum_is = ap (λ s. min s cap) (by_lines x ps) };
+      asked = λ ps x p rest r i. (i.rest_in.0, i.x_ok, i.within);
+      more = λ ps x p rest r i r' g. record { rest_in = i.rest_in.1; x_ok = i.x_ok; within = omega (arith, g); sum_is = omega (arith, i.sum_is, g) };
       all = λ ps x r i. omega (arith, i.sum_is, i.within);
     }
 
 -- a walk whose sum is 0 at first meets its contract
 pub sums : {M : Type 1} {𝓤 : Ura M} (𝓛 : Logic 𝓤) (𝓜 : Model 𝓤 𝓛.H) (𝓡 : Running 𝓤 𝓛.H 𝓜) (X : RattleType) (σ : Ty) (extra : Extra X σ) (t : Bool) (S : Says point u64 X true t) → Facts point u64 X true t S (λ x. 0) → (env : Routines) (name step : Name)
     → Closed 𝓤 𝓛.H (tables 𝓤 𝓛.H 𝓜 𝓡 env).C (tables 𝓤 𝓛.H 𝓜 𝓡 env).Λ name (function point word_ty σ zero true step)
-    → Triple 𝓤 (𝓡.run (env step)) (Stated 𝓛 (stepEnded point u64 X true) (stepClauses point u64 X true t S 𝓤)) → Triple 𝓤 (𝓡.run (env name)) (Stated 𝓛 (walkEnded point u64 X) (walkClauses point u64 X true t S 𝓤))
+    → Triple 𝓤 (𝓡.run (env step)) (Stated 𝓛 (step_ended point u64 X true) (step_clauses point u64 X true t S 𝓤)) → Triple 𝓤 (𝓡.run (env name)) (Stated 𝓛 (walk_ended point u64 X) (walk_clauses point u64 X true t S 𝓤))
 unfolding from_zero
-sums 𝓛 𝓜 𝓡 X σ extra t S facts = meets 𝓛 𝓜 𝓡 point u64 X word_ty σ zero u64-local extra (from_zero X σ extra) true t S facts
+sums 𝓛 𝓜 𝓡 X σ extra t S facts = meets 𝓛 𝓜 𝓡 point u64 X word_ty σ zero u64_local extra (from_zero X σ extra) true t S facts

@@ -5,44 +5,44 @@ use Rattle.fund.specs.declared.Fund.{Fund}
 use Rattle.fund.specs.declared.Life.{Life}
 use Rattle.fund.specs.declared.ModelPoint.{ModelPoint}
 use Rattle.fund.specs.Folding.{claim, single}
-use Rattle.fund.specs.Limits.{most-horizon, most-order, most-frequency, least-worth, most-worth, most-members, most-lives, least-group, most-group, most-rate, half-rate, most-amount}
-use Rattle.laws.specs.Copies.{livesOf}
+use Rattle.fund.specs.Limits.{most_horizon, most_order, most_frequency, least_worth, most_worth, most_members, most_lives, least_group, most_group, most_rate, half_rate, most_amount}
+use Rattle.laws.specs.Copies.{lives_of}
 use Rattle.laws.specs.Ranges.{FrequenciesOk}
 
 -- The header's figures that the valuation uses are in their ranges.
 pub record HeaderIn (fund : Fund) : Type 0 where
-  pub horizon : fund.horizon ≤ most-horizon
-  pub order : fund.order ≤ most-order
+  pub horizon : fund.horizon ≤ most_horizon
+  pub order : fund.order ≤ most_order
   pub frequency : FrequenciesOk fund.frequency
   pub deductible : fund.deductible ≤ suc fund.horizon
-  pub worth-least : least-worth ≤ fund.worth
-  pub worth-most : fund.worth ≤ most-worth
+  pub worth_least : least_worth ≤ fund.worth
+  pub worth_most : fund.worth ≤ most_worth
 
 -- The same as tests.
-unfoldable pub frequenciesInside : Frequencies → Bool
-frequenciesInside ab = leb ab.death most-frequency && leb ab.disability most-frequency
+unfoldable pub frequencies_inside : Frequencies → Bool
+frequencies_inside ab = leb ab.death most_frequency && leb ab.disability most_frequency
 
-unfoldable pub headerInside : Fund → Bool
-headerInside fund =
-    leb fund.horizon most-horizon && (leb fund.order most-order && (frequenciesInside fund.frequency && (leb fund.deductible (suc fund.horizon)
-    && (leb least-worth fund.worth && leb fund.worth most-worth))))
+unfoldable pub header_inside : Fund → Bool
+header_inside fund =
+    leb fund.horizon most_horizon && (leb fund.order most_order && (frequencies_inside fund.frequency && (leb fund.deductible (suc fund.horizon)
+    && (leb least_worth fund.worth && leb fund.worth most_worth))))
 
 -- A rate with amount 0 is 0.
-unfoldable pub foldedRate : ℕ → ℕ → Bool
-foldedRate rate amount = not (eqb amount 0) || eqb rate 0
+unfoldable pub folded_rate : ℕ → ℕ → Bool
+folded_rate rate amount = not (eqb amount 0) || eqb rate 0
 
-unfoldable pub lifeInside : Life → Bool
-lifeInside m =
-    leb least-group m.group && (leb m.group most-group && (leb (claim m) most-rate && ((not (single m) || ltb (claim m) half-rate)
-    && (leb m.d most-amount && (leb m.e most-amount && (foldedRate m.q m.d && foldedRate m.i m.e))))))
+unfoldable pub life_inside : Life → Bool
+life_inside m =
+    leb least_group m.group && (leb m.group most_group && (leb (claim m) most_rate && ((not (single m) || ltb (claim m) half_rate)
+    && (leb m.d most_amount && (leb m.e most_amount && (folded_rate m.q m.d && folded_rate m.i m.e))))))
 
-unfoldable pub pointInside : ModelPoint → Bool
-pointInside p = lifeInside p.life && leb p.lives most-lives
+unfoldable pub point_inside : ModelPoint → Bool
+point_inside p = life_inside p.life && leb p.lives most_lives
 
-unfoldable pub allInside : List ModelPoint → Bool
-allInside [] = true
-allInside (p ∷ ps) = pointInside p && allInside ps
+unfoldable pub all_inside : List ModelPoint → Bool
+all_inside [] = true
+all_inside (p ∷ ps) = point_inside p && all_inside ps
 
 -- A header, and member lines that are `count` of a table.
 unfoldable pub inside : Fund → ℕ → List ModelPoint → Bool
-inside fund count ps = leb count most-members && (headerInside fund && (leb (livesOf ps) most-lives && allInside ps))
+inside fund count ps = leb count most_members && (header_inside fund && (leb (lives_of ps) most_lives && all_inside ps))

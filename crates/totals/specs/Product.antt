@@ -8,8 +8,8 @@ use Rattle.fund.specs.Recursion.{multiplied}
 use Rattle.whole.specs.Sign.{signed}
 use Rattle.totals.specs.declared.product.Product.{Product}
 
-abbrev pub countOne : Life → ℕ
-countOne m = if single m then 1 else 0
+abbrev pub count_one : Life → ℕ
+count_one m = if single m then 1 else 0
 
 -- A magnitude with p of lives: the sign of what is multiplied does not matter.
 pub record SizeWith (ms : List Life) (size r : ℕ) : Type 0 where
@@ -19,9 +19,9 @@ pub record SizeWith (ms : List Life) (size r : ℕ) : Type 0 where
 -- one line more: its lives, one after the other
 pub record Times (p : ModelPoint) (before r : Product) : Type 0 where
   pub size_is : SizeWith (replicate p.lives p.life) before.size r.size
-  pub count-is : r.singles ≡ before.singles + p.lives * countOne p.life
+  pub count_is : r.singles ≡ before.singles + p.lives * count_one p.life
 
 pub record Multiplied (ms : List Life) (size : ℕ) (p : Product) : Type 0 where
   pub size_is : SizeWith ms size p.size
-  pub count : total countOne ms ≡ p.singles
-  pub count-within : p.singles ≤ length ms
+  pub count : total count_one ms ≡ p.singles
+  pub count_within : p.singles ≤ length ms

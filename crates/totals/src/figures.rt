@@ -3,13 +3,13 @@
 ghost use Rattle.std.specs.Prelude.{◌≡◌, min, ◌+◌, ◌-◌, ◌*◌, ◌^◌, ◌<◌, ◌≤◌};
 ghost use Rattle.rounding.specs.Rounding.{up as upOf};
 ghost use Rattle.fund.specs.Base.{total};
-ghost use Rattle.fund.specs.Limits.{most-order, most-truncation, half-rate};
+ghost use Rattle.fund.specs.Limits.{most_order, most_truncation, half_rate};
 ghost use Rattle.fund.specs.Folding.{copies, claim, stay};
 ghost use Rattle.fund.specs.Transform.{lambda as lambdaOf, truncation as truncationOf, mean as meanOf, unit, w};
 ghost use Rattle.laws.specs.Ranges.{FrequenciesOk};
 ghost use Rattle.widths.specs.Lives.{InRange};
-ghost use Rattle.widths.specs.Parts.{lambdaPart, singleLoad, truncationPart, meanPart};
-ghost use Rattle.totals.specs.Table.{PointIn, Points, most-lambda, most-mean};
+ghost use Rattle.widths.specs.Parts.{lambda_part, single_load, truncation_part, mean_part};
+ghost use Rattle.totals.specs.Table.{PointIn, Points, most_lambda, most_mean};
 
 use fund::{Frequencies, Fund, Life, ModelPoint};
 use rounding::UNIT;
@@ -24,7 +24,7 @@ const MOST_MEAN: u64 = Fund::MOST_AMOUNT * Fund::MOST_LOAD;
 // What a life adds to lambda.
 fn lambda_part(m: Life, ab: Frequencies) -> u64
     requires { InRange m × FrequenciesOk ab }
-    ensures { result ≡ lambdaPart ab m }
+    ensures { result ≡ lambda_part ab m }
 {
     if m.group == Fund::SINGLE {
         return 0;
@@ -34,8 +34,8 @@ fn lambda_part(m: Life, ab: Frequencies) -> u64
 
 // Lambda of one line more.
 fn lambda_step(sum: u64, p: ModelPoint, ab: Frequencies) -> u64
-    requires { PointIn p × FrequenciesOk ab × (sum + p.lives * lambdaPart ab p.life < 2 ^ 64) }
-    ensures { result ≡ sum + p.lives * lambdaPart ab p.life }
+    requires { PointIn p × FrequenciesOk ab × (sum + p.lives * lambda_part ab p.life < 2 ^ 64) }
+    ensures { result ≡ sum + p.lives * lambda_part ab p.life }
 {
     sum + p.lives * lambda_part(p.life, ab)
 }
@@ -57,7 +57,7 @@ pub(crate) fn lambda(points: &[ModelPoint], ab: Frequencies) -> u64
 // What a life of group 1 adds to the load.
 fn single_part(m: Life) -> u64
     requires { InRange m }
-    ensures { result ≡ singleLoad m }
+    ensures { result ≡ single_load m }
 {
     if m.group == Fund::SINGLE {
         let claim = m.q + m.i;
@@ -68,16 +68,16 @@ fn single_part(m: Life) -> u64
 
 // The load of one line more.
 fn load_step(sum: u64, p: ModelPoint) -> u64
-    requires { PointIn p × (sum + p.lives * singleLoad p.life < 2 ^ 64) }
-    ensures { result ≡ sum + p.lives * singleLoad p.life }
+    requires { PointIn p × (sum + p.lives * single_load p.life < 2 ^ 64) }
+    ensures { result ≡ sum + p.lives * single_load p.life }
 {
     sum + p.lives * single_part(p.life)
 }
 
 // The load, in units: lambda, and what the lives of group 1 add to it, at most 10^12 for each of 1,000.
 pub(crate) fn load(points: &[ModelPoint], lambda: u64) -> u64
-    requires { Points points.now × (lambda ≤ most-lambda) }
-    ensures { result ≡ lambda + total singleLoad (copies points.now) }
+    requires { Points points.now × (lambda ≤ most_lambda) }
+    ensures { result ≡ lambda + total single_load (copies points.now) }
 {
     let mut sum = lambda;
     let mut k: usize = 0;
@@ -90,7 +90,7 @@ pub(crate) fn load(points: &[ModelPoint], lambda: u64) -> u64
 
 // w(n) from w(n-1).
 fn next_weight(m: Life, last: u64) -> u64
-    requires { (claim m < half-rate) × (last ≤ unit) }
+    requires { (claim m < half_rate) × (last ≤ unit) }
     ensures { result ≡ upOf (last * claim m) (stay m) }
 {
     let claim = m.q + m.i;
@@ -99,7 +99,7 @@ fn next_weight(m: Life, last: u64) -> u64
 
 // w(n), from w(0) = 10^12.
 fn weight(m: Life, n: u64) -> u64
-    requires { claim m < half-rate }
+    requires { claim m < half_rate }
     ensures { result ≡ w m n }
 {
     let mut last = UNIT;
@@ -113,8 +113,8 @@ fn weight(m: Life, n: u64) -> u64
 
 // What a life adds to the truncation figure of order r.
 fn truncation_part(m: Life, r: u64) -> u64
-    requires { InRange m × (r ≤ most-order) }
-    ensures { result ≡ truncationPart r m }
+    requires { InRange m × (r ≤ most_order) }
+    ensures { result ≡ truncation_part r m }
 {
     if m.group == Fund::SINGLE {
         let claim = m.q + m.i;
@@ -127,8 +127,8 @@ fn truncation_part(m: Life, r: u64) -> u64
 // The truncation figure of one line more. Parts and sums above the largest are not told apart: a part can be 10^18, and 1,000 of them pass
 // a word.
 fn truncation_step(sum: u64, p: ModelPoint, r: u64) -> u64
-    requires { PointIn p × (r ≤ most-order) × (sum ≤ most-truncation + 1) }
-    ensures { result ≡ min (sum + p.lives * truncationPart r p.life) (most-truncation + 1) }
+    requires { PointIn p × (r ≤ most_order) × (sum ≤ most_truncation + 1) }
+    ensures { result ≡ min (sum + p.lives * truncation_part r p.life) (most_truncation + 1) }
 {
     let part = least(truncation_part(p.life, r), LEAST_REFUSED);
     least(sum + p.lives * part, LEAST_REFUSED)
@@ -136,8 +136,8 @@ fn truncation_step(sum: u64, p: ModelPoint, r: u64) -> u64
 
 // The truncation figure of order r, or one more than its largest where it is larger.
 pub(crate) fn truncation(points: &[ModelPoint], r: u64) -> u64
-    requires { Points points.now × (r ≤ most-order) }
-    ensures { result ≡ min (truncationOf r (copies points.now)) (most-truncation + 1) }
+    requires { Points points.now × (r ≤ most_order) }
+    ensures { result ≡ min (truncationOf r (copies points.now)) (most_truncation + 1) }
 {
     let mut sum: u64 = 0;
     let mut k: usize = 0;
@@ -159,7 +159,7 @@ fn weighed(weight: u64, amount: u64) -> u64
 // What a life adds to the mean, in thousands of units.
 fn mean_part(m: Life, ab: Frequencies) -> u64
     requires { InRange m × FrequenciesOk ab }
-    ensures { result * 1000 ≡ meanPart ab m }
+    ensures { result * 1000 ≡ mean_part ab m }
 {
     if m.group == Fund::SINGLE {
         return (weighed(m.q, m.d) + weighed(m.i, m.e)) * 1000;
@@ -170,8 +170,8 @@ fn mean_part(m: Life, ab: Frequencies) -> u64
 // The mean of one line more. Sums above the largest are not told apart. A part is at most 65,535 × 6 × 10^12 units: 1,000 of them pass a
 // word, and in thousands of units do not.
 fn mean_step(sum: u64, p: ModelPoint, ab: Frequencies) -> u64
-    requires { PointIn p × FrequenciesOk ab × (sum ≤ most-mean) }
-    ensures { result ≡ min (sum + p.lives * meanPart ab p.life) most-mean }
+    requires { PointIn p × FrequenciesOk ab × (sum ≤ most_mean) }
+    ensures { result ≡ min (sum + p.lives * mean_part ab p.life) most_mean }
 {
     let thousands = least(p.lives * mean_part(p.life, ab), MOST_MEAN / 1000);
     least(sum + thousands * 1000, MOST_MEAN)
@@ -180,7 +180,7 @@ fn mean_step(sum: u64, p: ModelPoint, ab: Frequencies) -> u64
 // The mean, in units, or the largest of a fund that is not refused where it is larger.
 pub(crate) fn mean(points: &[ModelPoint], ab: Frequencies) -> u64
     requires { Points points.now × FrequenciesOk ab }
-    ensures { result ≡ min (meanOf ab (copies points.now)) most-mean }
+    ensures { result ≡ min (meanOf ab (copies points.now)) most_mean }
 {
     let mut sum: u64 = 0;
     let mut k: usize = 0;

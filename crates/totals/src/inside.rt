@@ -1,8 +1,8 @@
 // Whether a header and the member lines of a table are in the ranges that reading and refusal 6 leave.
 ghost use Rattle.std.specs.Prelude.{◌≡◌, true, min, ◌+◌, ◌≤◌};
-ghost use Rattle.fund.specs.Limits.{most-lives};
+ghost use Rattle.fund.specs.Limits.{most_lives};
 ghost use Rattle.laws.specs.Accepted.{All};
-ghost use Rattle.laws.specs.Copies.{livesOf};
+ghost use Rattle.laws.specs.Copies.{lives_of};
 ghost use Rattle.widths.specs.Lives.{InRange};
 ghost use Rattle.laws.specs.Tells.{Tells};
 ghost use Rattle.totals.specs.Inside.{HeaderIn};
@@ -21,7 +21,7 @@ fn lives_step(lives: u64, p: ModelPoint, most: u64) -> u64
 
 // The lives in all, up to `most`.
 pub(crate) fn lives_in_all(points: &[ModelPoint], most: u64) -> u64
-    ensures { result ≡ min (livesOf points.now) most }
+    ensures { result ≡ min (lives_of points.now) most }
 {
     let mut lives: u64 = 0;
     let mut k: usize = 0;
@@ -34,7 +34,7 @@ pub(crate) fn lives_in_all(points: &[ModelPoint], most: u64) -> u64
 
 // Whether the lives in all are not too many, and the header is in its ranges.
 pub(crate) fn headed(fund: Fund, lives: u64) -> bool
-    ensures { Tells result ((lives ≤ most-lives) × HeaderIn fund) }
+    ensures { Tells result ((lives ≤ most_lives) × HeaderIn fund) }
 {
     lives <= Fund::MOST_LIVES
         && fund.horizon <= Fund::MOST_HORIZON

@@ -6,11 +6,11 @@ mod tests;
 
 ghost use Rattle.std.specs.Prelude.{◌≡◌, ◌*◌, ◌≤◌, take};
 ghost use Rattle.fund.specs.Folding.{copies};
-ghost use Rattle.fund.specs.Limits.{most-members, most-lives};
+ghost use Rattle.fund.specs.Limits.{most_members, most_lives};
 ghost use Rattle.totals.specs.Table.{Points};
 ghost use Rattle.totals.specs.Inside.{HeaderIn};
-ghost use Rattle.start.specs.Terms.{most-t};
-ghost use Rattle.totals.specs.Totals.{noTotals, StartedWith, LivesTotals, TableTotals, TotalsFor};
+ghost use Rattle.start.specs.Terms.{most_t};
+ghost use Rattle.totals.specs.Totals.{no_totals, StartedWith, LivesTotals, TableTotals, TotalsFor};
 
 use fund::{Fund, ModelPoint};
 use product::Product;
@@ -33,7 +33,7 @@ pub struct Totals {
 }
 
 fn outside() -> Totals
-    ensures { result ≡ noTotals }
+    ensures { result ≡ no_totals }
 {
     Totals {
         inside: false,
@@ -47,7 +47,7 @@ fn outside() -> Totals
 
 // The totals with f(0) and R(0).
 fn with_start(load: u64, truncation: u64, mean: u64, first: StartSum, product: Product) -> Totals
-    requires { (product.size ≤ 200 * most-t) × (first.bound ≤ 64000) × (product.singles ≤ most-lives) }
+    requires { (product.size ≤ 200 * most_t) × (first.bound ≤ 64000) × (product.singles ≤ most_lives) }
     ensures { StartedWith load truncation mean first product result }
 {
     let cell = whole::as_i64(Signed {
@@ -91,7 +91,7 @@ fn table_totals(fund: Fund, points: &[ModelPoint]) -> Totals
 
 // The first lines, lent to the walks.
 fn lent_totals(fund: Fund, points: [ModelPoint; Fund::MEMBER_ROWS], n: usize) -> Totals
-    requires { n ≤ most-members }
+    requires { n ≤ most_members }
     ensures { TableTotals fund (take n points) result }
 {
     table_totals(fund, &points[..n])

@@ -1,10 +1,10 @@
 // The start of METHOD 6's recursion: the product with p of each group 1 member.
 ghost use Rattle.std.specs.Prelude.{◌≡◌, true, ◌*◌, ◌≤◌, replicate};
 ghost use Rattle.fund.specs.Folding.{copies, claim, stay, single};
-ghost use Rattle.fund.specs.Limits.{most-rate, most-lives};
+ghost use Rattle.fund.specs.Limits.{most_rate, most_lives};
 ghost use Rattle.rounding.specs.Rounding.{near};
 ghost use Rattle.totals.specs.Table.{PointIn, Points};
-ghost use Rattle.start.specs.Terms.{most-t};
+ghost use Rattle.start.specs.Terms.{most_t};
 ghost use Rattle.totals.specs.Product.{SizeWith, Times, Multiplied};
 
 use fund::{Fund, Life, ModelPoint};
@@ -18,8 +18,8 @@ pub(crate) struct Product {
 
 // A magnitude times p of a member, to the nearest.
 fn times(size: u64, m: Life) -> u64
-    requires { (claim m ≤ most-rate) × (size ≤ 200 * most-t) }
-    ensures { result ≡ near (size * stay m) most-rate }
+    requires { (claim m ≤ most_rate) × (size ≤ 200 * most_t) }
+    ensures { result ≡ near (size * stay m) most_rate }
 {
     let stay = Fund::MOST_RATE - m.q - m.i;
     rounding::nearest_per_million(size, stay)
@@ -27,7 +27,7 @@ fn times(size: u64, m: Life) -> u64
 
 // The same as many times as a group 1 line has lives, to the nearest each time.
 fn repeated(size: u64, m: Life, lives: u64) -> u64
-    requires { (single m ≡ true) × (claim m ≤ most-rate) × (size ≤ 200 * most-t) }
+    requires { (single m ≡ true) × (claim m ≤ most_rate) × (size ≤ 200 * most_t) }
     ensures { SizeWith (replicate lives m) size result }
 {
     let mut product = size;
@@ -41,7 +41,7 @@ fn repeated(size: u64, m: Life, lives: u64) -> u64
 
 // The product with one line more.
 fn product_step(product: Product, p: ModelPoint) -> Product
-    requires { PointIn p × (product.size ≤ 200 * most-t) × (product.singles ≤ most-lives) }
+    requires { PointIn p × (product.size ≤ 200 * most_t) × (product.singles ≤ most_lives) }
     ensures { Times p product result }
 {
     if p.life.group == Fund::SINGLE {
@@ -55,7 +55,7 @@ fn product_step(product: Product, p: ModelPoint) -> Product
 
 // A magnitude times p of each group 1 member, in file order.
 pub(crate) fn multiplied(points: &[ModelPoint], size: u64) -> Product
-    requires { Points points.now × (size ≤ 200 * most-t) }
+    requires { Points points.now × (size ≤ 200 * most_t) }
     ensures { Multiplied (copies points.now) size result }
 {
     let mut product = Product { size, singles: 0 };

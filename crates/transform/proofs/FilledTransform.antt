@@ -1,5 +1,5 @@
--- From the totals of a table and cleared slices: a refusal leaves zeros (refused-transform); where the totals pass the tests the table can be filled
--- (table_fits), and its transform is the answer's (filled-transform).
+-- From the totals of a table and cleared slices: a refusal leaves zeros (refused_transform); where the totals pass the tests the table can be filled
+-- (table_fits), and its transform is the answer's (filled_transform).
 use mathlib.Core.Path.{◌≡◌, refl, subst}
 use mathlib.Core.List.{List, [], ◌∷◌}
 use Prim.Native.Nat.{ℕ, ◌≤◌}
@@ -13,10 +13,10 @@ use Rattle.fund.specs.declared.ModelPoint.{ModelPoint}
 use Rattle.fund.specs.declared.Verdict.{Verdict}
 use Rattle.fund.specs.declared.Verdict.TheVariants.{Accepted, Refused}
 use Rattle.fund.specs.contracts.Verdict as Ver
-use Rattle.fund.specs.Limits.{most-members}
+use Rattle.fund.specs.Limits.{most_members}
 use Rattle.fund.specs.Folding.{copies}
 use Rattle.fund.specs.Refusals.{Lengths}
-use Rattle.fund.specs.Answer.{fundTerms, refused, accepted}
+use Rattle.fund.specs.Answer.{fund_terms, refused, accepted}
 use Rattle.laws.specs.Accepted.{long_of}
 use Rattle.laws.specs.Slices.{fronted}
 use Rattle.totals.specs.declared.Totals.{Totals}
@@ -36,16 +36,16 @@ module _ (fund : Fund) (count : ℕ) (ps : List ModelPoint) (t : Totals) (for : 
   abbrev h₀ : List ℕ
   h₀ = replicate n.H 0
 
-  pub refused-transform : OneOf (1 ∷ []) (Declared.tag_of Ver.the_type w) → TransformedFor fund count ps n (record { verdict = w; totals = t }) d₀ h₀
+  pub refused_transform : OneOf (1 ∷ []) (Declared.tag_of Ver.the_type w) → TransformedFor fund count ps n (record { verdict = w; totals = t }) d₀ h₀
   unfolding refused
-  refused-transform o = record { totals-are = for; verdict-is = tested; d-is = (zeros w o).0; h-is = (zeros w o).1 }
+  refused_transform o = record { totals_are = for; verdict_is = tested; d_is = (zeros w o).0; h_is = (zeros w o).1 }
     where
       zeros : (v : Verdict) → OneOf (1 ∷ []) (Declared.tag_of Ver.the_type v) → (d₀ ≡ (outcome fund (copies ps) n v).D) × (h₀ ≡ (outcome fund (copies ps) n v).H)
       zeros Accepted o = absurd (let e : ◌≡◌ {A = ℕ} 0 1 = o in omega arith)
       zeros (Refused why place) o = (refl, refl)
 
   module _ (e : w ≡ Accepted) where
-    pub table_fits : (count ≤ most-members) × TableFits ps (filling fund) d₀ h₀
+    pub table_fits : (count ≤ most_members) × TableFits ps (filling fund) d₀ h₀
     table_fits =
         let p : PassedTests fund t n = subst (Tested fund t n) e tested in
         let i = for.tells.yes p.inside_is in
@@ -55,19 +55,19 @@ module _ (fund : Fund) (count : ℕ) (ps : List ModelPoint) (t : Totals) (for : 
             points = i.1;
             order = i.2.order;
             frequency = i.2.frequency;
-            load-within = omega (arith, (for.sums p.inside_is).load_is, p.load-within);
+            load_within = omega (arith, (for.sums p.inside_is).load_is, p.load_within);
             cleared =
                 record {
                   horizon = i.2.horizon;
-                  d-long = omega (arith, l.d-long, length-replicate n.D (pos 0));
-                  h-long = omega (arith, l.h-long, length-replicate {A = ℕ} n.H 0);
-                  d-zero = λ j g. get_or-replicate n.D j (pos 0) (pos 0) (omega (arith, l.d-long));
-                  h-zero = λ j g. get_or-replicate {A = ℕ} n.H j 0 0 (omega (arith, l.h-long));
+                  d_long = omega (arith, l.d_long, length-replicate n.D (pos 0));
+                  h_long = omega (arith, l.h_long, length-replicate {A = ℕ} n.H 0);
+                  d_zero = λ j g. get_or-replicate n.D j (pos 0) (pos 0) (omega (arith, l.d_long));
+                  h_zero = λ j g. get_or-replicate {A = ℕ} n.H j 0 0 (omega (arith, l.h_long));
                 };
           },
         )
 
-    pub filled-transform : (d : List ℤ) (h : List ℕ) → TableAdded ps (filling fund) d₀ h₀ d h → TransformedFor fund count ps n (record { verdict = w; totals = t }) d h
-    unfolding accepted fundTerms
-    filled-transform d h a =
-        record { totals-are = for; verdict-is = tested; d-is = rw e (fronted (pos 0) n.D _ _ d a.d-is); h-is = rw e (fronted 0 n.H _ _ h a.h-is) }
+    pub filled_transform : (d : List ℤ) (h : List ℕ) → TableAdded ps (filling fund) d₀ h₀ d h → TransformedFor fund count ps n (record { verdict = w; totals = t }) d h
+    unfolding accepted fund_terms
+    filled_transform d h a =
+        record { totals_are = for; verdict_is = tested; d_is = rw e (fronted (pos 0) n.D _ _ d a.d_is); h_is = rw e (fronted 0 n.H _ _ h a.h_is) }

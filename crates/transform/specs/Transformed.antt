@@ -12,8 +12,8 @@ use Rattle.totals.specs.Totals.{TotalsFor}
 use Rattle.totals.specs.Tests.{Tested}
 use Rattle.transform.specs.declared.points.Transformed.{Transformed}
 
-abbrev pub lengthsOf : List ℤ → List ℕ → ℕ → ℕ → ℕ → Lengths
-lengthsOf d h nf nr ns = record { D = length d; H = length h; f = nf; R = nr; F = ns }
+abbrev pub lengths_of : List ℤ → List ℕ → ℕ → ℕ → ℕ → Lengths
+lengths_of d h nf nr ns = record { D = length d; H = length h; f = nf; R = nr; F = ns }
 
 -- The answer for a verdict: a refusal hands back no line here.
 abbrev pub outcome : Fund → List Life → Lengths → Verdict → Answer
@@ -22,7 +22,7 @@ outcome fund ms n (Refused why place) = refused [] n (Refused why place)
 
 -- The first `count` lines of a table, and five result slices of the lengths n. D and H are those of the verdict's answer: up to the horizon the lives' own and zeros beyond it, or zeros.
 pub record TransformedFor (fund : Fund) (count : ℕ) (ps : List ModelPoint) (n : Lengths) (t : Transformed) (d : List ℤ) (h : List ℕ) : Type 0 where
-  pub totals-are : TotalsFor fund count ps t.totals
-  pub verdict-is : Tested fund t.totals n t.verdict
-  pub d-is : d ≡ (outcome fund (copies ps) n t.verdict).D
-  pub h-is : h ≡ (outcome fund (copies ps) n t.verdict).H
+  pub totals_are : TotalsFor fund count ps t.totals
+  pub verdict_is : Tested fund t.totals n t.verdict
+  pub d_is : d ≡ (outcome fund (copies ps) n t.verdict).D
+  pub h_is : h ≡ (outcome fund (copies ps) n t.verdict).H

@@ -3,7 +3,7 @@ mod points;
 mod terms;
 
 ghost use Rattle.std.specs.Prelude.{take};
-ghost use Rattle.transform.specs.Transformed.{lengthsOf, TransformedFor};
+ghost use Rattle.transform.specs.Transformed.{lengths_of, TransformedFor};
 
 use fund::{Fund, ModelPoint, Verdict};
 pub use points::Transformed;
@@ -21,7 +21,7 @@ pub fn transformed(
     transform: &mut [i64],
     h: &mut [u64],
 ) -> Transformed
-    ensures { TransformedFor fund n (take n points) (lengthsOf transform.old h.old f r sums) result
+    ensures { TransformedFor fund n (take n points) (lengths_of transform.old h.old f r sums) result
         transform.new h.new }
 {
     let totals = totals::first_totals(fund, points, n);

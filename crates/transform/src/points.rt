@@ -1,6 +1,6 @@
 // The first model points of a table: what is known of them, and the walk that they are lent to.
 ghost use Rattle.std.specs.Prelude.{◌≤◌, take};
-ghost use Rattle.fund.specs.Limits.{most-members};
+ghost use Rattle.fund.specs.Limits.{most_members};
 ghost use Rattle.transform.specs.Filling.{TableFits, TableAdded};
 
 use super::terms;
@@ -23,7 +23,7 @@ pub(crate) fn fill_first(
     transform: &mut [i64],
     h: &mut [u64],
 )
-    requires { (n ≤ most-members) × TableFits (take n points) x transform.old h.old }
+    requires { (n ≤ most_members) × TableFits (take n points) x transform.old h.old }
     ensures { TableAdded (take n points) x transform.old h.old transform.new h.new }
 {
     terms::fill_transform(&points[..n], x, transform, h);

@@ -2,13 +2,13 @@
 ghost use Rattle.std.specs.Prelude.{◌≡◌, true, ◌||◌, suc, ◌+◌, ◌*◌, ◌-◌, ◌^◌, ◌<◌, ◌≤◌, ltb, eqb, pos, nat_abs, ◌+ℤ◌, ◌*ℤ◌, length, get_or, set};
 ghost use Rattle.rounding.specs.Rounding.{near};
 ghost use Rattle.fund.specs.Base.{alternate};
-ghost use Rattle.fund.specs.Limits.{half-rate, most-order};
+ghost use Rattle.fund.specs.Limits.{half_rate, most_order};
 ghost use Rattle.fund.specs.Folding.{claim, stay, single};
-ghost use Rattle.fund.specs.Transform.{place_of, placed as placed_of, replacedTerm, replacedTerms, row as row_of, rowTerms, singleTerms};
+ghost use Rattle.fund.specs.Transform.{place_of, placed as placed_of, replaced_term, replaced_terms, row as row_of, row_terms, single_terms};
 ghost use Rattle.laws.specs.Ranges.{FrequenciesOk};
-ghost use Rattle.laws.specs.Weights.{most-weight};
+ghost use Rattle.laws.specs.Weights.{most_weight};
 ghost use Rattle.widths.specs.Lives.{InRange};
-ghost use Rattle.widths.specs.AddedTerms.{addD, addH, Room, RoomD, SingleRow, TermRoom, termsAt, times};
+ghost use Rattle.widths.specs.AddedTerms.{add_d, add_h, Room, RoomD, SingleRow, TermRoom, terms_at, times};
 ghost use Rattle.whole.specs.Sign.{signed};
 ghost use Rattle.transform.specs.Filling.{PointFits, PointAdded, TableFits, TableAdded};
 
@@ -26,7 +26,7 @@ pub(crate) struct Filling {
 
 // A number of a row, from the two above it. Their sum is below 5×10^17, so one word is enough; where it is 0, nothing is divided.
 fn entry(m: Life, left: u64, v: u64) -> u64
-    requires { (claim m < half-rate) × (m.q * left + m.i * v < 5 * 10 ^ 17) }
+    requires { (claim m < half_rate) × (m.q * left + m.i * v < 5 * 10 ^ 17) }
     ensures { result ≡ near (m.q * left + m.i * v) (stay m) }
 {
     let sum = m.q * left + m.i * v;
@@ -38,7 +38,7 @@ fn entry(m: Life, left: u64, v: u64) -> u64
 
 // The row after row n, in its columns 0 to n + 1: v(n+1,l) comes from v(n,l-1) by q and from v(n,l) by i.
 fn next_row(row: [u64; 13], m: Life, n: u64) -> [u64; 13]
-    requires { (claim m < half-rate) × (n < most-order) × (row ≡ row_of m n) }
+    requires { (claim m < half_rate) × (n < most_order) × (row ≡ row_of m n) }
     ensures { result ≡ row_of m (n + 1) }
 {
     let mut out = [0u64; 13];
@@ -63,7 +63,7 @@ fn reached(rate: u64, l: u64, end: u64) -> bool
 
 // Where the term of row n and column l stands.
 fn place(m: Life, n: u64, l: u64) -> u64
-    requires { InRange m × (n ≤ most-order) × (l ≤ n) }
+    requires { InRange m × (n ≤ most_order) × (l ≤ n) }
     ensures { result ≡ place_of m n l }
 {
     m.d * l + m.e * (n - l)
@@ -116,9 +116,9 @@ fn add_term(transform: &mut [i64], h: &mut [u64], x: u64, v: u64, n: u64, lives:
 // The term of row n and column l, if it is placed.
 fn add_at(transform: &mut [i64], h: &mut [u64], horizon: u64, p: ModelPoint, v: u64, n: u64, l: u64)
     requires { SingleRow p.life n × (l ≤ n) × (v ≡ get_or (row_of p.life n) l 0)
-        × Room horizon transform.old h.old (times p.lives (termsAt horizon p.life n l)) }
-    ensures transform_after { transform.new ≡ addD transform.old (times p.lives (termsAt horizon p.life n l)) }
-    ensures h_after { h.new ≡ addH h.old (times p.lives (termsAt horizon p.life n l)) }
+        × Room horizon transform.old h.old (times p.lives (terms_at horizon p.life n l)) }
+    ensures transform_after { transform.new ≡ add_d transform.old (times p.lives (terms_at horizon p.life n l)) }
+    ensures h_after { h.new ≡ add_h h.old (times p.lives (terms_at horizon p.life n l)) }
 {
     let x = place(p.life, n, l);
     if !placed(horizon, x, p.life, n, l) {
@@ -137,9 +137,9 @@ fn add_row(
     n: u64,
 )
     requires { SingleRow p.life n × (row ≡ row_of p.life n)
-        × Room horizon transform.old h.old (times p.lives (rowTerms horizon p.life n (n + 1))) }
-    ensures transform_after { transform.new ≡ addD transform.old (times p.lives (rowTerms horizon p.life n (n + 1))) }
-    ensures h_after { h.new ≡ addH h.old (times p.lives (rowTerms horizon p.life n (n + 1))) }
+        × Room horizon transform.old h.old (times p.lives (row_terms horizon p.life n (n + 1))) }
+    ensures transform_after { transform.new ≡ add_d transform.old (times p.lives (row_terms horizon p.life n (n + 1))) }
+    ensures h_after { h.new ≡ add_h h.old (times p.lives (row_terms horizon p.life n (n + 1))) }
 {
     let mut l: u64 = 0;
     while l <= n {
@@ -151,10 +151,10 @@ fn add_row(
 
 // The terms of the lives of a line of group 1, row by row: the triangle is worked once for all of them.
 fn add_single(transform: &mut [i64], h: &mut [u64], horizon: u64, p: ModelPoint, order: u64)
-    requires { InRange p.life × (single p.life ≡ true) × (order ≤ most-order)
-        × Room horizon transform.old h.old (times p.lives (singleTerms horizon p.life order)) }
-    ensures transform_after { transform.new ≡ addD transform.old (times p.lives (singleTerms horizon p.life order)) }
-    ensures h_after { h.new ≡ addH h.old (times p.lives (singleTerms horizon p.life order)) }
+    requires { InRange p.life × (single p.life ≡ true) × (order ≤ most_order)
+        × Room horizon transform.old h.old (times p.lives (single_terms horizon p.life order)) }
+    ensures transform_after { transform.new ≡ add_d transform.old (times p.lives (single_terms horizon p.life order)) }
+    ensures h_after { h.new ≡ add_h h.old (times p.lives (single_terms horizon p.life order)) }
 {
     let mut row = [UNIT, 0, 0, 0, 0, 0, 0, 0, 0, 0, 0, 0, 0];
     let mut n: u64 = 0;
@@ -168,8 +168,8 @@ fn add_single(transform: &mut [i64], h: &mut [u64], horizon: u64, p: ModelPoint,
 
 // One of the two terms of each of so many lives of group 2: the weight w times its place k.
 fn add_replaced_term(transform: &mut [i64], horizon: u64, w: u64, k: u64, lives: u64)
-    requires { (w ≤ most-weight) × RoomD horizon transform.old (times lives (replacedTerm horizon w k)) }
-    ensures { transform.new ≡ addD transform.old (times lives (replacedTerm horizon w k)) }
+    requires { (w ≤ most_weight) × RoomD horizon transform.old (times lives (replaced_term horizon w k)) }
+    ensures { transform.new ≡ add_d transform.old (times lives (replaced_term horizon w k)) }
 {
     if w == 0 {
         return;
@@ -185,8 +185,8 @@ fn add_replaced_term(transform: &mut [i64], horizon: u64, w: u64, k: u64, lives:
 
 // The terms of the lives of a line of group 2, by death and by disability.
 fn add_replaced(transform: &mut [i64], horizon: u64, p: ModelPoint, ab: Frequencies)
-    requires { InRange p.life × FrequenciesOk ab × RoomD horizon transform.old (times p.lives (replacedTerms horizon ab p.life)) }
-    ensures { transform.new ≡ addD transform.old (times p.lives (replacedTerms horizon ab p.life)) }
+    requires { InRange p.life × FrequenciesOk ab × RoomD horizon transform.old (times p.lives (replaced_terms horizon ab p.life)) }
+    ensures { transform.new ≡ add_d transform.old (times p.lives (replaced_terms horizon ab p.life)) }
 {
     add_replaced_term(
         transform,

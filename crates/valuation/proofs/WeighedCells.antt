@@ -10,52 +10,52 @@ use borrow.Author.Tests.{ltb-true}
 use lib.IntN.{ℤ, pos, negsuc, nat_abs, ◌+ℤ◌, ◌-ℤ◌, ◌*ℤ◌}
 use lib.ListN.{get_or}
 use lib.Signed.{lt_z}
-use Rattle.algebra.specs.Integer.{ℤ-ring}
+use Rattle.algebra.specs.Integer.{ℤ_ring}
 use Rattle.algebra.specs.Solver.{◌⊕◌, ◌⊝◌, ◌:=◌, ring4}
-use Rattle.fund.specs.Limits.{most-deductible, most-bound}
+use Rattle.fund.specs.Limits.{most_deductible, most_bound}
 use Rattle.fund.specs.Premium.{premium, within}
 use Rattle.fund.specs.Recursion.{Cell}
 use Rattle.fund.specs.Transform.{unit}
-use Rattle.laws.specs.Cells.{sumBelow-is, boundBelow-is}
+use Rattle.laws.specs.Cells.{sum_below_is, bound_below_is}
 use Rattle.whole.specs.declared.Sums.{Sums}
 use Rattle.whole.specs.Sign.{signed}
 use Rattle.whole.specs.Sums.{sum_of, WithPart}
-use Rattle.recursion.specs.Slices.{cellIn}
+use Rattle.recursion.specs.Slices.{cell_in}
 use Rattle.valuation.specs.Premium.{Cells, CellWeighed, BelowTo, StopLossIs}
 
 -- ---- one cell
-weight-sign : (w : ℕ) (f : ℤ) (s : Bool) → lt_z f (pos 0) ≡ s → pos w *ℤ f ≡ signed s (w * nat_abs f)
-weight-sign w (pos a) true t = let h = ltb-true a 0 t in absurd (omega arith)
-weight-sign w (pos a) false t = refl
-weight-sign w (negsuc a) true t = refl
-weight-sign w (negsuc a) false t = let u : ◌≡◌ {A = ℕ} 0 1 = cc in absurd (omega arith)
+weight_sign : (w : ℕ) (f : ℤ) (s : Bool) → lt_z f (pos 0) ≡ s → pos w *ℤ f ≡ signed s (w * nat_abs f)
+weight_sign w (pos a) true t = let h = ltb-true a 0 t in absurd (omega arith)
+weight_sign w (pos a) false t = refl
+weight_sign w (negsuc a) true t = refl
+weight_sign w (negsuc a) false t = let u : ◌≡◌ {A = ℕ} 0 1 = cc in absurd (omega arith)
 
 pub weighed : (s t : Sums) (w : ℕ) (y : Cell) (part : ℕ) → part ≡ w * nat_abs y.f → WithPart s (lt_z y.f (pos 0)) part (w * y.R) t →
     CellWeighed s w y t
 weighed s t w y part is p =
     record {
-      sum_is = p.sum_is ∙ ap (λ z. sum_of s +ℤ z) (ap (signed (lt_z y.f (pos 0))) is ∙ sym (weight-sign w y.f (lt_z y.f (pos 0)) refl));
-      bound-is = p.bound-is;
-      plus-within = omega (arith, p.plus-within, is);
-      minus-within = omega (arith, p.minus-within, is);
+      sum_is = p.sum_is ∙ ap (λ z. sum_of s +ℤ z) (ap (signed (lt_z y.f (pos 0))) is ∙ sym (weight_sign w y.f (lt_z y.f (pos 0)) refl));
+      bound_is = p.bound_is;
+      plus_within = omega (arith, p.plus_within, is);
+      minus_within = omega (arith, p.minus_within, is);
     }
 
 -- ---- the sums
 module _ (M : ℕ) (f : List ℤ) (r : List ℕ) where
   pub below_none : BelowTo M f r 0 (record { plus = 0; minus = 0; bound = 0 })
-  below_none = record { sum_is = refl; bound-is = refl; plus-within = omega arith; minus-within = omega arith; bound-within = omega arith }
+  below_none = record { sum_is = refl; bound_is = refl; plus_within = omega arith; minus_within = omega arith; bound_within = omega arith }
 
-  pub below_more : (x : ℕ) (s t : Sums) → Cells M f r → x < M → BelowTo M f r x s → CellWeighed s (M - x) (cellIn f r x) t → BelowTo M f r (suc x) t
+  pub below_more : (x : ℕ) (s t : Sums) → Cells M f r → x < M → BelowTo M f r x s → CellWeighed s (M - x) (cell_in f r x) t → BelowTo M f r (suc x) t
   below_more x s t cells l i w =
-      let few : M - x ≤ most-deductible = omega (arith, cells.few) in
-      let level : (M - x) * nat_abs (get_or f x (pos 0)) ≤ most-deductible * nat_abs (get_or f x (pos 0)) = N.mul-le-mul_right (nat_abs (get_or f x (pos 0))) few in
-      let bound : (M - x) * get_or r x 0 ≤ most-deductible * most-bound = N.mul-le-mul few (cells.narrow x l) in
+      let few : M - x ≤ most_deductible = omega (arith, cells.few) in
+      let level : (M - x) * nat_abs (get_or f x (pos 0)) ≤ most_deductible * nat_abs (get_or f x (pos 0)) = N.mul-le-mul_right (nat_abs (get_or f x (pos 0))) few in
+      let bound : (M - x) * get_or r x 0 ≤ most_deductible * most_bound = N.mul-le-mul few (cells.narrow x l) in
       record {
         sum_is = w.sum_is ∙ ap (λ z. z +ℤ pos (M - x) *ℤ get_or f x (pos 0)) i.sum_is;
-        bound-is = w.bound-is ∙ ap (λ m. m + (M - x) * get_or r x 0) i.bound-is;
-        plus-within = omega (arith, w.plus-within, i.plus-within);
-        minus-within = omega (arith, w.minus-within, i.minus-within);
-        bound-within = omega (arith, w.bound-is, i.bound-within);
+        bound_is = w.bound_is ∙ ap (λ m. m + (M - x) * get_or r x 0) i.bound_is;
+        plus_within = omega (arith, w.plus_within, i.plus_within);
+        minus_within = omega (arith, w.minus_within, i.minus_within);
+        bound_within = omega (arith, w.bound_is, i.bound_within);
       }
 
   pub priced : (mean E : ℕ) (s : Sums) (z : ℤ) → BelowTo M f r M s → z ≡ pos (mean + s.plus) -ℤ pos (M * 10 ^ 12 + s.minus) →
@@ -63,9 +63,9 @@ module _ (M : ℕ) (f : List ℤ) (r : List ℕ) where
   unfolding premium within unit
   priced mean E s z i is =
       record {
-        premium-is = λ n l.
+        premium_is = λ n l.
             is
-            ∙ ring4 ℤ-ring (λ m p u q. (m ⊕ p) ⊝ (u ⊕ q) := (m ⊝ u) ⊕ (p ⊝ q)) tt (pos mean) (pos s.plus) (pos (M * 10 ^ 12)) (pos s.minus)
-            ∙ ap (λ b. (pos mean -ℤ pos (M * 10 ^ 12)) +ℤ b) (i.sum_is ∙ sym (sumBelow-is M n (cellIn f r) l));
-        within-is = λ n l. ap (λ b. b + 2 * M * E) (i.bound-is ∙ sym (boundBelow-is M n (cellIn f r) l));
+            ∙ ring4 ℤ_ring (λ m p u q. (m ⊕ p) ⊝ (u ⊕ q) := (m ⊝ u) ⊕ (p ⊝ q)) tt (pos mean) (pos s.plus) (pos (M * 10 ^ 12)) (pos s.minus)
+            ∙ ap (λ b. (pos mean -ℤ pos (M * 10 ^ 12)) +ℤ b) (i.sum_is ∙ sym (sum_below_is M n (cell_in f r) l));
+        within_is = λ n l. ap (λ b. b + 2 * M * E) (i.bound_is ∙ sym (bound_below_is M n (cell_in f r) l));
       }

@@ -8,7 +8,7 @@ use Rattle.fund.specs.declared.Verdict.{Verdict}
 use Rattle.fund.specs.declared.Verdict.TheVariants.{Accepted, Refused}
 use Rattle.fund.specs.Folding.{copies}
 use Rattle.fund.specs.Refusals.{Lengths, valued}
-use Rattle.fund.specs.Answer.{Answer, fundCells}
+use Rattle.fund.specs.Answer.{Answer, fund_cells}
 use Rattle.recursion_limits.specs.declared.Recursed.{Recursed}
 use Rattle.recursion_limits.specs.declared.Recursed.TheVariants as recursed
 use Rattle.recursion.specs.Recursion.{recursion}
@@ -16,11 +16,11 @@ use Rattle.recursion.specs.Recursion as Rec
 use Rattle.tariff.specs.declared.Gross.{Gross}
 use Rattle.tariff.specs.declared.Gross.TheVariants.{Centimes, Outside}
 use Rattle.totals.specs.declared.Totals.{Totals}
-use Rattle.transform.specs.Transformed.{lengthsOf, outcome, TransformedFor}
+use Rattle.transform.specs.Transformed.{lengths_of, outcome, TransformedFor}
 
 -- totals that have passed 7, 8 and 9, and the transform, of the first `count` model points of a table
 abbrev pub ReadyFor : Fund → ℕ → List ModelPoint → Totals → List ℤ → List ℕ → ℕ → ℕ → ℕ → Type 0
-ReadyFor fund count ps t d h nf nr ns = TransformedFor fund count ps (lengthsOf d h nf nr ns) (record { verdict = Accepted; totals = t }) d h
+ReadyFor fund count ps t d h nf nr ns = TransformedFor fund count ps (lengths_of d h nf nr ns) (record { verdict = Accepted; totals = t }) d h
 
 pub record Ready (fund : Fund) (t : Totals) (d : List ℤ) (h : List ℕ) (nf nr ns : ℕ) : Type 0 where
   pub count : ℕ
@@ -29,32 +29,32 @@ pub record Ready (fund : Fund) (t : Totals) (d : List ℤ) (h : List ℕ) (nf nr
 
 -- what the recursion left of the totals and the transform
 abbrev pub RecursionLeft : Fund → Totals → Recursed → List ℤ → List ℕ → List ℤ → List ℕ → Type 0
-RecursionLeft fund t a d h f r = Rec.leftCells a f r ≡ recursion fund.horizon d h (record { f = t.cell; R = t.bound }) (length f) (length r)
+RecursionLeft fund t a d h f r = Rec.left_cells a f r ≡ recursion fund.horizon d h (record { f = t.cell; R = t.bound }) (length f) (length r)
 
 pub record RecursedFor (fund : Fund) (t : Totals) (a : Recursed) (d : List ℤ) (h : List ℕ) (f : List ℤ) (r : List ℕ) (ns : ℕ) : Type 0 where
   pub ready : Ready fund t d h (length f) (length r) ns
   pub left_is : RecursionLeft fund t a d h f r
 
-abbrev pub refusalOf : Recursed → Verdict
-refusalOf recursed.Done = Accepted
-refusalOf recursed.Short = Refused refusal.Range 0
-refusalOf (recursed.Outside k) = Refused refusal.Range 0
-refusalOf (recursed.Wide x) = Refused refusal.Wide x
-refusalOf (recursed.Large x) = Refused refusal.Range 0
+abbrev pub refusal_of : Recursed → Verdict
+refusal_of recursed.Done = Accepted
+refusal_of recursed.Short = Refused refusal.Range 0
+refusal_of (recursed.Outside k) = Refused refusal.Range 0
+refusal_of (recursed.Wide x) = Refused refusal.Wide x
+refusal_of (recursed.Large x) = Refused refusal.Range 0
 
 -- the centimes of a gross premium, 0 where there are none
-abbrev pub centimesIn : Gross → ℕ
-centimesIn (Centimes n) = n
-centimesIn Outside = 0
+abbrev pub centimes_in : Gross → ℕ
+centimes_in (Centimes n) = n
+centimes_in Outside = 0
 
 -- the answer is that of 7 to 10
 abbrev pub ValuedAnswer : Fund → List Life → Lengths → Answer → Type 0
-ValuedAnswer fund ms n a = a ≡ outcome fund ms n (valued fund ms n (fundCells fund ms))
+ValuedAnswer fund ms n a = a ≡ outcome fund ms n (valued fund ms n (fund_cells fund ms))
 
 abbrev pub SettledFor : Fund → Totals → List ℤ → List ℕ → List ℤ → List ℕ → ℕ → Answer → Type 0
 SettledFor fund t d h f r ns a =
-    (count : ℕ) (ps : List ModelPoint) → ReadyFor fund count ps t d h (length f) (length r) ns → ValuedAnswer fund (copies ps) (lengthsOf d h (length f) (length r) ns) a
+    (count : ℕ) (ps : List ModelPoint) → ReadyFor fund count ps t d h (length f) (length r) ns → ValuedAnswer fund (copies ps) (lengths_of d h (length f) (length r) ns) a
 
 abbrev pub AnsweredFor : Fund → Totals → List ℤ → List ℕ → ℕ → ℕ → ℕ → Answer → Type 0
 AnsweredFor fund t d h nf nr ns a =
-    (count : ℕ) (ps : List ModelPoint) → ReadyFor fund count ps t d h nf nr ns → ValuedAnswer fund (copies ps) (lengthsOf d h nf nr ns) a
+    (count : ℕ) (ps : List ModelPoint) → ReadyFor fund count ps t d h nf nr ns → ValuedAnswer fund (copies ps) (lengths_of d h nf nr ns) a

@@ -4,9 +4,9 @@ mod premium;
 mod sums;
 
 ghost use Rattle.std.specs.Prelude.{◌≡◌, [], pos, length, replicate, take};
-ghost use Rattle.fund.specs.Answer.{noFigures, refused};
-ghost use Rattle.valuation.specs.Valued.{leftValued, lengths, valuation};
-ghost use Rattle.valuation.specs.Steps.{Ready, refusalOf, centimesIn, RecursedFor, SettledFor, AnsweredFor};
+ghost use Rattle.fund.specs.Answer.{no_figures, refused};
+ghost use Rattle.valuation.specs.Valued.{left_valued, lengths, valuation};
+ghost use Rattle.valuation.specs.Steps.{Ready, refusal_of, centimes_in, RecursedFor, SettledFor, AnsweredFor};
 
 use fund::{Figures, Fund, ModelPoint, Refusal, Verdict};
 use recursion::Recursed;
@@ -21,7 +21,7 @@ pub struct Valued {
 }
 
 fn refused(verdict: Verdict) -> Valued
-    ensures { result ≡ record { verdict = verdict; figures = noFigures } }
+    ensures { result ≡ record { verdict = verdict; figures = no_figures } }
 {
     Valued {
         verdict,
@@ -53,7 +53,7 @@ pub fn refuse(
     r: &mut [u64],
     sums: &mut [i64],
 ) -> Valued
-    ensures { leftValued result transform.new h.new f.new r.new sums.new ≡
+    ensures { left_valued result transform.new h.new f.new r.new sums.new ≡
         refused [] (lengths transform.old h.old f.old r.old sums.old) verdict }
 {
     clear_transform(transform, h);
@@ -63,7 +63,7 @@ pub fn refuse(
 
 // Refusal 10, or none. A fund's own transform has no other answers than these two: any other breaks a limit.
 fn refusal(answer: Recursed) -> Verdict
-    ensures { result ≡ refusalOf answer }
+    ensures { result ≡ refusal_of answer }
 {
     match answer {
         Recursed::Wide(x) => Verdict::Refused(Refusal::Wide, x),
@@ -74,7 +74,7 @@ fn refusal(answer: Recursed) -> Verdict
 
 // The centimes of a gross premium; a worth in its range has some.
 fn centimes_of(gross: Gross) -> u64
-    ensures { result ≡ centimesIn gross }
+    ensures { result ≡ centimes_in gross }
 {
     match gross {
         Gross::Centimes(n) => n,
@@ -95,7 +95,7 @@ fn settled(
 ) -> Valued
     requires { RecursedFor fund t answer transform.old h.old f.now r.now (length sums.old) }
     ensures { SettledFor fund t transform.old h.old f.now r.now (length sums.old)
-        (leftValued result transform.new h.new f.now r.now sums.new) }
+        (left_valued result transform.new h.new f.now r.now sums.new) }
 {
     let Recursed::Done = answer else {
         clear_transform(transform, h);
@@ -129,7 +129,7 @@ fn recursed(
 ) -> Valued
     requires { Ready fund t transform.old h.old (length f.old) (length r.old) (length sums.old) }
     ensures { AnsweredFor fund t transform.old h.old (length f.old) (length r.old) (length sums.old)
-        (leftValued result transform.new h.new f.new r.new sums.new) }
+        (left_valued result transform.new h.new f.new r.new sums.new) }
 {
     let answer = recursion::recursion(
         fund.horizon as usize,
@@ -154,7 +154,7 @@ pub fn value(
     r: &mut [u64],
     sums: &mut [i64],
 ) -> Valued
-    ensures { leftValued result transform.new h.new f.new r.new sums.new ≡
+    ensures { left_valued result transform.new h.new f.new r.new sums.new ≡
         valuation fund n (take n points) (lengths transform.old h.old f.old r.old sums.old) }
 {
     let known = transform::transformed(fund, points, n, f.len(), r.len(), sums.len(), transform, h);

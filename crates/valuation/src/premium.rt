@@ -1,8 +1,8 @@
 // The premium of METHOD 7 and its bound: the sums over the cells below the deductible M, each with its weight M - x.
 ghost use Rattle.std.specs.Prelude.{◌+◌, ◌*◌, ◌^◌, ◌<◌, ◌≤◌, nat_abs};
-ghost use Rattle.fund.specs.Limits.{most-deductible, most-bound, most-truncation};
-ghost use Rattle.totals.specs.Table.{most-mean};
-ghost use Rattle.recursion_limits.specs.Limits.{most-cell};
+ghost use Rattle.fund.specs.Limits.{most_deductible, most_bound, most_truncation};
+ghost use Rattle.totals.specs.Table.{most_mean};
+ghost use Rattle.recursion_limits.specs.Limits.{most_cell};
 ghost use Rattle.valuation.specs.Premium.{Cells, CellWeighed, BelowTo, StopLossIs};
 
 use rounding::UNIT;
@@ -22,7 +22,7 @@ pub(crate) fn premium(
     r: &[u64],
 ) -> StopLoss
     requires cells { Cells deductible f.now r.now }
-    requires mean_le_most_mean { (mean ≤ most-mean) × (truncation ≤ most-truncation) }
+    requires mean_le_most_mean { (mean ≤ most_mean) × (truncation ≤ most_truncation) }
     ensures { StopLossIs deductible mean truncation f.now r.now result }
 {
     let s = below(deductible, f, r);
@@ -54,8 +54,8 @@ fn below(deductible: usize, f: &[i64], r: &[u64]) -> Sums
 
 // One cell more, with its weight.
 fn with_cell(s: Sums, weight: u64, f: i64, r: u64) -> Sums
-    requires plus_bound { (s.plus ≤ most-deductible * most-cell) × (s.minus ≤ most-deductible * most-cell) × (s.bound ≤ 10 ^ 18) }
-    requires weight_le_most_deductible { (weight ≤ most-deductible) × (nat_abs f ≤ most-cell) × (r ≤ most-bound) }
+    requires plus_bound { (s.plus ≤ most_deductible * most_cell) × (s.minus ≤ most_deductible * most_cell) × (s.bound ≤ 10 ^ 18) }
+    requires weight_le_most_deductible { (weight ≤ most_deductible) × (nat_abs f ≤ most_cell) × (r ≤ most_bound) }
     ensures { CellWeighed s weight (record { f = f; R = r }) result }
 {
     whole::with_part(s, f < 0, weight * whole::magnitude(f), weight * r)

@@ -1,7 +1,7 @@
 // The running sums of the cells: F(x) is f(0) + .. + f(x).
 ghost use Rattle.std.specs.Prelude.{◌≡◌, ◌++◌, suc, ◌+◌, ◌^◌, ◌≤◌, pos, nat_abs, ◌+ℤ◌, length, drop};
 ghost use Rattle.fund.specs.Base.{table};
-ghost use Rattle.fund.specs.Quantile.{runningSum};
+ghost use Rattle.fund.specs.Quantile.{running_sum};
 ghost use Rattle.fund.specs.Answer.{lent};
 ghost use Rattle.valuation.specs.Sums.{SumsFit};
 
@@ -15,7 +15,7 @@ fn plus(sum: i64, f: i64) -> i64
 // The sums up to the horizon; cells beyond it stay as they are.
 fn fill_sums(horizon: usize, f: &[i64], sums: &mut [i64])
     requires { SumsFit horizon f.now (length sums.old) }
-    ensures { sums.new ≡ table (suc horizon) (runningSum f.now) ++ drop (suc horizon) sums.old }
+    ensures { sums.new ≡ table (suc horizon) (running_sum f.now) ++ drop (suc horizon) sums.old }
 {
     let mut sum: i64 = 0;
     let mut x: usize = 0;
@@ -29,7 +29,7 @@ fn fill_sums(horizon: usize, f: &[i64], sums: &mut [i64])
 // The sums up to the horizon, and zeros beyond it.
 pub(crate) fn running_sums(horizon: usize, f: &[i64], sums: &mut [i64])
     requires { SumsFit horizon f.now (length sums.old) }
-    ensures { sums.new ≡ lent (pos 0) (length sums.old) (table (suc horizon) (runningSum f.now)) }
+    ensures { sums.new ≡ lent (pos 0) (length sums.old) (table (suc horizon) (running_sum f.now)) }
 {
     whole::clear_signed(sums);
     fill_sums(horizon, f, sums);

@@ -1,6 +1,6 @@
 -- An element of a lent table is copied into a local, for elements of any declared type.
 --     Element          the type: its declaration, its laws, that it is Copy, what an index past the end would give, and that its size is a word
---     copies-element   the table's borrow and its token at the head of the context: the code copies what place j points at, the element at k, into place i.
+--     copies_element   the table's borrow and its token at the head of the context: the code copies what place j points at, the element at k, into place i.
 --                      p is the entry of place j's cell after these two, and r that of the room for place i
 -- Assumes `Logic`.
 use Rattle.std.specs.Prelude.{◌≡◌, refl, ℕ, suc, ◌+◌, ◌*◌, ◌^◌, ◌<◌, List, [], ◌∷◌, T, ltb, length, get_or}
@@ -20,35 +20,35 @@ pub record Element : Type 2 where
 abbrev pub Of : Element → Type 0
 Of L = L.type.D
 
-abbrev pub elementRow : Element → RattleType
-elementRow L = row L.type
+abbrev pub element_row : Element → RattleType
+element_row L = row L.type
 
-abbrev pub mirOf : Element → Ty
-mirOf L = lone (elementRow L).mir
+abbrev pub mir_of : Element → Ty
+mir_of L = lone (element_row L).mir
 
-abbrev pub elementBytes : Element → ℕ
-elementBytes L = (mem (elementRow L)).size
+abbrev pub element_bytes : Element → ℕ
+element_bytes L = (mem (element_row L)).size
 
 abbrev pub value_of : (L : Element) → Of L → Val
 value_of L m = LL.val L.type L.laws m
 
 abbrev pub borrowed : (L : Element) → Lft → List (Of L) → ℕ → ℕ → Fml
-borrowed L κ ms b o = fshr_bor κ (λ p. (arr_parts (shares (elementRow L)) (length ms)).part p ms b o)
+borrowed L κ ms b o = fshr_bor κ (λ p. (arr_parts (shares (element_row L)) (length ms)).part p ms b o)
 
 module _ {M : Type 1} {𝓤 : Ura M} {𝓛 : Logic 𝓤} {K : Type 0} {Γ : List (Item 𝓤)} {E : Env 𝓤 𝓛.H} {C : Calls 𝓤 𝓛.H} {Λ : Loops 𝓤 𝓛.H} {post : Post 𝓤 𝓛.H} {rest : Body} where
   open 𝓛 use {H}
 
-  pub copies-element : K → (L : Element) (p r : ℕ) {i j lp lm : ℕ} {κ : Lft} {q : Share} (ms : List (Of L)) (k b o : ℕ) → k < length ms
-      → spot_of 𝓤 H E i ≡ ((mirOf L), lm, 0) → spot_of 𝓤 H E j ≡ (ty_ptr, lp, 0)
-      → nth 𝓛 p Γ ≡ ‵ (fat full_share ty_ptr lp 0 (vptr b (k * elementBytes L + o))) → nth 𝓛 r Γ ≡ ‵ (froom (mirOf L) lm 0)
-      → Step K 𝓛 (‵ (flft κ q) ∷ ‵ ((elementRow L).own_val (get_or ms k L.blank) (value_of L (get_or ms k L.blank) ∷ [])) ∷ ‵ (borrowed L κ ms b o) ∷ put 𝓛 r (‵ (fat full_share (mirOf L) lm 0 (value_of L (get_or ms k L.blank)))) Γ) (runs C Λ E rest post)
-      (‵ (borrowed L κ ms b o) ∷ ‵ (flft κ q) ∷ Γ) (runs C Λ E (seq (assign (place i []) (rv_opd (copy (place j (deref (mirOf L) ∷ []))))) rest) post)
-  copies-element t L p r {i} {j} {lp} {lm} ms k b o inside ei ej ep er = step (λ s.
+  pub copies_element : K → (L : Element) (p r : ℕ) {i j lp lm : ℕ} {κ : Lft} {q : Share} (ms : List (Of L)) (k b o : ℕ) → k < length ms
+      → spot_of 𝓤 H E i ≡ ((mir_of L), lm, 0) → spot_of 𝓤 H E j ≡ (ty_ptr, lp, 0)
+      → nth 𝓛 p Γ ≡ ‵ (fat full_share ty_ptr lp 0 (vptr b (k * element_bytes L + o))) → nth 𝓛 r Γ ≡ ‵ (froom (mir_of L) lm 0)
+      → Step K 𝓛 (‵ (flft κ q) ∷ ‵ ((element_row L).own_val (get_or ms k L.blank) (value_of L (get_or ms k L.blank) ∷ [])) ∷ ‵ (borrowed L κ ms b o) ∷ put 𝓛 r (‵ (fat full_share (mir_of L) lm 0 (value_of L (get_or ms k L.blank)))) Γ) (runs C Λ E rest post)
+      (‵ (borrowed L κ ms b o) ∷ ‵ (flft κ q) ∷ Γ) (runs C Λ E (seq (assign (place i []) (rv_opd (copy (place j (deref (mir_of L) ∷ []))))) rest) post)
+  copies_element t L p r {i} {j} {lp} {lm} ms k b o inside ei ej ep er = step (λ s.
       let m = get_or ms k L.blank in
-      looks_slice t tt (elementRow L) (Is (elementRow L)) (shows 𝓛 (elementRow L)) (LL.vals L.type L.laws) (LL.tells L.type L.laws) (LL.copy L.type L.copied 𝓛) ms b o (λ q'.
-      elem_out t (elementRow L) (Is (elementRow L)) (shows 𝓛 (elementRow L)) (LL.vals L.type L.laws) (LL.tells L.type L.laws) q' ms k L.blank b o inside (λ is.
+      looks_slice t tt (element_row L) (Is (element_row L)) (shows 𝓛 (element_row L)) (LL.vals L.type L.laws) (LL.tells L.type L.laws) (LL.copy L.type L.copied 𝓛) ms b o (λ q'.
+      elem_out t (element_row L) (Is (element_row L)) (shows 𝓛 (element_row L)) (LL.vals L.type L.laws) (LL.tells L.type L.laws) q' ms k L.blank b o inside (λ is.
       -- [the life's cell; what it owns; the others; what shuts; the borrow; …]
-      assigns t (of_opd t (load t (from t (walks_at ej (hop t (look t (suc (suc (suc (suc (suc p))))) (ep ∙ ap (λ (x : ℕ). ‵ (fat full_share ty_ptr lp 0 (vptr b x))) (sym (place_is (elementBytes L) o k)))) (stop t)))) (look_raw t 0 refl))) (from t (walks_at ei (stop t)))
+      assigns t (of_opd t (load t (from t (walks_at ej (hop t (look t (suc (suc (suc (suc (suc p))))) (ep ∙ ap (λ (x : ℕ). ‵ (fat full_share ty_ptr lp 0 (vptr b x))) (sym (place_is (element_bytes L) o k)))) (stop t)))) (look_raw t 0 refl))) (from t (walks_at ei (stop t)))
       (init t (suc (suc (suc (suc (suc r))))) er ((LL.lawful L.type L.laws 𝓛).typed m _ is).0) $
-      move t (1 ∷ []) $ use1 𝓛 (‵ ((elementRow L).own_val m (value_of L m ∷ [])) ⊛ ‵ ((elementRow L).own_val m (value_of L m ∷ []))) ((LL.copy L.type L.copied 𝓛).twice m _) $ split t $ move t (2 ∷ 0 ∷ 3 ∷ []) $
-      elem_back t (elementRow L) q' ms k L.blank (value_of L m ∷ []) b o inside $ move t (0 ∷ 2 ∷ []) $ shuts_slice t tt (elementRow L) q' ms b o $ s)))
+      move t (1 ∷ []) $ use1 𝓛 (‵ ((element_row L).own_val m (value_of L m ∷ [])) ⊛ ‵ ((element_row L).own_val m (value_of L m ∷ []))) ((LL.copy L.type L.copied 𝓛).twice m _) $ split t $ move t (2 ∷ 0 ∷ 3 ∷ []) $
+      elem_back t (element_row L) q' ms k L.blank (value_of L m ∷ []) b o inside $ move t (0 ∷ 2 ∷ []) $ shuts_slice t tt (element_row L) q' ms b o $ s)))

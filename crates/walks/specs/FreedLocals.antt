@@ -1,9 +1,9 @@
 -- A function's locals. At its start:
 --     allocates        room for each; `env` has them, at the blocks bs, and `rooms` is the context
 -- At its end, one at a time, where entry n of the context is the local's cell, and entry m of the others says that it dies:
---     frees-cell       a cell that holds a value
---     frees-room       a cell that holds none
---     frees-cells      the cells of the first locals at once, with values vs: entry n is the first one's, the next entry says that it dies, and the next local's are the two before
+--     frees_cell       a cell that holds a value
+--     frees_room       a cell that holds none
+--     frees_cells      the cells of the first locals at once, with values vs: entry n is the first one's, the next entry says that it dies, and the next local's are the two before
 -- At any place:
 --     pulls            entry n goes to the head
 -- Assumes `Logic`.
@@ -28,13 +28,13 @@ module _ {M : Type 1} {𝓤 : Ura M} {𝓛 : Logic 𝓤} {K : Type 0} {Γ : List
   pulls t n e = step (λ s. move t (n ∷ []) $ subst (λ (i : Item 𝓤). Seq K 𝓛 (i ∷ del 𝓛 n Γ) G) (sym e) s)
 
 module _ {M : Type 1} {𝓤 : Ura M} {𝓛 : Logic 𝓤} {K : Type 0} {Γ : List (Item 𝓤)} {E : Env 𝓤 𝓛.H} {g : Goal 𝓤 𝓛.H} where
-  pub frees-room : K → (n m : ℕ) {τ : Ty} {b : ℕ} → nth 𝓛 n Γ ≡ ‵ (froom τ b 0) → nth 𝓛 m (del 𝓛 n Γ) ≡ ‵ (fdies τ b)
+  pub frees_room : K → (n m : ℕ) {τ : Ty} {b : ℕ} → nth 𝓛 n Γ ≡ ‵ (froom τ b 0) → nth 𝓛 m (del 𝓛 n Γ) ≡ ‵ (fdies τ b)
       → Step K 𝓛 (del 𝓛 m (del 𝓛 n Γ)) (frees E g) Γ (frees ((τ, b) ∷ E) g)
-  frees-room t n m {τ} {b} e d = step (λ s. record { prf = via 𝓤 _ (pulled 𝓛 Γ n (‵ (froom τ b 0)) e) (freed 𝓛 (del 𝓛 n Γ) E g m τ b d s.prf) })
+  frees_room t n m {τ} {b} e d = step (λ s. record { prf = via 𝓤 _ (pulled 𝓛 Γ n (‵ (froom τ b 0)) e) (freed 𝓛 (del 𝓛 n Γ) E g m τ b d s.prf) })
 
-  pub frees-cell : K → (n m : ℕ) {τ : Ty} {b : ℕ} {v : Val} → nth 𝓛 n Γ ≡ ‵ (fat full_share τ b 0 v) → nth 𝓛 m (del 𝓛 n Γ) ≡ ‵ (fdies τ b)
+  pub frees_cell : K → (n m : ℕ) {τ : Ty} {b : ℕ} {v : Val} → nth 𝓛 n Γ ≡ ‵ (fat full_share τ b 0 v) → nth 𝓛 m (del 𝓛 n Γ) ≡ ‵ (fdies τ b)
       → Step K 𝓛 (del 𝓛 m (del 𝓛 n Γ)) (frees E g) Γ (frees ((τ, b) ∷ E) g)
-  frees-cell t n m {τ} {b} {v} e d = step (λ s. record {
+  frees_cell t n m {τ} {b} {v} e d = step (λ s. record {
     prf =
         via 𝓤 _ (pulled 𝓛 Γ n (‵ (fat full_share τ b 0 v)) e)
         (via 𝓤 _ (mono_l 𝓤 (⋆ 𝓛 (del 𝓛 n Γ)) (𝓛.laws.at_room τ b 0 v)) (freed 𝓛 (del 𝓛 n Γ) E g m τ b d s.prf));
@@ -74,10 +74,10 @@ module _ {M : Type 1} {𝓤 : Ura M} (𝓛 : Logic 𝓤) where
 module _ {M : Type 1} {𝓤 : Ura M} {𝓛 : Logic 𝓤} {K : Type 0} {g : Goal 𝓤 𝓛.H} where
   open 𝓛 use {H}
 
-  pub frees-cells : K → {Γ : List (Item 𝓤)} {E : Env 𝓤 H} (n : ℕ) (vs : List Val) → found 𝓛 n vs Γ ≡ cells 𝓛 vs E → Step K 𝓛 (others 𝓛 n vs Γ) (frees (after 𝓛 vs E) g) Γ (frees E g)
-  frees-cells t n [] e = step (λ s. s)
-  frees-cells t {E = []} n (v ∷ vs) e = absurd (omega (arith, ap length e))
-  frees-cells t {E = (τ, b) ∷ E} n (v ∷ vs) e = step (λ s. frees-cell t n n (ap (head 𝓛) e) (ap (λ l. head 𝓛 (tail 𝓛 l)) e) $ frees-cells t (n - 2) vs (ap (λ l. tail 𝓛 (tail 𝓛 l)) e) $ s)
+  pub frees_cells : K → {Γ : List (Item 𝓤)} {E : Env 𝓤 H} (n : ℕ) (vs : List Val) → found 𝓛 n vs Γ ≡ cells 𝓛 vs E → Step K 𝓛 (others 𝓛 n vs Γ) (frees (after 𝓛 vs E) g) Γ (frees E g)
+  frees_cells t n [] e = step (λ s. s)
+  frees_cells t {E = []} n (v ∷ vs) e = absurd (omega (arith, ap length e))
+  frees_cells t {E = (τ, b) ∷ E} n (v ∷ vs) e = step (λ s. frees_cell t n n (ap (head 𝓛) e) (ap (λ l. head 𝓛 (tail 𝓛 l)) e) $ frees_cells t (n - 2) vs (ap (λ l. tail 𝓛 (tail 𝓛 l)) e) $ s)
 
 -- ---- at the start
 abbrev pub Blocks : List Local → Type 0

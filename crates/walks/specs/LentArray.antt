@@ -3,7 +3,7 @@
 --     lends_first    the array in memory, with what it owns, gives a `&κ [T]` on its first k elements, and Kept
 --     first_back     κ is dead: the array's memory is back, as room
 -- and as steps, of an array that is passed by value, and whose first k elements are lent to a call:
---     lends-array    the code that copies it to its memory and makes the slice. The entries in the context, after what the array owns: a its cell, h that of the count,
+--     lends_array    the code that copies it to its memory and makes the slice. The entries in the context, after what the array owns: a its cell, h that of the count,
 --                    t, r and s the rooms for the copy, its reference and the slice, of which r, h and s are counted once the copy is away
 --     takes_array    after the call: the lifetime ends, and the memory is room again
 -- Assumes `Logic`.
@@ -16,7 +16,7 @@ use Prim.Native.Nat.{ℕ, suc, ◌<◌, ◌≤◌, ◌^◌}
 use mathlib.Core.List.{List, [], ◌∷◌, ◌++◌}
 use Rattle.walks.specs.ByHand.{Ura, full_share, Ty, Lifetime, Body, named, erased, imm, w64, ty_array, ty_int, ty_ref, place, copy, rv_opd, addr_of, aggregate, seq, assign, Val, vint, vptr, ent, sep, ex, Lft, GName, Fml, fsep, fat, froom, fdead, flent, flft, Env, Calls, Loops, spot_of, sem, Item, Goal, Soaks, Post, Seq, Step, step, Go, nth, put, del, runs, ‵, ◌⊛◌, some, later, ◌$◌, ◌∵◌, !, qed, move, use1, use2, drop as let_go, rewrite, split, pick, fsplit, fjoin, fpack, feq_i, feq_l, frame, await, updating, at_once, show, done, cells, arr_parts, agg, look, init, stop, from, load, addr, of_opd, and_then, no_more, assigns, lent_back, lft_new, lft_end, RattleType, Array, Array-Lawful, Is, Single, Array-whole, Array-apart, mem, lone, pointee, part_at, part_of, shares, cell_at, RefT, slice_ty, slice_val, ShrSlice, Room, lends_shr_slice, at, cut_app, join_app, parts-cells, part_room, Room-take}
 use denote.Struct.Laws as LL
-use Rattle.walks.specs.Element.{Element, Of, elementRow, mirOf}
+use Rattle.walks.specs.Element.{Element, Of, element_row, mir_of}
 use Rattle.walks.specs.FreedLocals.{pulls}
 use Rattle.walks.specs.Walks.{walks_at}
 
@@ -59,20 +59,20 @@ module _ (R : RattleType) (n k b : ℕ) (xs : List R.Denot) where
         use1 𝓛 (‵ (part_at (Array R n) full_share xs b 0)) (Array-whole 𝓛 R full_share n xs b 0) $ use1 𝓛 (‵ (froom τ b 0)) (part_room 𝓛 (Array R n) xs b 0) $ at_once ! $ done !
 
 -- the array in place i goes to place t, its reference to place r, and with the count in place j to place r + 1
-abbrev pub lendFirst : ℕ → ℕ → ℕ → ℕ → Body → Body
-lendFirst i t r j rest =
+abbrev pub lend_first : ℕ → ℕ → ℕ → ℕ → Body → Body
+lend_first i t r j rest =
     seq (assign (place t []) (rv_opd (copy (place i [])))) (seq (assign (place r []) (addr_of (place t [])))
     (seq (assign (place (suc r) []) (aggregate (copy (place r []) ∷ copy (place j []) ∷ []))) rest))
 
 abbrev pub slice_of : Element → Ty
-slice_of L = slice_ty (ty_ref erased imm (pointee (elementRow L).written))
+slice_of L = slice_ty (ty_ref erased imm (pointee (element_row L).written))
 
 module _ (L : Element) (n k : ℕ) (xs : List (Of L)) where
   taken : k ≤ n → length xs ≡ n → length (take k xs) ≡ k
   taken h e = omega (arith, length-take k xs)
 
   abbrev array : Ty
-  array = ty_array (mirOf L) n
+  array = ty_array (mir_of L) n
 
   module _ {M : Type 1} {𝓤 : Ura M} (𝓛 : Logic 𝓤) (Γ : List (Item 𝓤)) (l : ℕ) (v : Val) (t : ℕ) where
     abbrev copied : List (Item 𝓤)
@@ -84,25 +84,25 @@ module _ (L : Element) (n k : ℕ) (xs : List (Of L)) where
   module _ {M : Type 1} {𝓤 : Ura M} {𝓛 : Logic 𝓤} {Γ : List (Item 𝓤)} {l : ℕ} where
     open 𝓛 use {H}
 
-    pub lends-array : Single (elementRow L).mir → Room (elementRow L) n → k ≤ n → k < 2 ^ 64 → (v : Val) → Is (Array (elementRow L) n) xs (v ∷ []) → length xs ≡ n → (a h t r s : ℕ)
+    pub lends_array : Single (element_row L).mir → Room (element_row L) n → k ≤ n → k < 2 ^ 64 → (v : Val) → Is (Array (element_row L) n) xs (v ∷ []) → length xs ≡ n → (a h t r s : ℕ)
         → {E : Env 𝓤 H} {C : Calls 𝓤 H} {Λ : Loops 𝓤 H} {q : Post 𝓤 H} {rest : Body} {i p u j la lh lr ls : ℕ} {σ : Ty}
         → spot_of 𝓤 H E i ≡ (array, la, 0) → spot_of 𝓤 H E p ≡ (array, l, 0) → spot_of 𝓤 H E u ≡ (ty_ref erased imm σ, lr, 0) → spot_of 𝓤 H E (suc u) ≡ (slice_of L, ls, 0) → spot_of 𝓤 H E j ≡ (ty_int w64, lh, 0)
         → nth 𝓛 a Γ ≡ ‵ (fat full_share array la 0 v) → nth 𝓛 t Γ ≡ ‵ (froom array l 0) → nth 𝓛 t (put 𝓛 t (‵ (fat full_share array l 0 v)) Γ) ≡ ‵ (fat full_share array l 0 v)
         → nth 𝓛 r (copied 𝓛 Γ l v t) ≡ ‵ (froom (ty_ref erased imm σ) lr 0) → nth 𝓛 r (referred 𝓛 Γ l v t r σ lr) ≡ ‵ (fat full_share (ty_ref erased imm σ) lr 0 (vptr l 0))
         → nth 𝓛 h (referred 𝓛 Γ l v t r σ lr) ≡ ‵ (fat full_share (ty_int w64) lh 0 (vint w64 k)) → nth 𝓛 s (referred 𝓛 Γ l v t r σ lr) ≡ ‵ (froom (slice_of L) ls 0)
-        → ((ν : ℕ) (γ : GName) → Seq (Go {0}) 𝓛 (‵ (flft (ν ∷ []) full_share) ∷ ‵ ((ShrSlice (named 0) (ν ∷ []) (elementRow L)).own_val (first (elementRow L) n k l xs γ) (slice_val (l, 0) (length (take k xs)) ∷ [])) ∷ ‵ (Kept (elementRow L) n k l xs (ν ∷ []))
+        → ((ν : ℕ) (γ : GName) → Seq (Go {0}) 𝓛 (‵ (flft (ν ∷ []) full_share) ∷ ‵ ((ShrSlice (named 0) (ν ∷ []) (element_row L)).own_val (first (element_row L) n k l xs γ) (slice_val (l, 0) (length (take k xs)) ∷ [])) ∷ ‵ (Kept (element_row L) n k l xs (ν ∷ []))
         ∷ put 𝓛 s (‵ (fat full_share (slice_of L) ls 0 (slice_val (l, 0) (length (take k xs))))) (referred 𝓛 Γ l v t r σ lr)) (runs C Λ E rest q))
-        → Seq (Go {0}) 𝓛 (‵ ((Array (elementRow L) n).own_val xs (v ∷ [])) ∷ Γ) (runs C Λ E (lendFirst i p u j rest) q)
-    lends-array one room few fits v is e a h t r s {E} {C} {Λ} {q} {rest} {lr = lr} {ls = ls} {σ = σ} ei ep eu es ej ca ct ct' cr cr' ch cs cont =
-        assigns ! (of_opd ! (load ! (from ! (walks_at ei (stop !))) (look ! (suc a) ca))) (from ! (walks_at ep (stop !))) (init ! (suc t) ct ((Array-Lawful 𝓛 (elementRow L) (LL.lawful L.type L.laws 𝓛) n).typed xs _ is).0) $
+        → Seq (Go {0}) 𝓛 (‵ ((Array (element_row L) n).own_val xs (v ∷ [])) ∷ Γ) (runs C Λ E (lend_first i p u j rest) q)
+    lends_array one room few fits v is e a h t r s {E} {C} {Λ} {q} {rest} {lr = lr} {ls = ls} {σ = σ} ei ep eu es ej ca ct ct' cr cr' ch cs cont =
+        assigns ! (of_opd ! (load ! (from ! (walks_at ei (stop !))) (look ! (suc a) ca))) (from ! (walks_at ep (stop !))) (init ! (suc t) ct ((Array-Lawful 𝓛 (element_row L) (LL.lawful L.type L.laws 𝓛) n).typed xs _ is).0) $
         lft_new ! tt (λ ν. pulls ! (suc (suc t)) ct' $ move ! (0 ∷ 2 ∷ []) $
-        use2 𝓛 (later (some (λ (γ : GName). ‵ ((ShrSlice (named 0) (ν ∷ []) (elementRow L)).own_val (first (elementRow L) n k l xs γ) (slice_val (l, 0) (length (take k xs)) ∷ [])) ⊛ ‵ (Kept (elementRow L) n k l xs (ν ∷ [])))))
-        (lends_first (elementRow L) n k l xs 𝓛 one room (named 0) (ν ∷ []) v) $ await ! tt $ pick ! (λ γ. split ! $ move ! (2 ∷ []) $
+        use2 𝓛 (later (some (λ (γ : GName). ‵ ((ShrSlice (named 0) (ν ∷ []) (element_row L)).own_val (first (element_row L) n k l xs γ) (slice_val (l, 0) (length (take k xs)) ∷ [])) ⊛ ‵ (Kept (element_row L) n k l xs (ν ∷ [])))))
+        (lends_first (element_row L) n k l xs 𝓛 one room (named 0) (ν ∷ []) v) $ await ! tt $ pick ! (λ γ. split ! $ move ! (2 ∷ []) $
         assigns ! (addr ! (from ! (walks_at ep (stop !)))) (from ! (walks_at eu (stop !))) (init ! (suc (suc (suc r))) cr (tt, tt)) $
         assigns ! (agg ! (and_then ! (load ! (from ! (walks_at eu (stop !))) (look ! (suc (suc (suc r))) cr')) (and_then ! (load ! (from ! (walks_at ej (stop !))) (look ! (suc (suc (suc h))) ch)) (no_more !)))) (from ! (walks_at es (stop !)))
         (init ! (suc (suc (suc s))) cs (tt, (tt, (record { fits = fits }, tt)))) $
-        subst (λ (m : ℕ). Seq (Go {0}) 𝓛 (‵ (flft (ν ∷ []) full_share) ∷ ‵ ((ShrSlice (named 0) (ν ∷ []) (elementRow L)).own_val (first (elementRow L) n k l xs γ) (slice_val (l, 0) (length (take k xs)) ∷ [])) ∷ ‵ (Kept (elementRow L) n k l xs (ν ∷ []))
+        subst (λ (m : ℕ). Seq (Go {0}) 𝓛 (‵ (flft (ν ∷ []) full_share) ∷ ‵ ((ShrSlice (named 0) (ν ∷ []) (element_row L)).own_val (first (element_row L) n k l xs γ) (slice_val (l, 0) (length (take k xs)) ∷ [])) ∷ ‵ (Kept (element_row L) n k l xs (ν ∷ []))
         ∷ put 𝓛 s (‵ (fat full_share (slice_of L) ls 0 (slice_val (l, 0) m))) (referred 𝓛 Γ l v t r σ lr)) (runs C Λ E rest q)) (taken few e) (cont ν γ)))
 
-    pub takes_array : {G : Goal 𝓤 H} → Soaks G → length xs ≡ n → {ν : ℕ} → Step (Go {0}) 𝓛 (‵ (froom array l 0) ∷ Γ) G (‵ (flft (ν ∷ []) full_share) ∷ ‵ (Kept (elementRow L) n k l xs (ν ∷ [])) ∷ Γ) G
-    takes_array z e {ν} = step (λ s. lft_end ! z $ use2 𝓛 (later (‵ (froom array l 0))) (first_back (elementRow L) n k l xs 𝓛 e (ν ∷ [])) $ await ! z $ s)
+    pub takes_array : {G : Goal 𝓤 H} → Soaks G → length xs ≡ n → {ν : ℕ} → Step (Go {0}) 𝓛 (‵ (froom array l 0) ∷ Γ) G (‵ (flft (ν ∷ []) full_share) ∷ ‵ (Kept (element_row L) n k l xs (ν ∷ [])) ∷ Γ) G
+    takes_array z e {ν} = step (λ s. lft_end ! z $ use2 𝓛 (later (‵ (froom array l 0))) (first_back (element_row L) n k l xs 𝓛 e (ν ∷ [])) $ await ! z $ s)

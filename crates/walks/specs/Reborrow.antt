@@ -20,8 +20,8 @@ reborrow i j rest = seq (assign (place j []) (addr_of (place i (field 0 ∷ dere
 
 module _ {M : Type 1} {𝓤 : Ura M} {𝓛 : Logic 𝓤} {K : Type 0} {Γ : List (Item 𝓤)} where
   -- a field of the struct in entry n
-  look-field : K → (n k : ℕ) {q : Share} {ν : Sym} {τs : Tys} {b o : ℕ} {vs : Vals} {τ : Ty} {d : ℕ} → nth 𝓛 n Γ ≡ ‵ (fat q (ty_struct ν τs) b o (vstruct vs)) → field_at 0 τs k ≡ some (τ, d) → Reads K 𝓛 Γ τ b (o + d) (get_v vs k)
-  look-field t n k {q} {ν} {τs} {b} {o} {vs} {τ} {d} e h =
+  look_field : K → (n k : ℕ) {q : Share} {ν : Sym} {τs : Tys} {b o : ℕ} {vs : Vals} {τ : Ty} {d : ℕ} → nth 𝓛 n Γ ≡ ‵ (fat q (ty_struct ν τs) b o (vstruct vs)) → field_at 0 τs k ≡ some (τ, d) → Reads K 𝓛 Γ τ b (o + d) (get_v vs k)
+  look_field t n k {q} {ν} {τs} {b} {o} {vs} {τ} {d} e h =
       look_in t n (subst (λ (i : Item 𝓤). Part K 𝓛 i q τ b (o + d) (get_v vs k) (λ u. ‵ (fat q (ty_struct ν τs) b o (vstruct (set_v vs k u))))) (sym e) (sub t k h (whole t)))
 
 module _ {M : Type 1} {𝓤 : Ura M} {𝓛 : Logic 𝓤} {K : Type 0} {Γ : List (Item 𝓤)} where
@@ -36,5 +36,5 @@ module _ {M : Type 1} {𝓤 : Ura M} {𝓛 : Logic 𝓤} {K : Type 0} {Γ : List
       → n < 2 ^ 64
       → Step K 𝓛 (put 𝓛 t (‵ (fat full_share (slice_ty ref) lt 0 (slice_val (b, o) n))) (put 𝓛 r (‵ (fat full_share ref lr 0 (vptr b o))) Γ)) (runs C Λ E rest q) Γ (runs C Λ E (reborrow i j rest) q)
   reborrows k s r t ei ej ek es er es' er' et fits = step (λ z.
-      assigns k (addr k (from k (walks_at ei (fld k refl (hop k (look-field k s 0 es refl) (stop k)))))) (from k (walks_at ej (stop k))) (init k r er (tt, tt)) $
-      assigns k (agg k (and_then k (load k (from k (walks_at ej (stop k))) (look k r er')) (and_then k (load k (from k (walks_at ei (fld k refl (stop k)))) (look-field k s 1 es' refl)) (no_more k)))) (from k (walks_at ek (stop k))) (init k t et (tt, (tt, (record { fits = fits }, tt)))) $ z)
+      assigns k (addr k (from k (walks_at ei (fld k refl (hop k (look_field k s 0 es refl) (stop k)))))) (from k (walks_at ej (stop k))) (init k r er (tt, tt)) $
+      assigns k (agg k (and_then k (load k (from k (walks_at ej (stop k))) (look k r er')) (and_then k (load k (from k (walks_at ei (fld k refl (stop k)))) (look_field k s 1 es' refl)) (no_more k)))) (from k (walks_at ek (stop k))) (init k t et (tt, (tt, (record { fits = fits }, tt)))) $ z)

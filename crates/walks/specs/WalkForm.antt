@@ -8,7 +8,7 @@
 use Rattle.std.specs.Prelude.{◌≡◌, refl, Bool, true, false, List, [], ◌∷◌}
 use Rattle.walks.specs.ByHand.{Ura, Name, Operand, Ty, Fn, Body, RValue, named, imm, w64, ty_int, ty_bool, ty_ptr, ty_ref, deref, field, place, unsigned, copy, int, local, value_local, skip, seq, assign, block, loop, cond, exit, return, call, rv_opd, op2, add, mul, lt, offset, Val, SProp, ent, sep, emp, via, fst∗, id⊢, Env, sem, fact, fact_i, Item, Go, runs, Opd, Rv, SliceRefOf, yes, Last, left, Is, Copy, pointee, RattleType, now, plain, slice_ty, Clauses, Ended, needs}
 use Rattle.walks.specs.Plain.{Plain}
-use Rattle.walks.specs.Element.{Element, Of, elementRow, mirOf, elementBytes}
+use Rattle.walks.specs.Element.{Element, Of, element_row, mir_of, element_bytes}
 use Rattle.walks.specs.Walks.{ends}
 use types.Logic.{Logic, sem}
 
@@ -16,7 +16,7 @@ abbrev pub word_ty : Ty
 word_ty = ty_int w64
 
 abbrev pub slice : Element → Ty
-slice L = slice_ty (ty_ref (named 0) imm (pointee (elementRow L).written))
+slice L = slice_ty (ty_ref (named 0) imm (pointee (element_row L).written))
 
 -- ---- the MIR. The locals: the result, the members, x, the running value, k, the count and the byte offset, the test, the element's place, the element
 -- p: whether the step is passed x too
@@ -29,9 +29,9 @@ turn L p f =
     seq (assign (place 5 []) (rv_opd (copy (place 1 (field 1 ∷ [])))))
     (seq (assign (place 6 []) (op2 (lt unsigned) (copy (place 4 [])) (copy (place 5 []))))
     (seq (cond (copy (place 6 [])) skip (exit 1))
-    (seq (assign (place 5 []) (op2 (mul unsigned) (copy (place 4 [])) (int w64 (elementBytes L))))
+    (seq (assign (place 5 []) (op2 (mul unsigned) (copy (place 4 [])) (int w64 (element_bytes L))))
     (seq (assign (place 7 []) (op2 offset (copy (place 1 (field 0 ∷ []))) (copy (place 5 []))))
-    (seq (assign (place 8 []) (rv_opd (copy (place 7 (deref (mirOf L) ∷ [])))))
+    (seq (assign (place 8 []) (rv_opd (copy (place 7 (deref (mir_of L) ∷ [])))))
     (seq (call f (operands p) (place 3 []))
     (assign (place 4 []) (op2 (add unsigned) (copy (place 4 [])) (int w64 1)))))))))
 
@@ -43,7 +43,7 @@ function L τ σ rv p f = record {
   lifetimes = 1;
   outlives = [];
   params = 2;
-  locals = local τ value_local ∷ local (slice L) value_local ∷ local σ value_local ∷ local τ value_local ∷ local word_ty value_local ∷ local word_ty value_local ∷ local ty_bool value_local ∷ local ty_ptr value_local ∷ local (mirOf L) value_local ∷ [];
+  locals = local τ value_local ∷ local (slice L) value_local ∷ local σ value_local ∷ local τ value_local ∷ local word_ty value_local ∷ local word_ty value_local ∷ local ty_bool value_local ∷ local ty_ptr value_local ∷ local (mir_of L) value_local ∷ [];
   body = seq (assign (place 3 []) rv) (seq (assign (place 4 []) (rv_opd (int w64 0))) (seq (block (loop (turn L p f))) rest));
 }
 
@@ -52,25 +52,25 @@ abbrev pub clause : Bool → {M : Type 1} (𝓤 : Ura M) → Type 0 → SProp �
 clause true 𝓤 φ = fact 𝓤 φ
 clause false 𝓤 φ = emp 𝓤
 
-pub clause-in : (t : Bool) {M : Type 1} (𝓤 : Ura M) (φ : Type 0) → φ → ent 𝓤 (emp 𝓤) (clause t 𝓤 φ)
-clause-in true 𝓤 φ h = fact_i 𝓤 φ (emp 𝓤) h
-clause-in false 𝓤 φ h = id⊢ 𝓤 (emp 𝓤)
+pub clause_in : (t : Bool) {M : Type 1} (𝓤 : Ura M) (φ : Type 0) → φ → ent 𝓤 (emp 𝓤) (clause t 𝓤 φ)
+clause_in true 𝓤 φ h = fact_i 𝓤 φ (emp 𝓤) h
+clause_in false 𝓤 φ h = id⊢ 𝓤 (emp 𝓤)
 
-pub clause-out : (t : Bool) {M : Type 1} (𝓤 : Ura M) (φ : Type 0) (P : SProp 𝓤) {Q : SProp 𝓤} → (t ≡ false → φ) → (φ → ent 𝓤 P Q) → ent 𝓤 (sep 𝓤 P (clause t 𝓤 φ)) Q
-clause-out true 𝓤 φ P h k = needs 𝓤 φ P k
-clause-out false 𝓤 φ P h k = via 𝓤 P (fst∗ 𝓤 P (emp 𝓤)) (k (h refl))
+pub clause_out : (t : Bool) {M : Type 1} (𝓤 : Ura M) (φ : Type 0) (P : SProp 𝓤) {Q : SProp 𝓤} → (t ≡ false → φ) → (φ → ent 𝓤 P Q) → ent 𝓤 (sep 𝓤 P (clause t 𝓤 φ)) Q
+clause_out true 𝓤 φ P h k = needs 𝓤 φ P k
+clause_out false 𝓤 φ P h k = via 𝓤 P (fst∗ 𝓤 P (emp 𝓤)) (k (h refl))
 
 module _ (L : Element) (R X : RattleType) where
-  abbrev pub stepEnded : Bool → Ended
-  stepEnded true = record {
-    signature = record { lifetimes = 0; outlives = []; params = plain (λ _. R) ∷ plain (λ _. (elementRow L)) ∷ plain (λ _. X) ∷ []; result = plain (λ _. R) };
+  abbrev pub step_ended : Bool → Ended
+  step_ended true = record {
+    signature = record { lifetimes = 0; outlives = []; params = plain (λ _. R) ∷ plain (λ _. (element_row L)) ∷ plain (λ _. X) ∷ []; result = plain (λ _. R) };
     kept = (yes, (yes, (yes, tt)));
   }
-  stepEnded false = record { signature = record { lifetimes = 0; outlives = []; params = plain (λ _. R) ∷ plain (λ _. (elementRow L)) ∷ []; result = plain (λ _. R) }; kept = (yes, (yes, tt)) }
+  step_ended false = record { signature = record { lifetimes = 0; outlives = []; params = plain (λ _. R) ∷ plain (λ _. (element_row L)) ∷ []; result = plain (λ _. R) }; kept = (yes, (yes, tt)) }
 
-  abbrev pub walkEnded : Ended
-  walkEnded = record {
-    signature = record { lifetimes = 1; outlives = []; params = SliceRefOf (0 ∷ []) tt (plain (λ _. (elementRow L))) (λ _. tt) ∷ plain (λ _. X) ∷ []; result = plain (λ _. R) };
+  abbrev pub walk_ended : Ended
+  walk_ended = record {
+    signature = record { lifetimes = 1; outlives = []; params = SliceRefOf (0 ∷ []) tt (plain (λ _. (element_row L))) (λ _. tt) ∷ plain (λ _. X) ∷ []; result = plain (λ _. R) };
     kept = (yes, (yes, tt));
   }
 
@@ -89,12 +89,12 @@ module _ (L : Element) (R X : RattleType) where
     pub needs : List (Of L) → X.Denot → Type 0
     pub ends : List (Of L) → X.Denot → R.Denot → Type 0
 
-  abbrev pub stepClauses : (p t : Bool) → Says p t → {M : Type 1} (𝓤 : Ura M) → Clauses 𝓤 (stepEnded p)
-  stepClauses true t S 𝓤 κs a = record { ghost = Unit {0}; requires = λ _. clause t 𝓤 (S.asks a.0 a.1.0 a.1.1.0); ensures = λ _ r _. fact 𝓤 (S.gives a.0 a.1.0 a.1.1.0 r) }
-  stepClauses false t S 𝓤 κs a = record { ghost = Unit {0}; requires = λ _. clause t 𝓤 (S.asks a.0 a.1.0 tt); ensures = λ _ r _. fact 𝓤 (S.gives a.0 a.1.0 tt r) }
+  abbrev pub step_clauses : (p t : Bool) → Says p t → {M : Type 1} (𝓤 : Ura M) → Clauses 𝓤 (step_ended p)
+  step_clauses true t S 𝓤 κs a = record { ghost = Unit {0}; requires = λ _. clause t 𝓤 (S.asks a.0 a.1.0 a.1.1.0); ensures = λ _ r _. fact 𝓤 (S.gives a.0 a.1.0 a.1.1.0 r) }
+  step_clauses false t S 𝓤 κs a = record { ghost = Unit {0}; requires = λ _. clause t 𝓤 (S.asks a.0 a.1.0 tt); ensures = λ _ r _. fact 𝓤 (S.gives a.0 a.1.0 tt r) }
 
-  abbrev pub walkClauses : (p t : Bool) → Says p t → {M : Type 1} (𝓤 : Ura M) → Clauses 𝓤 walkEnded
-  walkClauses p t S 𝓤 κs a = record { ghost = Unit {0}; requires = λ _. clause t 𝓤 (S.needs (now a.0) a.1.0); ensures = λ _ r _. fact 𝓤 (S.ends (now a.0) a.1.0 r) }
+  abbrev pub walk_clauses : (p t : Bool) → Says p t → {M : Type 1} (𝓤 : Ura M) → Clauses 𝓤 walk_ended
+  walk_clauses p t S 𝓤 κs a = record { ghost = Unit {0}; requires = λ _. clause t 𝓤 (S.needs (now a.0) a.1.0); ensures = λ _ r _. fact 𝓤 (S.ends (now a.0) a.1.0 r) }
 
   -- Inv ms x rest r, where r is the running value and rest the members still to come
   pub record Facts (p t : Bool) (S : Says p t) (start : X.Denot → R.Denot) : Type 1 where

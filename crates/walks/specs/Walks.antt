@@ -1,7 +1,7 @@
 -- What the walks by hand share: how one starts, calls and ends. Each step is at a contract, and at what the contract binds, y: the lifetimes, their
 -- tokens' shares, the arguments and their machine values.
 --     starts           a walk may start at the arguments' machine values written out
---     calls-leaving    a call of a function that meets its contract, which says φ of the result and of the last values.        calls-for    which says φ of the result
+--     calls_leaving    a call of a function that meets its contract, which says φ of the result and of the last values.        calls_for    which says φ of the result
 --     ends             a walk ends at a result of which the contract holds, where no parameter holds a `&mut`
 -- and, for any code:
 --     walks_at         a place is walked from a spot that is written out
@@ -48,24 +48,24 @@ module _ {M : Type 1} {𝓤 : Ura M} (𝓛 : Logic 𝓤) (T : Ended) (c : Clause
         use0 𝓛 (raw (At.ensures y.1 r (at_exit T y.0.0 y.0.3 ws))) ensures $ use0 𝓛 (‵ (lasts T y.0.0 y.0.3 ws)) none $ frame ! $ done !
 
     module _ {K : Type 0} {Γ : List (Item 𝓤)} {E : Env 𝓤 H} {C : Calls 𝓤 H} {f : Name} {xs : List Operand} {Λ : Loops 𝓤 H} {q : Post 𝓤 H} {d : Place} {rest : Body} where
-      pub calls-leaving : K → FmC 𝓤 H 𝓛.laws C → (met : Triple 𝓤 (C f) Stated) (requires : ent 𝓤 (emp 𝓤) (At.requires y.1))
+      pub calls_leaving : K → FmC 𝓤 H 𝓛.laws C → (met : Triple 𝓤 (C f) Stated) (requires : ent 𝓤 (emp 𝓤) (At.requires y.1))
           → (φ : Result.Denot → Lasts T y.0.0 y.0.3 → Type 0) → ((r : Result.Denot) (ws : Lasts T y.0.0 y.0.3) → ent 𝓤 (At.ensures y.1 r (at_exit T y.0.0 y.0.3 ws)) (fact 𝓤 (φ r ws)))
           → Opds K 𝓛 (raw (Stated.pre y) ∷ Γ) E xs (Stated.args y)
           → ((v : Val) (r : Result.Denot) (ws : Lasts T y.0.0 y.0.3) → φ r ws → Is Result r (v ∷ []) → Seq K 𝓛 (‵ (Result.own_val r (v ∷ [])) ∷ tokens ∷ ‵ (lasts T y.0.0 y.0.3 ws) ∷ Γ) (lands C Λ E d v rest q))
           → Seq K 𝓛 (tokens ∷ passed ∷ Γ) (runs C Λ E (seq (call f xs d) rest) q)
-      calls-leaving t fm met requires φ says os k =
+      calls_leaving t fm met requires φ says os k =
           join t $ use0 𝓛 (raw (At.requires y.1)) requires $ move t (1 ∷ 0 ∷ []) $ join t $ use1 𝓛 (raw (Stated.pre y)) (id⊢ 𝓤 _) $ calls_at t fm Stated met y os (λ v.
           use1 𝓛 (later (some (λ (r : Result.Denot). (tokens ⊛ ‵ (Result.own_val r (v ∷ []))) ⊛ some (λ (ws : Lasts T y.0.0 y.0.3). ‵ (lasts T y.0.0 y.0.3 ws) ⊛ raw (At.ensures y.1 r (at_exit T y.0.0 y.0.3 ws)))))) (id⊢ 𝓤 _) $ await t tt $ pick t (λ r. split t $
           move t (1 ∷ []) $ pick t (λ ws. split t $ move t (1 ∷ []) $ use1 𝓛 (raw (fact 𝓤 (φ r ws))) (says r ws) $ heard t (φ r ws) (λ holds. move t (1 ∷ []) $ split t $
           move t (1 ∷ []) $ peeks t Result (Is Result) (shows 𝓛 Result) r (v ∷ []) (λ is. k v r ws holds is)))))
 
       -- the same, where nothing need be had of the last values
-      pub calls-for : K → FmC 𝓤 H 𝓛.laws C → (met : Triple 𝓤 (C f) Stated) (requires : ent 𝓤 (emp 𝓤) (At.requires y.1))
+      pub calls_for : K → FmC 𝓤 H 𝓛.laws C → (met : Triple 𝓤 (C f) Stated) (requires : ent 𝓤 (emp 𝓤) (At.requires y.1))
           → (φ : Result.Denot → Type 0) → ((r : Result.Denot) (e : AtExit T y.0.0) → ent 𝓤 (At.ensures y.1 r e) (fact 𝓤 (φ r)))
           → Opds K 𝓛 (raw (Stated.pre y) ∷ Γ) E xs (Stated.args y)
           → ((v : Val) (r : Result.Denot) → φ r → Is Result r (v ∷ []) → Seq K 𝓛 (‵ (Result.own_val r (v ∷ [])) ∷ tokens ∷ Γ) (lands C Λ E d v rest q))
           → Seq K 𝓛 (tokens ∷ passed ∷ Γ) (runs C Λ E (seq (call f xs d) rest) q)
-      calls-for t fm met requires φ says os k = calls-leaving t fm met requires (λ r ws. φ r) (λ r ws. says r (at_exit T y.0.0 y.0.3 ws)) os (λ v r ws holds is. move t (2 ∷ []) $ let_go t $ k v r holds is)
+      calls_for t fm met requires φ says os k = calls_leaving t fm met requires (λ r ws. φ r) (λ r ws. says r (at_exit T y.0.0 y.0.3 ws)) os (λ v r ws holds is. move t (2 ∷ []) $ let_go t $ k v r holds is)
 
   module _ (y : Stated.Ghost) (sp : Spells (Types y)) where
     abbrev spelt : Stated.Ghost

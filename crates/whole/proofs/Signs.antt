@@ -1,26 +1,26 @@
 -- A number by its sign and its magnitude: how an i64 holds it (sign, Minus, Flip, keep), and differences, sums and roundings of it
--- (diff, diff-neg, with-part-is, nearest-signed, nearest-times).
+-- (diff, diff_neg, with_part_is, nearest_signed, nearest_times).
 use Rattle.std.proofs.Common.{◌≡◌, ℕ, zero, suc, ◌+◌, ◌-◌, ◌*◌, ◌^◌, ◌<◌, ◌≤◌, Bool, true, false, T, ℤ, pos, negsuc, ◌+ℤ◌, ◌-ℤ◌, ◌*ℤ◌, neg_ℤ, nat_abs, sym, refl, ap, ◌∙◌, arith, to_z-of_z, w64, SFits, to_z, of_z, ltb-true}
 use native.Mathlib.Nat as N
 use lib.IntN.{+ℤ_comm, +ℤ_idl, -ℤ_one, neg_ℤ-+ℤ, neg_ℤ-neg_ℤ, +ℤ-neg_ℤ_cancel}
 use lib.Signed.{lt_z, non_neg}
 use mir.Facts.{to_z_pos}
 use Rattle.rounding.specs.Rounding.{near, nearest}
-use Rattle.rounding.proofs.Laws.{nearest-pos, nearest-neg}
-use Rattle.algebra.specs.Integer.{ℤ-ring, negℤ-*ℤ}
+use Rattle.rounding.proofs.Laws.{nearest_pos, nearest_neg}
+use Rattle.algebra.specs.Integer.{ℤ_ring, neg_ℤ_*ℤ}
 use Rattle.algebra.specs.Solver.{◌⊕◌, ◌⊝◌, ◌:=◌, ring3}
 use Rattle.whole.specs.declared.Sums.{Sums}
 use Rattle.whole.specs.Sign.{signed}
-use Rattle.whole.specs.Sums.{withPart, PartFits, WithPart}
+use Rattle.whole.specs.Sums.{with_part, PartFits, WithPart}
 
 -- the test of the sign is made on the word's bits
 pub sign : (z : ℤ) {b : Bool} → SFits w64 z → lt_z (to_z w64 (of_z w64 z)) (pos 0) ≡ b → lt_z z (pos 0) ≡ b
 sign z f t = ap (λ k. lt_z k (pos 0)) (sym (to_z-of_z f)) ∙ t
 
 -- 0 - m, for a magnitude m
-neg-fits : (m : ℕ) → m < 2 ^ 63 → SFits w64 (neg_ℤ (pos m))
-neg-fits zero h = record { sfits = h }
-neg-fits (suc m) h = record { sfits = omega arith }
+neg_fits : (m : ℕ) → m < 2 ^ 63 → SFits w64 (neg_ℤ (pos m))
+neg_fits zero h = record { sfits = h }
+neg_fits (suc m) h = record { sfits = omega arith }
 
 pub record Minus (m : ℕ) : Type 0 where
   pub fits : SFits w64 (pos 0 -ℤ to_z w64 m)
@@ -29,7 +29,7 @@ pub record Minus (m : ℕ) : Type 0 where
 pub minus : (m : ℕ) → m < 2 ^ 63 → Minus m
 minus m h =
     let e : pos 0 -ℤ to_z w64 m ≡ neg_ℤ (pos m) = ap (λ k. pos 0 -ℤ k) (to_z_pos w64 h) ∙ +ℤ_idl (neg_ℤ (pos m)) in
-    record { fits = rw e (neg-fits m h); is = rw e (to_z-of_z (neg-fits m h)) }
+    record { fits = rw e (neg_fits m h); is = rw e (to_z-of_z (neg_fits m h)) }
 
 -- -1 - z, for a negative z
 minus_one : (n : ℕ) → negsuc 0 -ℤ negsuc n ≡ pos n
@@ -41,16 +41,16 @@ pub record Flip (z : ℤ) : Type 0 where
   pub low : 1 ≤ nat_abs z
   pub high : nat_abs z ≤ 2 ^ 63
 
-flip-at : (z : ℤ) → SFits w64 z → lt_z z (pos 0) ≡ true → Flip z
-flip-at (pos n) f t = let h = ltb-true n 0 t in absurd (omega arith)
-flip-at (negsuc n) f t =
+flip_at : (z : ℤ) → SFits w64 z → lt_z z (pos 0) ≡ true → Flip z
+flip_at (pos n) f t = let h = ltb-true n 0 t in absurd (omega arith)
+flip_at (negsuc n) f t =
     let e : negsuc 0 -ℤ to_z w64 (of_z w64 (negsuc n)) ≡ pos n = ap (λ k. negsuc 0 -ℤ k) (to_z-of_z f) ∙ minus_one n in
     let g : SFits w64 (pos n) = record { sfits = f.sfits } in
     let s : n ≡ suc n - 1 = omega arith in
     record { fits = rw e g; is = rw e (to_z-of_z g ∙ ap pos s); low = omega arith; high = f.sfits }
 
 pub flip : (z : ℤ) → SFits w64 z → lt_z (to_z w64 (of_z w64 z)) (pos 0) ≡ true → Flip z
-flip z f t = flip-at z f (sign z f t)
+flip z f t = flip_at z f (sign z f t)
 
 -- a number that is not negative
 keep_at : (z : ℤ) → SFits w64 z → lt_z z (pos 0) ≡ false → T (non_neg z) × (nat_abs z < 2 ^ 64)
@@ -69,41 +69,41 @@ diff m n h =
     let e : m ≡ m - n + n = omega arith in
     sym (+ℤ-neg_ℤ_cancel (pos (m - n)) (pos n)) ∙ ap (λ k. pos k -ℤ pos n) (sym e)
 
-pub diff-neg : (m n : ℕ) → m ≤ n → neg_ℤ (pos (n - m)) ≡ pos m -ℤ pos n
-diff-neg m n h =
+pub diff_neg : (m n : ℕ) → m ≤ n → neg_ℤ (pos (n - m)) ≡ pos m -ℤ pos n
+diff_neg m n h =
     ap neg_ℤ (diff n m h)
     ∙ neg_ℤ-+ℤ (pos n) (neg_ℤ (pos m))
     ∙ ap (λ k. neg_ℤ (pos n) +ℤ k) (neg_ℤ-neg_ℤ (pos m))
     ∙ +ℤ_comm (neg_ℤ (pos n)) (pos m)
 
 -- a part more, on the side of its sign, where the sums fit a word
-pub with-part-is : (s : Sums) (negative : Bool) (part bound : ℕ) → PartFits s part bound → WithPart s negative part bound (withPart s negative part bound)
-with-part-is s true part bound h =
-    let m = N.mod-eq_of_lt h.minus-fits in
-    let b = N.mod-eq_of_lt h.bound-fits in
+pub with_part_is : (s : Sums) (negative : Bool) (part bound : ℕ) → PartFits s part bound → WithPart s negative part bound (with_part s negative part bound)
+with_part_is s true part bound h =
+    let m = N.mod-eq_of_lt h.minus_fits in
+    let b = N.mod-eq_of_lt h.bound_fits in
     rw (m, b)
     (record {
-      sum_is = ring3 ℤ-ring (λ p m n. p ⊝ (m ⊕ n) := (p ⊝ m) ⊝ n) tt (pos s.plus) (pos s.minus) (pos part);
-      bound-is = refl;
-      plus-within = omega arith;
-      minus-within = omega arith;
+      sum_is = ring3 ℤ_ring (λ p m n. p ⊝ (m ⊕ n) := (p ⊝ m) ⊝ n) tt (pos s.plus) (pos s.minus) (pos part);
+      bound_is = refl;
+      plus_within = omega arith;
+      minus_within = omega arith;
     })
-with-part-is s false part bound h =
-    let p = N.mod-eq_of_lt h.plus-fits in
-    let b = N.mod-eq_of_lt h.bound-fits in
+with_part_is s false part bound h =
+    let p = N.mod-eq_of_lt h.plus_fits in
+    let b = N.mod-eq_of_lt h.bound_fits in
     rw (p, b)
     (record {
-      sum_is = ring3 ℤ-ring (λ p m n. (p ⊕ n) ⊝ m := (p ⊝ m) ⊕ n) tt (pos s.plus) (pos s.minus) (pos part);
-      bound-is = refl;
-      plus-within = omega arith;
-      minus-within = omega arith;
+      sum_is = ring3 ℤ_ring (λ p m n. (p ⊕ n) ⊝ m := (p ⊝ m) ⊕ n) tt (pos s.plus) (pos s.minus) (pos part);
+      bound_is = refl;
+      plus_within = omega arith;
+      minus_within = omega arith;
     })
 
 -- roundings
-pub nearest-signed : (s : Bool) (m n : ℕ) → 0 < n → nearest (signed s m) n ≡ signed s (near m n)
-nearest-signed true m n h = nearest-neg (pos m) n h ∙ ap neg_ℤ (nearest-pos m n)
-nearest-signed false m n h = nearest-pos m n
+pub nearest_signed : (s : Bool) (m n : ℕ) → 0 < n → nearest (signed s m) n ≡ signed s (near m n)
+nearest_signed true m n h = nearest_neg (pos m) n h ∙ ap neg_ℤ (nearest_pos m n)
+nearest_signed false m n h = nearest_pos m n
 
-pub nearest-times : (s : Bool) (m p n : ℕ) → 0 < n → nearest (signed s m *ℤ pos p) n ≡ signed s (near (m * p) n)
-nearest-times true m p n h = ap (λ z. nearest z n) (negℤ-*ℤ (pos m) (pos p)) ∙ nearest-signed true (m * p) n h
-nearest-times false m p n h = nearest-signed false (m * p) n h
+pub nearest_times : (s : Bool) (m p n : ℕ) → 0 < n → nearest (signed s m *ℤ pos p) n ≡ signed s (near (m * p) n)
+nearest_times true m p n h = ap (λ z. nearest z n) (neg_ℤ_*ℤ (pos m) (pos p)) ∙ nearest_signed true (m * p) n h
+nearest_times false m p n h = nearest_signed false (m * p) n h

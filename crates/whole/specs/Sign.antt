@@ -6,5 +6,5 @@ signed true size = neg_ℤ (pos size)
 signed false size = pos size
 
 -- The largest number that an i64 holds, 2^63 - 1.
-abbrev pub most-value : ℕ
-most-value = 9223372036854775807
+abbrev pub most_value : ℕ
+most_value = 9223372036854775807

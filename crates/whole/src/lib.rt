@@ -3,8 +3,8 @@ mod cells;
 
 ghost use Rattle.std.specs.Prelude.{◌≡◌, ◌+◌, ◌≤◌, min, pos, ◌-ℤ◌, nat_lt, unsigned_abs};
 ghost use Rattle.rounding.specs.Rounding.{near, up as upOf};
-ghost use Rattle.whole.specs.Sign.{most-value, signed};
-ghost use Rattle.whole.specs.Sums.{withPart};
+ghost use Rattle.whole.specs.Sign.{most_value, signed};
+ghost use Rattle.whole.specs.Sums.{with_part};
 
 pub use cells::{clear, clear_signed};
 
@@ -28,7 +28,7 @@ pub struct Sums {
 
 // One part more, on the side of its sign, with its bound.
 pub fn with_part(s: Sums, negative: bool, part: u64, bound: u64) -> Sums
-    ensures { result ≡ withPart s negative part bound }
+    ensures { result ≡ with_part s negative part bound }
 {
     if negative {
         return Sums {
@@ -73,7 +73,7 @@ pub fn difference(plus: u64, minus: u64) -> Signed
 
 // The number itself; a magnitude above the largest i64 is taken as that.
 pub fn as_i64(s: Signed) -> i64
-    ensures { result ≡ signed s.negative (min s.size most-value) }
+    ensures { result ≡ signed s.negative (min s.size most_value) }
 {
     let size = least(s.size, MOST_VALUE) as i64;
     if s.negative { 0 - size } else { size }

@@ -4,14 +4,14 @@ use Rattle.std.specs.Prelude.{◌≡◌, List, [], ◌++◌, ℕ, zero, suc, ◌
 use Rattle.std.proofs.Common.{sym, ◌∙◌, ap, ⊎_elim, append_assoc, append-nil, add-one, arith}
 use Rattle.std.proofs.Math.Nat as N
 use Rattle.fund.specs.Transform.{Term}
-use Rattle.widths.specs.AddedTerms.{addD, addH, Room}
-use Rattle.widths.specs.AddingLaws.{addD-append, addH-append, length-addD, length-addH, roomD-first, roomD-rest, roomH-first, roomH-rest}
+use Rattle.widths.specs.AddedTerms.{add_d, add_h, Room}
+use Rattle.widths.specs.AddingLaws.{add_d_append, add_h_append, length_add_d, length_add_h, room_d_first, room_d_rest, room_h_first, room_h_rest}
 
 pub record Filling (X : ℕ) (d₀ : List ℤ) (h₀ : List ℕ) (F : ℕ → List Term) (L k : ℕ) (d : List ℤ) (h : List ℕ) : Type 0 where
   pub room : Room X d₀ h₀ (F L)
   pub within : k ≤ L
-  pub d-is : d ≡ addD d₀ (F k)
-  pub h-is : h ≡ addH h₀ (F k)
+  pub d_is : d ≡ add_d d₀ (F k)
+  pub h_is : h ≡ add_h h₀ (F k)
 
 -- a list of terms that goes on
 record Goes (xs ys : List Term) : Type 0 where
@@ -22,9 +22,9 @@ goes_end : {xs ys : List Term} → xs ≡ ys → Goes xs ys
 goes_end {xs} e = record { rest = []; is = sym e ∙ sym (append-nil xs) }
 
 pub begin : {X : ℕ} {d : List ℤ} {h : List ℕ} (F : ℕ → List Term) (L : ℕ) → F 0 ≡ [] → Room X d h (F L) → Filling X d h F L 0 d h
-unfolding addD addH
+unfolding add_d add_h
 begin {X} {d} {h} F L e r =
-    record { room = r; within = omega arith; d-is = ap (addD d) (sym e); h-is = ap (addH h) (sym e) }
+    record { room = r; within = omega arith; d_is = ap (add_d d) (sym e); h_is = ap (add_h h) (sym e) }
 
 module _ (F G : ℕ → List Term) (s : (l : ℕ) → F (suc l) ≡ F l ++ G l) where
   goes : (k L : ℕ) → k ≤ L → Goes (F k) (F L)
@@ -41,34 +41,34 @@ module _ (F G : ℕ → List Term) (s : (l : ℕ) → F (suc l) ≡ F l ++ G l) 
     whole : k < L → Goes (F k ++ G k) (F L)
     whole u = let g = goes (suc k) L u in record { rest = g.rest; is = g.is ∙ ap (λ x. x ++ g.rest) (s k) }
 
-    pub turn-room : k < L → Room X d h (G k)
-    turn-room u =
+    pub turn_room : k < L → Room X d h (G k)
+    turn_room u =
         let g = whole u in
-        let toD = rw g.is at f.room.in_d in
-        let toH = rw g.is at f.room.inH in
+        let to_d = rw g.is at f.room.in_d in
+        let to_h = rw g.is at f.room.in_h in
         record {
-          in_d = rw f.d-is (roomD-rest (F k) (G k) (roomD-first (F k ++ G k) g.rest toD));
-          inH = rw f.h-is (roomH-rest (F k) (G k) (roomH-first (F k ++ G k) g.rest toH));
+          in_d = rw f.d_is (room_d_rest (F k) (G k) (room_d_first (F k ++ G k) g.rest to_d));
+          in_h = rw f.h_is (room_h_rest (F k) (G k) (room_h_first (F k ++ G k) g.rest to_h));
         }
 
-    pub turn : {d' : List ℤ} {h' : List ℕ} → k < L → d' ≡ addD d (G k) → h' ≡ addH h (G k) → Filling X d₀ h₀ F L (k + 1) d' h'
+    pub turn : {d' : List ℤ} {h' : List ℕ} → k < L → d' ≡ add_d d (G k) → h' ≡ add_h h (G k) → Filling X d₀ h₀ F L (k + 1) d' h'
     turn u p q =
         let e : F k ++ G k ≡ F (k + 1) = sym (s k) ∙ ap F (sym (add-one k)) in
         record {
           room = f.room;
           within = omega arith;
-          d-is = p ∙ ap (λ x. addD x (G k)) f.d-is ∙ sym (addD-append d₀ (F k) (G k)) ∙ ap (addD d₀) e;
-          h-is = q ∙ ap (λ x. addH x (G k)) f.h-is ∙ sym (addH-append h₀ (F k) (G k)) ∙ ap (addH h₀) e;
+          d_is = p ∙ ap (λ x. add_d x (G k)) f.d_is ∙ sym (add_d_append d₀ (F k) (G k)) ∙ ap (add_d d₀) e;
+          h_is = q ∙ ap (λ x. add_h x (G k)) f.h_is ∙ sym (add_h_append h₀ (F k) (G k)) ∙ ap (add_h h₀) e;
         }
 
-pub end-d : {X L k : ℕ} {d₀ d : List ℤ} {h₀ h : List ℕ} {F : ℕ → List Term} → Filling X d₀ h₀ F L k d h → L ≤ k → d ≡ addD d₀ (F L)
-end-d {d₀ = d₀} {F = F} f u = f.d-is ∙ ap (λ k. addD d₀ (F k)) (N.le_antisymm f.within u)
+pub end_d : {X L k : ℕ} {d₀ d : List ℤ} {h₀ h : List ℕ} {F : ℕ → List Term} → Filling X d₀ h₀ F L k d h → L ≤ k → d ≡ add_d d₀ (F L)
+end_d {d₀ = d₀} {F = F} f u = f.d_is ∙ ap (λ k. add_d d₀ (F k)) (N.le_antisymm f.within u)
 
-pub end-h : {X L k : ℕ} {d₀ d : List ℤ} {h₀ h : List ℕ} {F : ℕ → List Term} → Filling X d₀ h₀ F L k d h → L ≤ k → h ≡ addH h₀ (F L)
-end-h {h₀ = h₀} {F = F} f u = f.h-is ∙ ap (λ k. addH h₀ (F k)) (N.le_antisymm f.within u)
+pub end_h : {X L k : ℕ} {d₀ d : List ℤ} {h₀ h : List ℕ} {F : ℕ → List Term} → Filling X d₀ h₀ F L k d h → L ≤ k → h ≡ add_h h₀ (F L)
+end_h {h₀ = h₀} {F = F} f u = f.h_is ∙ ap (λ k. add_h h₀ (F k)) (N.le_antisymm f.within u)
 
-pub long-d : {X L k : ℕ} {d₀ d : List ℤ} {h₀ h : List ℕ} {F : ℕ → List Term} → Filling X d₀ h₀ F L k d h → length d ≡ length d₀
-long-d {k = k} {d₀ = d₀} {F = F} f = ap length f.d-is ∙ length-addD d₀ (F k)
+pub long_d : {X L k : ℕ} {d₀ d : List ℤ} {h₀ h : List ℕ} {F : ℕ → List Term} → Filling X d₀ h₀ F L k d h → length d ≡ length d₀
+long_d {k = k} {d₀ = d₀} {F = F} f = ap length f.d_is ∙ length_add_d d₀ (F k)
 
-pub long-h : {X L k : ℕ} {d₀ d : List ℤ} {h₀ h : List ℕ} {F : ℕ → List Term} → Filling X d₀ h₀ F L k d h → length h ≡ length h₀
-long-h {k = k} {h₀ = h₀} {F = F} f = ap length f.h-is ∙ length-addH h₀ (F k)
+pub long_h : {X L k : ℕ} {d₀ d : List ℤ} {h₀ h : List ℕ} {F : ℕ → List Term} → Filling X d₀ h₀ F L k d h → length h ≡ length h₀
+long_h {k = k} {h₀ = h₀} {F = F} f = ap length f.h_is ∙ length_add_h h₀ (F k)

@@ -6,19 +6,19 @@ use Rattle.fund.specs.declared.Frequencies.{Frequencies}
 use Rattle.fund.specs.declared.Life.{Life}
 use Rattle.fund.specs.Base.{if◌then◌else◌}
 use Rattle.fund.specs.Folding.{claim, stay, single}
-use Rattle.fund.specs.Transform.{unit, deathWeight, disabilityWeight, w}
+use Rattle.fund.specs.Transform.{unit, death_weight, disability_weight, w}
 
-abbrev pub lambdaPart : Frequencies → Life → ℕ
-lambdaPart ab m = if single m then 0 else deathWeight ab m + disabilityWeight ab m
+abbrev pub lambda_part : Frequencies → Life → ℕ
+lambda_part ab m = if single m then 0 else death_weight ab m + disability_weight ab m
 
-abbrev pub singleLoad : Life → ℕ
-singleLoad m = if single m then up (unit * claim m) (stay m) else 0
+abbrev pub single_load : Life → ℕ
+single_load m = if single m then up (unit * claim m) (stay m) else 0
 
-abbrev pub loadPart : Frequencies → Life → ℕ
-loadPart ab m = lambdaPart ab m + singleLoad m
+abbrev pub load_part : Frequencies → Life → ℕ
+load_part ab m = lambda_part ab m + single_load m
 
-abbrev pub truncationPart : ℕ → Life → ℕ
-truncationPart r m = if single m then up (w m (suc r) * stay m) ((stay m - claim m) * suc r) else 0
+abbrev pub truncation_part : ℕ → Life → ℕ
+truncation_part r m = if single m then up (w m (suc r) * stay m) ((stay m - claim m) * suc r) else 0
 
-abbrev pub meanPart : Frequencies → Life → ℕ
-meanPart ab m = if single m then (m.q * m.d + m.i * m.e) * 10 ^ 6 else deathWeight ab m * m.d + disabilityWeight ab m * m.e
+abbrev pub mean_part : Frequencies → Life → ℕ
+mean_part ab m = if single m then (m.q * m.d + m.i * m.e) * 10 ^ 6 else death_weight ab m * m.d + disability_weight ab m * m.e

@@ -1,5 +1,5 @@
 -- Laws of pieces in a text: two pieces one behind the other are one piece (puts_then), also where the text is too short for them. A piece
--- for which there is room is put whole (puts-all), and from the text's start it is written (puts-written).
+-- for which there is room is put whole (puts_all), and from the text's start it is written (puts_written).
 use mathlib.Core.Path.{◌≡◌, refl, sym, ap, ◌∙◌}
 use mathlib.Core.Logic.{◌⊎◌, inl, inr, ⊎_elim}
 use mathlib.Core.Bool.{Bool, true, false}
@@ -14,29 +14,29 @@ use lib.Seq.{set_out, sets, length-sets, sets-eq, take_at, drop_at}
 use Rattle.writing.specs.Writing.{Puts, Written}
 
 -- Bytes beyond the end change nothing.
-sets-out : (text : List ℕ) (at : ℕ) (piece : List ℕ) → length text ≤ at → sets text at piece ≡ text
-sets-out text at [] h = refl
-sets-out text at (x ∷ piece) h = ap (λ t. sets t (suc at) piece) (set_out text at x h) ∙ sets-out text (suc at) piece (omega arith)
+sets_out : (text : List ℕ) (at : ℕ) (piece : List ℕ) → length text ≤ at → sets text at piece ≡ text
+sets_out text at [] h = refl
+sets_out text at (x ∷ piece) h = ap (λ t. sets t (suc at) piece) (set_out text at x h) ∙ sets_out text (suc at) piece (omega arith)
 
-sets-append : (a b text : List ℕ) (at : ℕ) → sets (sets text at a) (at + length a) b ≡ sets text at (a ++ b)
-sets-append [] b text at = rw add-zero
-sets-append (x ∷ a) b text at = rw (add-suc, ← suc-add) (sets-append a b _ (suc at))
+sets_append : (a b text : List ℕ) (at : ℕ) → sets (sets text at a) (at + length a) b ≡ sets text at (a ++ b)
+sets_append [] b text at = rw add-zero
+sets_append (x ∷ a) b text at = rw (add-suc, ← suc-add) (sets_append a b _ (suc at))
 
 pub puts_none : (text : List ℕ) (at : ℕ) → Puts text at [] text at
 puts_none text at = record { stored = refl; behind = omega arith }
 
-pub puts-as : {before : List ℕ} {at : ℕ} {piece after : List ℕ} {next : ℕ} (other : List ℕ) → piece ≡ other → Puts before at other after next → Puts before at piece after next
-puts-as other e p = rw e p
+pub puts_as : {before : List ℕ} {at : ℕ} {piece after : List ℕ} {next : ℕ} (other : List ℕ) → piece ≡ other → Puts before at other after next → Puts before at piece after next
+puts_as other e p = rw e p
 
-pub puts-length : {before : List ℕ} {at : ℕ} {piece after : List ℕ} {next : ℕ} → Puts before at piece after next → length after ≡ length before
-puts-length {before} {at} {piece} p = ap length p.stored ∙ length-sets before at piece
+pub puts_length : {before : List ℕ} {at : ℕ} {piece after : List ℕ} {next : ℕ} → Puts before at piece after next → length after ≡ length before
+puts_length {before} {at} {piece} p = ap length p.stored ∙ length-sets before at piece
 
-pub puts-all : {before : List ℕ} {at : ℕ} {piece after : List ℕ} {next : ℕ}
+pub puts_all : {before : List ℕ} {at : ℕ} {piece after : List ℕ} {next : ℕ}
     → Puts before at piece after next → at + length piece ≤ length before → next ≡ at + length piece
-puts-all p h = omega (arith, p.behind)
+puts_all p h = omega (arith, p.behind)
 
-fits-or-not : (m n : ℕ) → (m < n) ⊎ (n ≤ m)
-fits-or-not m n = go (ltb m n) refl
+fits_or_not : (m n : ℕ) → (m < n) ⊎ (n ≤ m)
+fits_or_not m n = go (ltb m n) refl
   where
     go : (b : Bool) → ltb m n ≡ b → (m < n) ⊎ (n ≤ m)
     go true e = inl (ltb-true m n e)
@@ -49,16 +49,16 @@ puts_then {before} {at} {a} {middle} {m} {b} p q =
       stored =
           q.stored
           ∙ ⊎_elim
-          (λ h. let e : m ≡ at + length a = omega (arith, p.behind) in rw (e, p.stored) (sets-append a b before at))
+          (λ h. let e : m ≡ at + length a = omega (arith, p.behind) in rw (e, p.stored) (sets_append a b before at))
           (λ h.
-          sets-out middle m b (omega (arith, p.behind, puts-length p)) ∙ p.stored
-          ∙ sym (sets-out (sets before at a) (at + length a) b (omega (arith, length-sets before at a))) ∙ sets-append a b before at)
-          (fits-or-not (at + length a) (length before));
-      behind = omega (arith, q.behind, p.behind, puts-length p, length-append a b);
+          sets_out middle m b (omega (arith, p.behind, puts_length p)) ∙ p.stored
+          ∙ sym (sets_out (sets before at a) (at + length a) b (omega (arith, length-sets before at a))) ∙ sets_append a b before at)
+          (fits_or_not (at + length a) (length before));
+      behind = omega (arith, q.behind, p.behind, puts_length p, length-append a b);
     }
 
-pub puts-written : {text piece after : List ℕ} {size : ℕ} → length piece ≤ length text → Puts text 0 piece after size → Written piece text after size
-puts-written {text} {piece} {after} {size} h p =
+pub puts_written : {text piece after : List ℕ} {size : ℕ} → length piece ≤ length text → Puts text 0 piece after size → Written piece text after size
+puts_written {text} {piece} {after} {size} h p =
     let e : size ≡ length piece = omega (arith, p.behind) in
     let s : after ≡ piece ++ drop size text = rw e (p.stored ∙ rw zero-add at (sets-eq piece text 0 (omega arith))) in
     record { whole = e; start = ap (take size) s ∙ take_at piece _ size (sym e); beyond = ap (drop size) s ∙ drop_at piece _ size (sym e) }

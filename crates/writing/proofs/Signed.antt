@@ -31,11 +31,11 @@ module _ {f : ℕ → List ℕ} {text : ℤ → List ℕ} (signs : WithSign f te
 
   -- With the magnitude n of the word.
   module _ (z : ℤ) (n : ℕ) (fits : SFits w64 z) (e : n ≡ nat_abs (to_z w64 (of_z w64 z))) where
-    magnitude-is : nat_abs z ≡ n
-    magnitude-is = sym (e ∙ ap nat_abs (to_z-of_z fits))
+    magnitude_is : nat_abs z ≡ n
+    magnitude_is = sym (e ∙ ap nat_abs (to_z-of_z fits))
 
     pub signed_below : lt_z (to_z w64 (of_z w64 z)) (pos 0) ≡ true → text z ≡ 45 ∷ f n
-    signed_below t = below_at z (sign z fits t) ∙ ap (λ k. 45 ∷ f k) magnitude-is
+    signed_below t = below_at z (sign z fits t) ∙ ap (λ k. 45 ∷ f k) magnitude_is
 
     pub signed_above : lt_z (to_z w64 (of_z w64 z)) (pos 0) ≡ false → text z ≡ f n
-    signed_above t = above_at z (sign z fits t) ∙ ap f magnitude-is
+    signed_above t = above_at z (sign z fits t) ∙ ap f magnitude_is

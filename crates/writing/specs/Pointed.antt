@@ -12,6 +12,6 @@ unfoldable pub pointed : ℕ → ℕ → List ℕ
 pointed k n = decimal (n / 10 ^ k) ++ (46 ∷ padded k n)
 
 -- A negative number starts with `-`.
-unfoldable pub signedPointed : ℕ → ℤ → List ℕ
-signedPointed k (pos n) = pointed k n
-signedPointed k (negsuc n) = 45 ∷ pointed k (suc n)
+unfoldable pub signed_pointed : ℕ → ℤ → List ℕ
+signed_pointed k (pos n) = pointed k n
+signed_pointed k (negsuc n) = 45 ∷ pointed k (suc n)

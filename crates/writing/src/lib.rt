@@ -1,9 +1,9 @@
 // Puts bytes into a text. Each function puts one piece from a place on, and returns the place behind it. A piece for which the text
 // is too short is cut at the text's end.
 ghost use Rattle.std.specs.Prelude.{◌≡◌, [], ◌∷◌, ◌++◌, ◌+◌, ◌/◌, ◌^◌, ◌<◌};
-ghost use Rattle.fund.specs.Listing.{decimal, signedDecimal, joined};
+ghost use Rattle.fund.specs.Listing.{decimal, signed_decimal, joined};
 ghost use Rattle.writing.specs.Writing.{Puts};
-ghost use Rattle.writing.specs.Pointed.{padded, pointed, signedPointed};
+ghost use Rattle.writing.specs.Pointed.{padded, pointed, signed_pointed};
 
 // Puts the byte, where the text has a place for it.
 pub fn put_byte(byte: u8, text: &mut [u8], at: usize) -> usize
@@ -50,7 +50,7 @@ fn put_decimal(n: u64, text: &mut [u8], at: usize) -> usize
 
 // Puts the number in decimal, a negative one with its sign.
 fn put_signed(z: i64, text: &mut [u8], at: usize) -> usize
-    ensures { Puts text.old at (signedDecimal z) text.new result }
+    ensures { Puts text.old at (signed_decimal z) text.new result }
 {
     let n = whole::magnitude(z);
     if z < 0 {
@@ -70,7 +70,7 @@ pub fn put_figure(n: u64, end: u8, text: &mut [u8], at: usize) -> usize
 
 // The same for a number that may be negative.
 pub fn put_signed_figure(z: i64, end: u8, text: &mut [u8], at: usize) -> usize
-    ensures { Puts text.old at (signedDecimal z ++ (end ∷ [])) text.new result }
+    ensures { Puts text.old at (signed_decimal z ++ (end ∷ [])) text.new result }
 {
     let behind = put_signed(z, text, at);
     put_byte(end, text, behind)
@@ -123,7 +123,7 @@ pub fn put_pointed(places: u8, n: u64, text: &mut [u8], at: usize) -> usize
 
 // The same for a number that may be negative.
 pub fn put_signed_pointed(places: u8, z: i64, text: &mut [u8], at: usize) -> usize
-    ensures { Puts text.old at (signedPointed places z) text.new result }
+    ensures { Puts text.old at (signed_pointed places z) text.new result }
 {
     let n = whole::magnitude(z);
     if z < 0 {

@@ -4,7 +4,7 @@ use Prim.Native.Nat.{◌≤◌, ◌-◌}
 use native.Mathlib.Omega.{arith}
 use lib.ListN.{length, drop, drop_of_length-le}
 use Rattle.answer_text.specs.Shown.{bounded}
-use Rattle.answer_text.proofs.Pieces.{bounded-step, bounded-over}
+use Rattle.answer_text.proofs.Pieces.{bounded_step, bounded_over}
 use Rattle.answer_text.proofs.all_bounded.Statement.{statement}
 use Rattle.answer_text.proofs.all_bounded.Tie as tie
 
@@ -20,12 +20,12 @@ loop-holds c = (omega arith, refl)
 returns : tie.Need-returns invariant-loop decreases-loop
 returns c =
     let l = c.before.before.before in
-    sym (sym l.loop.invariant.1 ∙ bounded-over l.before.args.r.now l.loop.x c.before.before.loop-test.true c.if1.true)
+    sym (sym l.loop.invariant.1 ∙ bounded_over l.before.args.r.now l.loop.x c.before.before.loop-test.true c.if1.true)
 
 loop-again : tie.Need-loop-preserved invariant-loop decreases-loop
 loop-again c =
     let l = c.before.before.before in
-    (omega arith, sym (bounded-step l.before.args.r.now l.loop.x c.before.before.loop-test.true c.if1.false) ∙ l.loop.invariant.1)
+    (omega arith, sym (bounded_step l.before.args.r.now l.loop.x c.before.before.loop-test.true c.if1.false) ∙ l.loop.invariant.1)
 
 returns-2 : tie.Need-returns-2 invariant-loop decreases-loop
 unfolding bounded

@@ -6,7 +6,7 @@ use borrow.Author.Tests.{not-true, not-false}
 use lib.ListN.{length}
 use Rattle.answer_text.specs.Shown.{printable}
 use Rattle.writing.proofs.PieceLaws.{written_none, written_as}
-use Rattle.answer_text.proofs.Range.{Printable, in-range, given, listing-out, listing-accepted, listing-refused}
+use Rattle.answer_text.proofs.Range.{Printable, in_range, given, listing_out, listing_accepted, listing_refused}
 use borrow.Author.Rules.{rules}
 use Rattle.answer_text.proofs.listing.Statement.{statement}
 use Rattle.answer_text.proofs.listing.Tie as tie
@@ -16,10 +16,10 @@ test : (c : tie.Else1) → let a = c.before.before.before.before.args in printab
 test c = sym c.before.printable.ensures ∙ not-false _ c.if1.false
 
 range : (c : tie.Else1) → let a = c.before.before.before.before.args in Printable a.figures.truncation a.horizon (length a.f.now) a.r.now (length a.sums.now) (length a.text.now)
-range c = in-range _ _ _ _ _ _ (test c)
+range c = in_range _ _ _ _ _ _ (test c)
 
 returns : tie.Need-returns
-returns c = written_as _ (listing-out _ _ _ (sym c.before.printable.ensures ∙ not-true _ c.if1.true)) (written_none _)
+returns c = written_as _ (listing_out _ _ _ (sym c.before.printable.ensures ∙ not-true _ c.if1.true)) (written_none _)
 
 add-count : tie.Need-overflow-add-count
 add-count c = omega (arith, (range c).horizon)
@@ -27,22 +27,22 @@ add-count c = omega (arith, (range c).horizon)
 put-accepted-requires : tie.Need-put-accepted-requires
 put-accepted-requires c κs =
     let r = range c.before.before.before in
-    (given _ _ _ r, r.enough-text)
+    (given _ _ _ r, r.enough_text)
 
 put-refusal-requires : tie.Need-put-refusal-requires
-put-refusal-requires c κs = omega (arith, (range c.before.before.before.before).enough-text)
+put-refusal-requires c κs = omega (arith, (range c.before.before.before.before).enough_text)
 
 returns-2 : tie.Need-returns-2
 returns-2 c =
     let p = c.before.before in
     let told = p.before.before in
-    written_as _ (listing-accepted _ _ _ (test told.before.before) told.enum_told.given.1) p.put-accepted.ensures
+    written_as _ (listing_accepted _ _ _ (test told.before.before) told.enum_told.given.1) p.put-accepted.ensures
 
 returns-3 : tie.Need-returns-3
 returns-3 c =
     let p = c.before.before in
     let told = p.before.before.before in
-    written_as _ (listing-refused _ _ _ _ _ (test told.before.before) told.verdict.given.1) p.put-refusal.ensures
+    written_as _ (listing_refused _ _ _ _ _ (test told.before.before) told.verdict.given.1) p.put-refusal.ensures
 
 pub listing-spec : {M : Type 1} → statement M
 listing-spec =

@@ -2,12 +2,12 @@
 use mir.Facts.{to_z-of_z}
 use borrow.Author.Rules.{rules}
 use Rattle.writing.proofs.PieceLaws.{puts_then}
-use Rattle.answer_text.specs.Pieces.{boundedText}
+use Rattle.answer_text.specs.Pieces.{bounded_text}
 use Rattle.answer_text.proofs.put_bounded.Statement.{statement}
 use Rattle.answer_text.proofs.put_bounded.Tie as tie
 
 returns : tie.Need-returns
-unfolding boundedText
+unfolding bounded_text
 returns c =
     let bound = c.before.before in
     let figure = bound.before.before.before.before in

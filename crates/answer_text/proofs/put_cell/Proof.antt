@@ -3,7 +3,7 @@ use mir.Facts.{to_z-of_z}
 use borrow.Author.Rules.{rules}
 use Rattle.fund.specs.Base.{bytes}
 use Rattle.writing.proofs.PieceLaws.{puts_then}
-use Rattle.answer_text.proofs.Pieces.{cell-pieces}
+use Rattle.answer_text.proofs.Pieces.{cell_pieces}
 use Rattle.answer_text.proofs.put_cell.Statement.{statement}
 use Rattle.answer_text.proofs.put_cell.Tie as tie
 
@@ -15,7 +15,7 @@ returns c =
     let x = f.before.before.before.before in
     let key = x.before.before.before.before in
     let s = key.before.before.before.before in
-    rw cell-pieces
+    rw cell_pieces
     (puts_then key.put-key.ensures (puts_then x.put-figure.ensures
     (puts_then (rw (to_z-of_z s.ranges.f) at f.put-bounded.ensures) (rw (to_z-of_z s.ranges.sum) at sum.put-bounded2.ensures))))
 

@@ -1,27 +1,27 @@
 -- `answer_text::put_cells` meets its contract. The invariant: `bound` is the bound before x, and the lines of the cells before x are put, which have
--- at most `most-cell-line` bytes each.
+-- at most `most_cell_line` bytes each.
 use mathlib.Core.Path.{◌≡◌}
 use Prim.Native.Nat.{◌≤◌, ◌-◌, ◌+◌, ◌*◌}
 use native.Mathlib.Omega.{arith}
 use lib.ListN.{length, get_or}
 use borrow.Author.Rules.{rules, sfits_of}
 use Rattle.fund.specs.Base.{sum}
-use Rattle.fund.specs.Limits.{most-horizon, most-truncation, most-bound}
-use Rattle.fund.specs.Listing.{cellLines}
-use Rattle.answer_text.specs.Shown.{most-cell-line}
+use Rattle.fund.specs.Limits.{most_horizon, most_truncation, most_bound}
+use Rattle.fund.specs.Listing.{cell_lines}
+use Rattle.answer_text.specs.Shown.{most_cell_line}
 use Rattle.writing.specs.Writing.{Puts}
-use Rattle.writing.proofs.PieceLaws.{puts_none, puts-length, puts_then}
-use Rattle.answer_text.proofs.Pieces.{cell-words, boundBefore, bound-step, cells-step, bounded-before, sum-most}
-use Rattle.answer_text.proofs.ListingSizes.{cells-size}
+use Rattle.writing.proofs.PieceLaws.{puts_none, puts_length, puts_then}
+use Rattle.answer_text.proofs.Pieces.{cell_words, bound_before, bound_step, cells_step, bounded_before, sum_most}
+use Rattle.answer_text.proofs.ListingSizes.{cells_size}
 use Rattle.answer_text.proofs.put_cells.Statement.{statement}
 use Rattle.answer_text.proofs.put_cells.Tie as tie
 
 abbrev invariant-loop : tie.invariant-loop
 invariant-loop truncation f r sums count text₀ at cut bound₀ next₀ x₀ text bound next x =
     (x ≤ count)
-    × (bound ≡ boundBefore truncation r x)
-    × Puts text₀ at (cellLines truncation f r sums 0 x) text next
-    × (length (cellLines truncation f r sums 0 x) ≤ most-cell-line * x)
+    × (bound ≡ bound_before truncation r x)
+    × Puts text₀ at (cell_lines truncation f r sums 0 x) text next
+    × (length (cell_lines truncation f r sums 0 x) ≤ most_cell_line * x)
 
 abbrev decreases-loop : tie.decreases-loop
 decreases-loop truncation f r sums count text₀ at cut bound₀ next₀ x₀ text bound next x = count - x
@@ -30,16 +30,16 @@ decreases-loop truncation f r sums count text₀ at cut bound₀ next₀ x₀ te
 abbrev start : tie.In-loop invariant-loop decreases-loop → tie.Start invariant-loop decreases-loop
 start c = c.before.before.before.before
 
-bounds : (c : tie.In-loop invariant-loop decreases-loop) → (get_or (start c).args.r.now c.before.loop.x 0 ≤ most-bound) × (c.before.loop.bound ≤ most-bound * most-horizon + 2 * most-truncation)
+bounds : (c : tie.In-loop invariant-loop decreases-loop) → (get_or (start c).args.r.now c.before.loop.x 0 ≤ most_bound) × (c.before.loop.bound ≤ most_bound * most_horizon + 2 * most_truncation)
 bounds c =
     let s = start c in
     let l = c.before.loop in (
-      bounded-before _ _ s.pre.bounds l.x c.loop-test.true,
-      omega (arith, sum-most s.args.count s.args.r.now s.pre.bounds l.x l.invariant.0),
+      bounded_before _ _ s.pre.bounds l.x c.loop-test.true,
+      omega (arith, sum_most s.args.count s.args.r.now s.pre.bounds l.x l.invariant.0),
     )
 
 loop-holds : tie.Need-loop-init invariant-loop decreases-loop
-unfolding sum cellLines
+unfolding sum cell_lines
 loop-holds c = (omega arith, omega arith, puts_none _ _, omega arith)
 
 add-within : tie.Need-overflow-add-within invariant-loop decreases-loop
@@ -56,16 +56,16 @@ loop-again c =
     let l = t.before.loop in
     let b = bounds t in
     let p = c.before.before.put-cell.ensures in
-    let step = cells-step s.truncation s.f.now s.r.now s.sums.now l.x l.bound l.invariant.1 in (
+    let step = cells_step s.truncation s.f.now s.r.now s.sums.now l.x l.bound l.invariant.1 in (
       omega arith,
-      omega (arith, bound-step s.truncation s.r.now l.x),
-      rw step (puts_then l.invariant.2 (cell-words _ _ _ _ _ (sfits_of a.before.put-cell-arg.given) (sfits_of a.put-cell-arg2.given) p)),
-      cells-size s.truncation s.f.now s.r.now s.sums.now l.x l.bound l.invariant.1 l.invariant.3
+      omega (arith, bound_step s.truncation s.r.now l.x),
+      rw step (puts_then l.invariant.2 (cell_words _ _ _ _ _ (sfits_of a.before.put-cell-arg.given) (sfits_of a.put-cell-arg2.given) p)),
+      cells_size s.truncation s.f.now s.r.now s.sums.now l.x l.bound l.invariant.1 l.invariant.3
           (omega arith) (sfits_of a.before.put-cell-arg.given) (omega arith) (sfits_of a.put-cell-arg2.given) (omega arith),
     )
 
 same_length : tie.Need-same-length invariant-loop decreases-loop
-same_length c = puts-length c.before.loop.invariant.2
+same_length c = puts_length c.before.loop.invariant.2
 
 returns : tie.Need-returns invariant-loop decreases-loop
 returns c =

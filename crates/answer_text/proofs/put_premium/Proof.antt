@@ -6,21 +6,21 @@ use borrow.Author.Rules.{rules}
 use Rattle.fund.specs.Base.{bytes}
 use Rattle.fund.specs.Listing.{joined}
 use Rattle.writing.proofs.PieceLaws.{puts_then}
-use Rattle.answer_text.specs.Pieces.{premiumLines}
+use Rattle.answer_text.specs.Pieces.{premium_lines}
 use Rattle.answer_text.proofs.put_premium.Statement.{statement}
 use Rattle.answer_text.proofs.put_premium.Tie as tie
 
-premium-same : (s : tie.Start) → to_z w64 (of_z w64 s.args.figures.premium) ≡ s.args.figures.premium
-premium-same s = search rules
+premium_same : (s : tie.Start) → to_z w64 (of_z w64 s.args.figures.premium) ≡ s.args.figures.premium
+premium_same s = search rules
 
 returns : tie.Need-returns
-unfolding premiumLines joined bytes
+unfolding premium_lines joined bytes
 returns c =
     let line = c.before.before in
     let figure = line.before.before.before.before.before in
     let key = figure.before.before.before.before.before in
     let s = key.before.before.before.before in
-    puts_then key.put-key.ensures (puts_then (rw (premium-same s) at figure.put-signed-figure.ensures) line.put-line.ensures)
+    puts_then key.put-key.ensures (puts_then (rw (premium_same s) at figure.put-signed-figure.ensures) line.put-line.ensures)
 
 pub put-premium-spec : {M : Type 1} → statement M
 put-premium-spec =

@@ -1,9 +1,9 @@
 -- `answer_text::put_refusal` meets its contract: the key, the number with the comma, and the place with the line feed.
 use borrow.Author.Rules.{rules}
 use Rattle.fund.specs.Base.{bytes}
-use Rattle.writing.proofs.PieceLaws.{puts-as, puts_then, puts-written}
-use Rattle.answer_text.proofs.Pieces.{refusal-pieces}
-use Rattle.answer_text.proofs.ListingSizes.{refusal-size}
+use Rattle.writing.proofs.PieceLaws.{puts_as, puts_then, puts_written}
+use Rattle.answer_text.proofs.Pieces.{refusal_pieces}
+use Rattle.answer_text.proofs.ListingSizes.{refusal_size}
 use Rattle.answer_text.proofs.put_refusal.Statement.{statement}
 use Rattle.answer_text.proofs.put_refusal.Tie as tie
 
@@ -15,9 +15,9 @@ returns c =
     let key = figure.before.before.before.before in
     let n = key.before.before.before in
     let s = n.before.before in
-    puts-written
-    (refusal-size s.args.why _ _ n.number.ensures n.number.type-inv s.ranges.place.fits s.requires)
-    (puts-as _ (refusal-pieces _ _ _ n.number.ensures) (puts_then key.put-key.ensures (puts_then figure.put-figure.ensures place.put-figure2.ensures)))
+    puts_written
+    (refusal_size s.args.why _ _ n.number.ensures n.number.type-inv s.ranges.place.fits s.requires)
+    (puts_as _ (refusal_pieces _ _ _ n.number.ensures) (puts_then key.put-key.ensures (puts_then figure.put-figure.ensures place.put-figure2.ensures)))
 
 pub put-refusal-spec : {M : Type 1} → statement M
 put-refusal-spec =

@@ -1,7 +1,7 @@
 -- The contract of the pricing call, in plain words.
 use borrow.Author.Rules.{rules}
-use Rattle.claims.proofs.Calls.{price-answered, price-demands}
-use Rattle.claims.proofs.AsWrittenOut.{as-written-out}
+use Rattle.claims.proofs.Calls.{price_answered, price_demands}
+use Rattle.claims.proofs.AsWrittenOut.{as_written_out}
 use Rattle.claims.proofs.claimed_price.Statement.{statement}
 use Rattle.claims.proofs.claimed_price.Tie as tie
 
@@ -9,8 +9,8 @@ returns : tie.Need-returns
 returns c =
     let p = c.before.before.before.before.before.before.before.price in
     let o = p.new.1.1 in (
-      price-demands _ _ _ _ p.result o.0 o.1.0 o.1.1.0 o.1.1.1.0 o.1.1.1.1.0 p.ensures,
-      as-written-out _ _ _ _ (price-answered _ _ _ _ p.result o.0 o.1.0 o.1.1.0 o.1.1.1.0 o.1.1.1.1.0 p.ensures),
+      price_demands _ _ _ _ p.result o.0 o.1.0 o.1.1.0 o.1.1.1.0 o.1.1.1.1.0 p.ensures,
+      as_written_out _ _ _ _ (price_answered _ _ _ _ p.result o.0 o.1.0 o.1.1.0 o.1.1.1.0 o.1.1.1.1.0 p.ensures),
     )
 
 pub claimed-price-spec : {M : Type 1} → statement M

@@ -1,5 +1,5 @@
 -- The listing of what the call answers is that of the two files.
-use Rattle.fund_printing.proofs.ShownListing.{written-within}
+use Rattle.fund_printing.proofs.ShownListing.{written_within}
 use Rattle.comparison_printing.proofs.ShownComparison.{prints}
 use borrow.Author.Rules.{rules}
 use Rattle.comparison_printing.proofs.print.Statement.{statement}
@@ -11,7 +11,7 @@ returns c =
     let lent = listed.before.before.before.before.before.before in
     let called = lent.before.before.before.before.before.before in
     let w = prints _ _ _ _ _ _ _ _ _ _ _ _ _ _ called.compare.ensures listed.listing.ensures in
-    (w, written-within w.written)
+    (w, written_within w.written)
 
 pub print-spec : {M : Type 1} → statement M
 print-spec =

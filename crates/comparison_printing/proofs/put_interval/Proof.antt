@@ -2,13 +2,13 @@
 use mir.Facts.{to_z-of_z}
 use Rattle.fund.specs.Listing.{joined}
 use Rattle.writing.proofs.PieceLaws.{puts_then}
-use Rattle.comparison_printing.specs.Lines.{intervalLine}
+use Rattle.comparison_printing.specs.Lines.{interval_line}
 use borrow.Author.Rules.{rules}
 use Rattle.comparison_printing.proofs.put_interval.Statement.{statement}
 use Rattle.comparison_printing.proofs.put_interval.Tie as tie
 
 returns : tie.Need-returns
-unfolding intervalLine joined
+unfolding interval_line joined
 returns c =
     let end = c.before.before in
     let most = end.before.before.before.before in

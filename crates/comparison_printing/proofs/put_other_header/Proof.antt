@@ -4,21 +4,21 @@ use lib.ListN.{length}
 use borrow.Author.Tests.{eq-eqb, ne_eqb}
 use Rattle.fund.specs.Base.{bytes}
 use Rattle.writing.proofs.PieceLaws.{puts_none}
-use Rattle.comparison_printing.specs.Lines.{otherHeader}
-use Rattle.comparison_printing.proofs.LineSizes.{header-size}
+use Rattle.comparison_printing.specs.Lines.{other_header}
+use Rattle.comparison_printing.proofs.LineSizes.{header_size}
 use borrow.Author.Rules.{rules}
 use Rattle.comparison_printing.proofs.put_other_header.Statement.{statement}
 use Rattle.comparison_printing.proofs.put_other_header.Tie as tie
 
-small : (s : tie.Start) → length (otherHeader s.args.differences) ≤ 34
-small s = header-size s.args.differences (search rules)
+small : (s : tie.Start) → length (other_header s.args.differences) ≤ 34
+small s = header_size s.args.differences (search rules)
 
 returns : tie.Need-returns
-unfolding otherHeader
+unfolding other_header
 returns c = (rw (eq-eqb _ _ c.if1.true) (puts_none _ _), small c.before.before.before)
 
 returns-2 : tie.Need-returns-2
-unfolding otherHeader bytes
+unfolding other_header bytes
 returns-2 c =
     let line = c.before.before in
     let other = line.before.before.before in

@@ -1,13 +1,13 @@
 -- The key, the number and the line feed.
 use Rattle.fund.specs.Listing.{joined}
 use Rattle.writing.proofs.PieceLaws.{puts_then}
-use Rattle.comparison_printing.specs.Lines.{pointedLine}
+use Rattle.comparison_printing.specs.Lines.{pointed_line}
 use borrow.Author.Rules.{rules}
 use Rattle.comparison_printing.proofs.put_pointed_line.Statement.{statement}
 use Rattle.comparison_printing.proofs.put_pointed_line.Tie as tie
 
 returns : tie.Need-returns
-unfolding pointedLine joined
+unfolding pointed_line joined
 returns c =
     let end = c.before.before in
     let figure = end.before.before.before.before in

@@ -2,13 +2,13 @@
 use mir.Facts.{to_z-of_z}
 use Rattle.fund.specs.Listing.{joined}
 use Rattle.writing.proofs.PieceLaws.{puts_then}
-use Rattle.comparison_printing.specs.Lines.{signedLine}
+use Rattle.comparison_printing.specs.Lines.{signed_line}
 use borrow.Author.Rules.{rules}
 use Rattle.comparison_printing.proofs.put_signed_line.Statement.{statement}
 use Rattle.comparison_printing.proofs.put_signed_line.Tie as tie
 
 returns : tie.Need-returns
-unfolding signedLine joined
+unfolding signed_line joined
 returns c =
     let end = c.before.before in
     let figure = end.before.before.before.before in

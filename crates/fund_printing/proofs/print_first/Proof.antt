@@ -2,7 +2,7 @@
 use mathlib.Core.Path.{sym}
 use borrow.Author.Rules.{rules}
 use lib.Seq.{length-take-le}
-use Rattle.fund_printing.proofs.ShownAsked.{prints-first}
+use Rattle.fund_printing.proofs.ShownAsked.{prints_first}
 use Rattle.fund_printing.proofs.print_first.Statement.{statement}
 use Rattle.fund_printing.proofs.print_first.Tie as tie
 
@@ -13,7 +13,7 @@ returns : tie.Need-returns
 returns c =
     let s = c.before.before.before.before.before.before.before in
     let p = c.before.before.print.ensures in
-    (prints-first s.args.asked s.args.buffer.now s.args.size s.requires p.0, p.1)
+    (prints_first s.args.asked s.args.buffer.now s.args.size s.requires p.0, p.1)
 
 pub print-first-spec : {M : Type 1} → statement M
 print-first-spec = tie.close (tie.spec slice-aggregate-print (λ c κs. search rules) (λ c. search rules) returns)

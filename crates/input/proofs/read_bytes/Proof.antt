@@ -3,7 +3,7 @@ use mathlib.Core.Path.{◌≡◌}
 use mir.Syntax.{w32}
 use mir.Val.{to_z, of_z}
 use borrow.Author.Rules.{rules}
-use Rattle.input.proofs.Memory.{closed-below}
+use Rattle.input.proofs.Memory.{closed_below}
 use Rattle.input.proofs.read_bytes.Statement.{statement}
 use Rattle.input.proofs.read_bytes.Tie as tie
 
@@ -13,7 +13,7 @@ returns c =
     let d = c.before.before.before.before.before.before in
     let fd = d.before.before.args.fd in
     let same : to_z w32 (of_z w32 fd) ≡ fd = search rules in
-    record { read = r.read; closed = λ e. r.closed (closed-below d.descriptor.ensures same e) }
+    record { read = r.read; closed = λ e. r.closed (closed_below d.descriptor.ensures same e) }
 
 pub read-bytes-spec : {M : Type 1} → statement M
 read-bytes-spec =

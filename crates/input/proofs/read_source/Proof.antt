@@ -12,7 +12,7 @@ use mir.Val.{to_z, of_z}
 use Rattle.io.specs.Counts.{clamp_len}
 use Rattle.input.specs.Reads.{full}
 use Rattle.input.specs.Input.{InMemory, Closed, ReadBytes}
-use Rattle.input.proofs.Memory.{BytesSoFar, none_yet, stops, goes_on, stops-failed, stops-ended, counts, part_length}
+use Rattle.input.proofs.Memory.{BytesSoFar, none_yet, stops, goes_on, stops_failed, stops_ended, counts, part_length}
 use Rattle.input.proofs.read_source.Statement.{statement}
 use Rattle.input.proofs.read_source.Tie as tie
 
@@ -36,24 +36,24 @@ turn c = c.before.before.before.before
 abbrev read_of : tie.After-count invariant-loop decreases-loop → tie.After-read-more invariant-loop decreases-loop
 read_of c = c.before.before.before.before.before.before
 
-room-left : (c : tie.After-read-more invariant-loop decreases-loop) → (turn c).loop.size < length (turn c).loop.buffer
-room-left c = c.before.before.before.loop-test.true
+room_left : (c : tie.After-read-more invariant-loop decreases-loop) → (turn c).loop.size < length (turn c).loop.buffer
+room_left c = c.before.before.before.loop-test.true
 
-has-read : (c : tie.After-read-more invariant-loop decreases-loop) {failed : Bool} →
+has_read : (c : tie.After-read-more invariant-loop decreases-loop) {failed : Bool} →
     ReadBytes (turn c).before.before.before.before.args.buffer.now c.read_more.new.1.1.1.1.0 (record { size = (turn c).loop.size; failed = failed })
-has-read c =
+has_read c =
     let e = c.read_more.ensures.extends.long in
     record { long = e ∙ (turn c).loop.invariant.1; inside = omega (arith, e, (turn c).loop.invariant.0) }
 
-not-failed : (c : tie.After-count invariant-loop decreases-loop) → lt_z (read_of c).read_more.result (pos 0) ≡ false
-not-failed c =
+not_failed : (c : tie.After-count invariant-loop decreases-loop) → lt_z (read_of c).read_more.result (pos 0) ≡ false
+not_failed c =
     let z = (read_of c).read_more.result in
     let same : to_z w64 (of_z w64 z) ≡ z = search rules in
     rw same at c.before.before.before.if1.false
 
-count-is : (c : tie.After-count invariant-loop decreases-loop) →
+count_is : (c : tie.After-count invariant-loop decreases-loop) →
     c.count.result ≡ clamp_len (read_of c).read_more.result (length (turn (read_of c)).loop.buffer - (turn (read_of c)).loop.size)
-count-is c =
+count_is c =
     let l = (turn (read_of c)).loop in
     let r = (read_of c).read_more in
     let same : to_z w64 (of_z w64 r.result) ≡ r.result = search rules in
@@ -66,8 +66,8 @@ returns c =
     let r = m.read_more in
     let same : to_z w64 (of_z w64 r.result) ≡ r.result = search rules in
     record {
-      read = has-read m;
-      memory = λ e. stops (i.2 e) r.ensures.extends (stops-failed (r.ensures.gives e) (rw same at c.if1.true) (room-left m));
+      read = has_read m;
+      memory = λ e. stops (i.2 e) r.ensures.extends (stops_failed (r.ensures.gives e) (rw same at c.if1.true) (room_left m));
       closed = λ e _. record { nothing = i.3 e; failed = refl };
     }
 
@@ -77,9 +77,9 @@ returns-2 c =
     let i = (turn m).loop.inv in
     let r = m.read_more.ensures in
     record {
-      read = has-read m;
-      memory = λ e. stops (i.2 e) r.extends (stops-ended (r.gives e) (not-failed c.before) (sym c.if2.true ∙ count-is c.before) (room-left m));
-      closed = λ e _. absurd (true≢false (sym (r.closed e) ∙ not-failed c.before));
+      read = has_read m;
+      memory = λ e. stops (i.2 e) r.extends (stops_ended (r.gives e) (not_failed c.before) (sym c.if2.true ∙ count_is c.before) (room_left m));
+      closed = λ e _. absurd (true≢false (sym (r.closed e) ∙ not_failed c.before));
     }
 
 loop-again : tie.Need-loop-preserved invariant-loop decreases-loop
@@ -89,8 +89,8 @@ loop-again c =
     let r = m.read_more.ensures in (
       search rules,
       r.extends.long ∙ i.1,
-      λ e. goes_on (i.2 e) (counts (r.gives e) (not-failed c.before) (count-is c.before)) (omega (arith, c.if2.false)) (room-left m),
-      λ e. absurd (true≢false (sym (r.closed e) ∙ not-failed c.before)),
+      λ e. goes_on (i.2 e) (counts (r.gives e) (not_failed c.before) (count_is c.before)) (omega (arith, c.if2.false)) (room_left m),
+      λ e. absurd (true≢false (sym (r.closed e) ∙ not_failed c.before)),
     )
 
 returns-3 : tie.Need-returns-3 invariant-loop decreases-loop

@@ -3,7 +3,7 @@ use borrow.Author.Rules.{rules, sfits_of}
 use mir.Syntax.{w64}
 use mir.Val.{SFits}
 use mir.Facts.{to_z-of_z}
-use Rattle.miguepo.proofs.Complement.{bits-read}
+use Rattle.miguepo.proofs.Complement.{bits_read}
 use Rattle.miguepo.proofs.hand_over.Statement.{statement}
 use Rattle.miguepo.proofs.hand_over.Tie as tie
 
@@ -18,7 +18,7 @@ returns c =
     let a = number.before.before.args in
     let fits : SFits w64 a.priced.figures.premium = sfits_of {w = w64} bits.before.struct_told.given.1.1.0.1 in (
       rw (number.verdict-number.ensures, place.verdict-place.ensures, size.size-between.ensures, rw (to_z-of_z fits) at bits.bits.ensures, reached-found.level-reached.ensures, place_found.quantile-place.ensures),
-      bits-read _ fits,
+      bits_read _ fits,
     )
 
 pub hand-over-spec : {M : Type 1} → statement M

@@ -1,7 +1,7 @@
 -- What `comparison::compare` answers is handed over.
 use borrow.Author.Rules.{rules}
 use Rattle.miguepo.proofs.HostedFields.{hosts}
-use Rattle.miguepo_comparison.proofs.HostingComparison.{hosts-comparison}
+use Rattle.miguepo_comparison.proofs.HostingComparison.{hosts_comparison}
 use Rattle.miguepo_comparison.proofs.miguepo_compare.Statement.{statement}
 use Rattle.miguepo_comparison.proofs.miguepo_compare.Tie as tie
 
@@ -18,9 +18,9 @@ returns c =
     let o = p.last.1.1.1 in
     let q = o.1.1.1.1.1 in
     let k = p.ensures in
-    hosts-comparison _ _ _ _ _ p.result _ _ k _ _ _
-    (hosts _ _ _ _ p.result.old o.0 o.1.0 o.1.1.0 o.1.1.1.0 o.1.1.1.1.0 k.old-priced _ old.hand-over.ensures)
-    (hosts _ _ _ _ p.result.new q.0 q.1.0 q.1.1.0 q.1.1.1.0 q.1.1.1.1.0 k.new-priced _ new.hand-over2.ensures)
+    hosts_comparison _ _ _ _ _ p.result _ _ k _ _ _
+    (hosts _ _ _ _ p.result.old o.0 o.1.0 o.1.1.0 o.1.1.1.0 o.1.1.1.1.0 k.old_priced _ old.hand-over.ensures)
+    (hosts _ _ _ _ p.result.new q.0 q.1.0 q.1.1.0 q.1.1.1.0 q.1.1.1.1.0 k.new_priced _ new.hand-over2.ensures)
     c.comparison-fields.ensures.0 c.comparison-fields.ensures.1
 
 pub miguepo-compare-spec : {M : Type 1} → statement M

@@ -8,7 +8,7 @@ use mir.Val.{SFits, to_z, of_z}
 use mir.Facts.{to_z-of_z}
 use Rattle.moves.specs.declared.Move.{Move}
 use Rattle.miguepo.specs.Bits.{bits_of}
-use Rattle.miguepo.proofs.Complement.{bits-read}
+use Rattle.miguepo.proofs.Complement.{bits_read}
 use Rattle.miguepo_comparison.proofs.moved_fields.Statement.{statement}
 use Rattle.miguepo_comparison.proofs.moved_fields.Tie as tie
 
@@ -17,38 +17,38 @@ record Words (v : Move) : Type 0 where
   least : SFits w64 v.least
   most : SFits w64 v.most
   gross : SFits w64 v.gross
-  gross-least : SFits w64 v.gross_least
-  gross-most : SFits w64 v.gross_most
+  gross_least : SFits w64 v.gross_least
+  gross_most : SFits w64 v.gross_most
 
 words : (s : tie.Start) → Words s.args.m
-words s = record { premium = search rules; least = search rules; most = search rules; gross = search rules; gross-least = search rules; gross-most = search rules }
+words s = record { premium = search rules; least = search rules; most = search rules; gross = search rules; gross_least = search rules; gross_most = search rules }
 
-bits-of : {z : ℤ} {n : ℕ} → SFits w64 z → n ≡ bits_of (to_z w64 (of_z w64 z)) → n ≡ bits_of z
-bits-of fits e = e ∙ ap bits_of (to_z-of_z fits)
+bits_of_lem : {z : ℤ} {n : ℕ} → SFits w64 z → n ≡ bits_of (to_z w64 (of_z w64 z)) → n ≡ bits_of z
+bits_of_lem fits e = e ∙ ap bits_of (to_z-of_z fits)
 
 returns : tie.Need-returns
 returns c =
-    let gross-least = c.before.before in
-    let gross = gross-least.before.before in
+    let gross_least = c.before.before in
+    let gross = gross_least.before.before in
     let most = gross.before.before in
     let least = most.before.before in
     let premium = least.before.before in
     let w = words premium.before.before in (
       rw (
-        bits-of w.premium premium.bits.ensures,
-        bits-of w.least least.bits2.ensures,
-        bits-of w.most most.bits3.ensures,
-        bits-of w.gross gross.bits4.ensures,
-        bits-of w.gross-least gross-least.bits5.ensures,
-        bits-of w.gross-most c.bits6.ensures,
+        bits_of_lem w.premium premium.bits.ensures,
+        bits_of_lem w.least least.bits2.ensures,
+        bits_of_lem w.most most.bits3.ensures,
+        bits_of_lem w.gross gross.bits4.ensures,
+        bits_of_lem w.gross_least gross_least.bits5.ensures,
+        bits_of_lem w.gross_most c.bits6.ensures,
       ),
       record {
-        premium = bits-read _ w.premium;
-        least = bits-read _ w.least;
-        most = bits-read _ w.most;
-        gross = bits-read _ w.gross;
-        gross-least = bits-read _ w.gross-least;
-        gross-most = bits-read _ w.gross-most;
+        premium = bits_read _ w.premium;
+        least = bits_read _ w.least;
+        most = bits_read _ w.most;
+        gross = bits_read _ w.gross;
+        gross_least = bits_read _ w.gross_least;
+        gross_most = bits_read _ w.gross_most;
       },
     )
 

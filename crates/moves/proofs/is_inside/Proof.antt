@@ -8,13 +8,13 @@ use mir.Syntax.{w64}
 use mir.Val.{to_z, of_z}
 use borrow.Author.Rules.{rules}
 use borrow.Author.Tests.{le-leb, lt-leb}
-use Rattle.fund.specs.Limits.{least-worth, most-worth}
+use Rattle.fund.specs.Limits.{least_worth, most_worth}
 use Rattle.fund.specs.Reading.{between}
-use Rattle.moves.specs.Move.{most-premium, most-within, most-gross, figuresIn}
+use Rattle.moves.specs.Move.{most_premium, most_within, most_gross, figures_in}
 use Rattle.moves.proofs.is_inside.Statement.{statement}
 use Rattle.moves.proofs.is_inside.Tie as tie
 
-worth : (c : tie.Joined1) → let w = c.before.before.args.fund.worth in c.if1.if2 ≡ between least-worth most-worth w
+worth : (c : tie.Joined1) → let w = c.before.before.args.fund.worth in c.if1.if2 ≡ between least_worth most_worth w
 unfolding between
 worth c = ⊎_elim (λ p. rw (le-leb _ _ p.0.taken, p.2)) (λ p. rw (p.1, lt-leb _ _ p.0.left)) c.if1.branch
 
@@ -26,17 +26,17 @@ size_is c =
     c.magnitude.ensures ∙ ap nat_abs same
 
 premium : (c : tie.Joined2) → let a = c.before.before.before.args in
-    c.if2.if3 ≡ between least-worth most-worth a.fund.worth && leb (nat_abs a.figures.premium) most-premium
+    c.if2.if3 ≡ between least_worth most_worth a.fund.worth && leb (nat_abs a.figures.premium) most_premium
 premium c =
     let e = sym (worth c.before) in
     ⊎_elim (λ p. rw (e, p.0.taken, p.3, size_is (record { before = record { before = record { before = c.before; if2 = p.0 }; struct_told = p.1 }; magnitude = p.2 }))) (λ p. rw (e, p.1, p.0.left)) c.if2.branch
 
 within : (c : tie.Joined3) → let a = c.before.before.before.before.args in
-    c.if3.if4 ≡ between least-worth most-worth a.fund.worth && leb (nat_abs a.figures.premium) most-premium && leb a.figures.within most-within
+    c.if3.if4 ≡ between least_worth most_worth a.fund.worth && leb (nat_abs a.figures.premium) most_premium && leb a.figures.within most_within
 within c = let e = sym (premium c.before) in ⊎_elim (λ p. rw (e, p.0.taken, p.2)) (λ p. rw (e, p.1, p.0.left)) c.if3.branch
 
-all : (c : tie.Joined3) → let a = c.before.before.before.before.args in figuresIn a.fund a.figures ≡ c.if3.if4 && leb a.figures.gross most-gross
-unfolding figuresIn
+all : (c : tie.Joined3) → let a = c.before.before.before.before.args in figures_in a.fund a.figures ≡ c.if3.if4 && leb a.figures.gross most_gross
+unfolding figures_in
 all c = rw (within c) (simp (and_assoc))
 
 returns : tie.Need-returns

@@ -2,7 +2,7 @@
 use mathlib.Core.Path.{sym, ◌∙◌, ap}
 use borrow.Author.Rules.{rules}
 use Rattle.valuation.specs.Valued.{lengths}
-use Rattle.pricing.specs.Priced.{valuedBy}
+use Rattle.pricing.specs.Priced.{valued_by}
 use Rattle.pricing.proofs.valued.Statement.{statement}
 use Rattle.pricing.proofs.valued.Tie as tie
 
@@ -12,7 +12,7 @@ returns c =
     let told = stop.before.before.before.before.before.before.before in
     let a = told.before.before.before.before.args in
     let n = lengths a.transform.now a.h.now a.f.now a.r.now a.sums.now in
-    stop.refuse.ensures ∙ sym (ap (valuedBy a.fund a.matched.points a.enrolled n) told.verdict.given.1)
+    stop.refuse.ensures ∙ sym (ap (valued_by a.fund a.matched.points a.enrolled n) told.verdict.given.1)
 
 returns-2 : tie.Need-returns-2
 returns-2 c =
@@ -20,7 +20,7 @@ returns-2 c =
     let told = done.before.before.before.before.before.before.before in
     let a = told.before.before.before.before.args in
     let n = lengths a.transform.now a.h.now a.f.now a.r.now a.sums.now in
-    done.value.ensures ∙ sym (ap (valuedBy a.fund a.matched.points a.enrolled n) told.enum_told.given.1)
+    done.value.ensures ∙ sym (ap (valued_by a.fund a.matched.points a.enrolled n) told.enum_told.given.1)
 
 pub valued-spec : {M : Type 1} → statement M
 valued-spec =

@@ -9,7 +9,7 @@ use lib.IntN.{pos}
 use lib.ListN.{length, get_or}
 use mir.Facts.{to_z-of_z}
 use Rattle.fund.specs.Quantile.{reaches}
-use Rattle.laws.specs.Quantile.{quantile-above, quantile-at, quantile-none}
+use Rattle.laws.specs.Quantile.{quantile_above, quantile_at, quantile_none}
 use Rattle.quantile.proofs.quantile.Statement.{statement}
 use Rattle.quantile.proofs.quantile.Tie as tie
 
@@ -20,7 +20,7 @@ abbrev decreases-loop : tie.decreases-loop
 decreases-loop level horizon sums x₀ x = length sums - x
 
 returns : tie.Need-returns invariant-loop decreases-loop
-returns c = let a = c.before.args in sym (quantile-above a.level a.horizon a.sums.now c.if1.true)
+returns c = let a = c.before.args in sym (quantile_above a.level a.horizon a.sums.now c.if1.true)
 
 loop-holds : tie.Need-loop-init invariant-loop decreases-loop
 loop-holds c = (omega arith, omega arith, λ k l. absurd (omega arith))
@@ -29,7 +29,7 @@ returns-2 : tie.Need-returns-2 invariant-loop decreases-loop
 returns-2 c =
     let at-loop = c.before.before in
     let a = at-loop.before.before.args in
-    sym (quantile-none a.level a.horizon a.sums.now at-loop.before.if1.false (λ k within inside. at-loop.loop.invariant.2 k (omega arith)))
+    sym (quantile_none a.level a.horizon a.sums.now at-loop.before.if1.false (λ k within inside. at-loop.loop.invariant.2 k (omega arith)))
 
 -- whether the sum at x reaches the level
 asked : (c : tie.After-reaches invariant-loop decreases-loop) →
@@ -41,7 +41,7 @@ returns-3 : tie.Need-returns-3 invariant-loop decreases-loop
 returns-3 c =
     let at-loop = c.before.before.before.before.before in
     let a = at-loop.before.before.args in
-    sym (quantile-at a.level a.horizon a.sums.now at-loop.before.if1.false at-loop.loop.x (omega arith) (omega arith) at-loop.loop.invariant.2 (sym (asked c.before) ∙ c.if3.true))
+    sym (quantile_at a.level a.horizon a.sums.now at-loop.before.if1.false at-loop.loop.x (omega arith) (omega arith) at-loop.loop.invariant.2 (sym (asked c.before) ∙ c.if3.true))
 
 loop-again : tie.Need-loop-preserved invariant-loop decreases-loop
 loop-again c =
@@ -51,7 +51,7 @@ loop-again c =
 returns-4 : tie.Need-returns-4 invariant-loop decreases-loop
 returns-4 c =
     let a = c.before.before.before.args in
-    sym (quantile-none a.level a.horizon a.sums.now c.before.before.if1.false (λ k within inside. c.before.loop.invariant.2 k (omega arith)))
+    sym (quantile_none a.level a.horizon a.sums.now c.before.before.if1.false (λ k within inside. c.before.loop.invariant.2 k (omega arith)))
 
 pub quantile-spec : {M : Type 1} → statement M
 quantile-spec =

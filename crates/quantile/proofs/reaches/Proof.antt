@@ -3,12 +3,12 @@ use mathlib.Core.Path.{◌∙◌, ap}
 use borrow.Author.Rules.{rules}
 use lib.Dec.{leb}
 use mir.Facts.{to_z-of_z}
-use Rattle.quantile.proofs.ReachedLevel.{below-zero, by_size}
+use Rattle.quantile.proofs.ReachedLevel.{below_zero, by_size}
 use Rattle.quantile.proofs.reaches.Statement.{statement}
 use Rattle.quantile.proofs.reaches.Tie as tie
 
 returns : tie.Need-returns
-returns c = let s = c.before in below-zero s.args.level s.args.sum s.ranges.sum c.if1.true
+returns c = let s = c.before in below_zero s.args.level s.args.sum s.ranges.sum c.if1.true
 
 returns-2 : tie.Need-returns-2
 returns-2 c =

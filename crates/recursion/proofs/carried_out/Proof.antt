@@ -4,7 +4,7 @@ use borrow.Author.Rules.{rules}
 use lib.ListN.{length}
 use mir.Facts.{to_z-of_z}
 use Rattle.recursion_limits.specs.Tests.{Kept, Tests}
-use Rattle.recursion.proofs.Outcomes.{outcome-tested, outcome-steps}
+use Rattle.recursion.proofs.Outcomes.{outcome_tested, outcome_steps}
 use Rattle.recursion.proofs.carried_out.Statement.{statement}
 use Rattle.recursion.proofs.carried_out.Tie as tie
 
@@ -20,7 +20,7 @@ returns : tie.Need-returns
 returns c =
     let a = c.before.before.before.before.args in
     let t = c.before.tested in
-    outcome-tested a.horizon a.transform.now a.h.now (record { f = a.first; R = a.bound }) _ _ a.f.now a.r.now t.result c.match.keys2
+    outcome_tested a.horizon a.transform.now a.h.now (record { f = a.first; R = a.bound }) _ _ a.f.now a.r.now t.result c.match.keys2
     (rw (to_z-of_z c.before.before.before.before.ranges.first) at t.ensures)
 
 all-steps-requires : tie.Need-all-steps-requires
@@ -31,7 +31,7 @@ returns-2 c =
     let s = c.before.before.before.before.before.before.before.before.before.before.before in
     let a = s.args in
     let steps = c.before.before.before.all-steps in
-    outcome-steps a.horizon a.transform.now a.h.now (record { f = a.first; R = a.bound }) _ _ (kept c.before.before.before.before.before.before) _ _ steps.result
+    outcome_steps a.horizon a.transform.now a.h.now (record { f = a.first; R = a.bound }) _ _ (kept c.before.before.before.before.before.before) _ _ steps.result
     (rw (to_z-of_z s.ranges.first) at steps.ensures)
 
 pub carried-out-spec : {M : Type 1} → statement M

@@ -2,14 +2,14 @@
 use mathlib.Core.Path.{refl, sym, subst}
 use borrow.Author.Rules.{rules}
 use Rattle.recursion.specs.Steps.{Settled}
-use Rattle.recursion.proofs.Outcomes.{settled-zeros}
+use Rattle.recursion.proofs.Outcomes.{settled_zeros}
 use Rattle.recursion.proofs.cleared_unless_done.Statement.{statement}
 use Rattle.recursion.proofs.cleared_unless_done.Tie as tie
 
 returns : tie.Need-returns
 returns c =
     let a = c.before.before.before.before.before.before.before.before.args in
-    (refl, settled-zeros a.f.now _ a.r.now _ a.answer c.before.before.before.before.before.before.match.keys2 c.before.before.before.clear-cells.ensures)
+    (refl, settled_zeros a.f.now _ a.r.now _ a.answer c.before.before.before.before.before.before.match.keys2 c.before.before.before.clear-cells.ensures)
 
 returns-2 : tie.Need-returns-2
 returns-2 c =

@@ -5,7 +5,7 @@ use mathlib.Core.List.{[], ◌∷◌}
 use mathlib.Core.Logic.{⊎_elim}
 use borrow.Author.Tests.{le-leb, lt-leb}
 use lib.Dec.{leb}
-use Rattle.fund.specs.Refusals.{anyShort}
+use Rattle.fund.specs.Refusals.{any_short}
 use Rattle.recursion_limits.proofs.short.Statement.{statement}
 use Rattle.recursion_limits.proofs.short.Tie as tie
 
@@ -15,8 +15,8 @@ flag1 c = ⊎_elim (λ w. rw (w.1, le-leb _ _ w.0.taken)) (λ w. rw (lt-leb _ _ 
 flag2 : (c : tie.Joined2) → let a = c.before.before.args in c.if2.if3 ≡ c.before.if1.if2 || leb a.f a.horizon
 flag2 c = ⊎_elim (λ w. rw (w.1, w.0.taken)) (λ w. rw w.0.left w.1) c.if2.branch
 
-flags : (c : tie.Joined2) → let a = c.before.before.args in c.if2.if3 || leb a.r a.horizon ≡ anyShort (a.transform ∷ a.h ∷ a.f ∷ a.r ∷ []) a.horizon
-unfolding anyShort
+flags : (c : tie.Joined2) → let a = c.before.before.args in c.if2.if3 || leb a.r a.horizon ≡ any_short (a.transform ∷ a.h ∷ a.f ∷ a.r ∷ []) a.horizon
+unfolding any_short
 flags c =
     let a = c.before.before.args in
     let t = leb a.transform a.horizon in

@@ -8,13 +8,13 @@ use borrow.Author.Tests.{le-leb, lt-leb}
 use lib.IntN.{pos, nat_abs}
 use lib.ListN.{get_or}
 use mir.Facts.{to_z-of_z}
-use Rattle.recursion_limits.specs.Limits.{most-transform, sizes}
-use Rattle.recursion_limits.proofs.PartialSums.{sumN-grow}
+use Rattle.recursion_limits.specs.Limits.{most_transform, sizes}
+use Rattle.recursion_limits.proofs.PartialSums.{sum_n_grow}
 use Rattle.recursion_limits.proofs.sizes_within.Statement.{statement}
 use Rattle.recursion_limits.proofs.sizes_within.Tie as tie
 
 abbrev invariant-loop : tie.invariant-loop
-invariant-loop horizon d left₀ k₀ left k = (k ≤ horizon) × (left + sizes d k ≡ most-transform)
+invariant-loop horizon d left₀ k₀ left k = (k ≤ horizon) × (left + sizes d k ≡ most_transform)
 
 abbrev decreases-loop : tie.decreases-loop
 decreases-loop horizon d left₀ k₀ left k = horizon - k
@@ -33,8 +33,8 @@ returns : tie.Need-returns invariant-loop decreases-loop
 returns c =
     let a = c.before.before.before.before.before.args in
     let l = c.before.before.before.before.loop in
-    let g = sumN-grow (λ k. nat_abs (get_or a.transform.now (suc k) (pos 0))) (suc l.k) a.horizon (omega arith) in
-    sym (lt-leb (sizes a.transform.now a.horizon) most-transform (omega (arith, size_is c.before, l.invariant.1, c.if1.true)))
+    let g = sum_n_grow (λ k. nat_abs (get_or a.transform.now (suc k) (pos 0))) (suc l.k) a.horizon (omega arith) in
+    sym (lt-leb (sizes a.transform.now a.horizon) most_transform (omega (arith, size_is c.before, l.invariant.1, c.if1.true)))
 
 loop-again : tie.Need-loop-preserved invariant-loop decreases-loop
 loop-again c =
@@ -46,7 +46,7 @@ returns-2 c =
     let a = c.before.before.args in
     let l = c.before.loop in
     let z : l.k ≡ a.horizon = omega arith in
-    sym (le-leb (sizes a.transform.now a.horizon) most-transform (omega (arith, l.invariant.1, ap (sizes a.transform.now) z)))
+    sym (le-leb (sizes a.transform.now a.horizon) most_transform (omega (arith, l.invariant.1, ap (sizes a.transform.now) z)))
 
 pub sizes-within-spec : {M : Type 1} → statement M
 sizes-within-spec =

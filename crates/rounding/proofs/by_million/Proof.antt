@@ -1,15 +1,15 @@
--- The product is a times the whole millions of b, and a times the rest of b (`split-right`).
+-- The product is a times the whole millions of b, and a times the rest of b (`split_right`).
 -- What `with_whole` ensures is asked at the second of these.
 use Prim.Native.Nat.{◌%◌, ◌*◌}
 use borrow.Author.Rules.{rules}
-use Rattle.rounding.proofs.Product.{split-right}
+use Rattle.rounding.proofs.Product.{split_right}
 use Rattle.rounding.proofs.by_million.Statement.{statement}
 use Rattle.rounding.proofs.by_million.Tie as tie
 
 returns : tie.Need-returns
 returns c =
     let s = c.before.before.args in
-    rw (split-right s.a s.b 1000000)
+    rw (split_right s.a s.b 1000000)
     (c.with-whole.ensures (s.a * (s.b % 1000000)) 1000000 c.before.part-by-million.ensures.0)
 
 pub by-million-spec : {M : Type 1} → statement M

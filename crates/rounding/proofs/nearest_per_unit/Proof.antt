@@ -4,15 +4,15 @@ use mathlib.Core.Path.{sym, ◌∙◌}
 use Prim.Native.Nat.{◌*◌}
 use borrow.Author.Rules.{rules}
 use native.Mathlib.Omega.{arith}
-use Rattle.rounding.proofs.Rest.{near-raised}
-use Rattle.rounding.proofs.Word.{near-rounds, per-unit-is}
+use Rattle.rounding.proofs.Rest.{near_raised}
+use Rattle.rounding.proofs.Word.{near_rounds, per_unit_is}
 use Rattle.rounding.proofs.nearest_per_unit.Statement.{statement}
 use Rattle.rounding.proofs.nearest_per_unit.Tie as tie
 
 returns : tie.Need-returns
 returns c =
     let s = c.before.before.before.args in
-    c.raised.ensures ∙ sym (per-unit-is near-rounds s.a s.b (omega arith) (omega arith) ∙ near-raised (s.a * s.b))
+    c.raised.ensures ∙ sym (per_unit_is near_rounds s.a s.b (omega arith) (omega arith) ∙ near_raised (s.a * s.b))
 
 returns-2 : tie.Need-returns-2
 returns-2 c =

@@ -1,14 +1,14 @@
--- The parts of the product in base 10^6 fit a word each (`million-parts`), and their sum is the product.
+-- The parts of the product in base 10^6 fit a word each (`million_parts`), and their sum is the product.
 -- The quotient fits because b is below the unit, so that it is at most a.
 use mathlib.Core.Path.{refl}
 use mathlib.Core.Bool.{true≢false}
 use native.Mathlib.Omega.{arith}
-use Rattle.rounding.proofs.Product.{MillionParts, million-parts}
+use Rattle.rounding.proofs.Product.{MillionParts, million_parts}
 use Rattle.rounding.proofs.part_by_million.Statement.{statement}
 use Rattle.rounding.proofs.part_by_million.Tie as tie
 
 parts : (c : tie.Start) → MillionParts c.args.a c.args.b
-parts c = million-parts c.args.a c.args.b (omega arith) (omega arith)
+parts c = million_parts c.args.a c.args.b (omega arith) (omega arith)
 
 mul-rest : tie.Need-overflow-mul-rest
 mul-rest c = omega (arith, parts c)

@@ -1,15 +1,15 @@
--- The parts of the product in base 10^6 fit a word each (`unit-parts`), and their sum is the product.
+-- The parts of the product in base 10^6 fit a word each (`unit_parts`), and their sum is the product.
 -- The quotient fits because b is below the unit, so that it is at most a.
 use mathlib.Core.Path.{refl}
 use mathlib.Core.Bool.{true≢false}
 use borrow.Author.Rules.{rules}
 use native.Mathlib.Omega.{arith}
-use Rattle.rounding.proofs.Product.{UnitParts, unit-parts}
+use Rattle.rounding.proofs.Product.{UnitParts, unit_parts}
 use Rattle.rounding.proofs.part_by_unit.Statement.{statement}
 use Rattle.rounding.proofs.part_by_unit.Tie as tie
 
 parts : (c : tie.Start) → UnitParts c.args.a c.args.b
-parts c = unit-parts c.args.a c.args.b (omega arith) (omega arith)
+parts c = unit_parts c.args.a c.args.b (omega arith) (omega arith)
 
 mul-middle : tie.Need-overflow-mul-middle
 mul-middle c = omega (arith, parts c)

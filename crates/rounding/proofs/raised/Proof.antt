@@ -1,12 +1,12 @@
--- The parts of the product in base 10^6 fit a word each (`small-parts`), and their sum is the product.
+-- The parts of the product in base 10^6 fit a word each (`small_parts`), and their sum is the product.
 use borrow.Author.Rules.{rules}
 use native.Mathlib.Omega.{arith}
-use Rattle.rounding.proofs.Product.{SmallParts, small-parts}
+use Rattle.rounding.proofs.Product.{SmallParts, small_parts}
 use Rattle.rounding.proofs.raised.Statement.{statement}
 use Rattle.rounding.proofs.raised.Tie as tie
 
 parts : (c : tie.Start) → SmallParts c.args.a c.args.b
-parts c = small-parts c.args.a c.args.b (omega arith) (omega arith)
+parts c = small_parts c.args.a c.args.b (omega arith) (omega arith)
 
 mul-middle : tie.Need-overflow-mul-middle
 mul-middle c = omega (arith, parts c)

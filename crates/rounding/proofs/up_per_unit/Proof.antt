@@ -4,15 +4,15 @@ use mathlib.Core.Path.{sym, ◌∙◌}
 use Prim.Native.Nat.{◌*◌}
 use borrow.Author.Rules.{rules}
 use native.Mathlib.Omega.{arith}
-use Rattle.rounding.proofs.Rest.{up-raised}
-use Rattle.rounding.proofs.Word.{up-rounds, per-unit-is}
+use Rattle.rounding.proofs.Rest.{up_raised}
+use Rattle.rounding.proofs.Word.{up_rounds, per_unit_is}
 use Rattle.rounding.proofs.up_per_unit.Statement.{statement}
 use Rattle.rounding.proofs.up_per_unit.Tie as tie
 
 returns : tie.Need-returns
 returns c =
     let s = c.before.before.before.args in
-    c.raised.ensures ∙ sym (per-unit-is up-rounds s.a s.b (omega arith) (omega arith) ∙ up-raised (s.a * s.b))
+    c.raised.ensures ∙ sym (per_unit_is up_rounds s.a s.b (omega arith) (omega arith) ∙ up_raised (s.a * s.b))
 
 returns-2 : tie.Need-returns-2
 returns-2 c =

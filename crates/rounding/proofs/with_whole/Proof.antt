@@ -6,12 +6,12 @@ use native.Mathlib.Nat.{div-lt_iff_lt-mul, le-div_iff_mul-le}
 use native.Mathlib.Omega.{arith}
 use borrow.Author.Rules.{rules}
 use Rattle.rounding.specs.Word.{largest}
-use Rattle.rounding.proofs.Product.{whole-fits, whole-many, whole-none}
+use Rattle.rounding.proofs.Product.{whole_fits, whole_many, whole_none}
 use Rattle.rounding.proofs.with_whole.Statement.{statement}
 use Rattle.rounding.proofs.with_whole.Tie as tie
 
 returns : tie.Need-returns
-returns c = λ p unit d. rw (whole-none c.before.args.a c.before.args.whole unit p c.if1.true) d
+returns c = λ p unit d. rw (whole_none c.before.args.a c.before.args.whole unit p c.if1.true) d
 
 returns-2 : tie.Need-returns-2
 returns-2 c = λ p unit d.
@@ -21,7 +21,7 @@ returns-2 c = λ p unit d.
     record {
       whole = λ f. absurd (false≢true f);
       below = d.below;
-      many = λ _. whole-many s.a s.whole unit p s.part.quotient s.part.remainder (d.whole c.before.before.requires) (omega arith);
+      many = λ _. whole_many s.a s.whole unit p s.part.quotient s.part.remainder (d.whole c.before.before.requires) (omega arith);
     }
 
 at_most : (c : tie.Else2) → let s = c.before.before.args in s.a * s.whole ≤ largest - s.part.quotient
@@ -37,7 +37,7 @@ returns-3 : tie.Need-returns-3
 returns-3 c = λ p unit d.
     let s = c.before.before.args in
     record {
-      whole = λ _. whole-fits s.a s.whole unit p s.part.quotient s.part.remainder (d.whole c.before.before.requires);
+      whole = λ _. whole_fits s.a s.whole unit p s.part.quotient s.part.remainder (d.whole c.before.before.requires);
       below = d.below;
       many = λ f. absurd (true≢false f);
     }

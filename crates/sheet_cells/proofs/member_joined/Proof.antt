@@ -1,6 +1,6 @@
 -- `cells::member_joined`: arm by arm.
 use borrow.Author.Rules.{rules}
-use Rattle.fund.specs.SheetCells.{memberJoined}
+use Rattle.fund.specs.SheetCells.{member_joined}
 use Rattle.sheet_cells.proofs.member_joined.Statement.{statement}
 use Rattle.sheet_cells.proofs.member_joined.Tie as tie
 
@@ -11,7 +11,7 @@ enum_told : tie.Need-enum-told
 enum_told c = search rules
 
 returns : tie.Need-returns
-unfolding memberJoined
+unfolding member_joined
 returns c = cc
 
 enum-known-group : tie.Need-enum-known-group
@@ -21,7 +21,7 @@ enum-told-2 : tie.Need-enum-told-2
 enum-told-2 c = search rules
 
 returns-2 : tie.Need-returns-2
-unfolding memberJoined
+unfolding member_joined
 returns-2 c = cc
 
 enum-known-d : tie.Need-enum-known-d
@@ -31,7 +31,7 @@ enum-told-3 : tie.Need-enum-told-3
 enum-told-3 c = search rules
 
 returns-3 : tie.Need-returns-3
-unfolding memberJoined
+unfolding member_joined
 returns-3 c = cc
 
 enum-known-e : tie.Need-enum-known-e
@@ -41,7 +41,7 @@ enum-told-4 : tie.Need-enum-told-4
 enum-told-4 c = search rules
 
 returns-4 : tie.Need-returns-4
-unfolding memberJoined
+unfolding member_joined
 returns-4 c =
     let d = c.before.before.before in
     let group = d.before.before.before in
@@ -55,7 +55,7 @@ enum-told-5 : tie.Need-enum-told-5
 enum-told-5 c = search rules
 
 returns-5 : tie.Need-returns-5
-unfolding memberJoined
+unfolding member_joined
 returns-5 c =
     let e = c.before.before.before in
     let d = e.before.before.before in
@@ -64,7 +64,7 @@ returns-5 c =
     rw (age.age.given.1, group.group.given.1, d.d.given.1, e.e.given.1, c.enum-told5.given.1)
 
 returns-6 : tie.Need-returns-6
-unfolding memberJoined
+unfolding member_joined
 returns-6 c =
     let lives = c.before in
     let e = lives.before.before.before in

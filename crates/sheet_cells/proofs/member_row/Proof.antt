@@ -11,26 +11,26 @@ use Rattle.fund.specs.declared.Taken.{Taken}
 use Rattle.fund.specs.declared.SheetRow.{SheetRow}
 use Rattle.fund.specs.declared.SheetRow.TheVariants.{NotTaken}
 use Rattle.fund.specs.declared.MemberFloats.{MemberFloats}
-use Rattle.fund.specs.Limits.{most-age, least-group, most-group, least-lives, most-lives}
-use Rattle.fund.specs.SheetCells.{leastFirst, cell_of, wholeIn, amountOf, memberJoined, memberTaken, memberFloats, member-width, memberRowOf}
+use Rattle.fund.specs.Limits.{most_age, least_group, most_group, least_lives, most_lives}
+use Rattle.fund.specs.SheetCells.{least_first, cell_of, whole_in, amount_of, member_joined, member_taken, member_floats, member_width, member_row_of}
 use Rattle.sheet_cells.specs.Plain.{members_of}
 use Rattle.sheet_cells.proofs.member_row.Statement.{statement}
 use Rattle.sheet_cells.proofs.member_row.Tie as tie
 
-cut_short : (row : List ℕ) → (length row ≡ member-width → ⊥) → NotTaken ≡ memberRowOf row
-unfolding memberRowOf
-cut_short row h = rw (ne_eqb (length row) member-width h)
+cut_short : (row : List ℕ) → (length row ≡ member_width → ⊥) → NotTaken ≡ member_row_of row
+unfolding member_row_of
+cut_short row h = rw (ne_eqb (length row) member_width h)
 
-whole : (row : List ℕ) → length row ≡ member-width → memberTaken (memberFloats row) ≡ memberRowOf row
-unfolding memberRowOf
-whole row h = rw (eq-eqb (length row) member-width h)
+whole : (row : List ℕ) → length row ≡ member_width → member_taken (member_floats row) ≡ member_row_of row
+unfolding member_row_of
+whole row h = rw (eq-eqb (length row) member_width h)
 
-all : {A G D E L : SheetCell} {a g d e l : Taken} {t : SheetRow} (r : MemberFloats) → A ≡ cell_of r.age → a ≡ wholeIn 0 most-age A → G ≡ cell_of r.group → g ≡ wholeIn least-group most-group G
-    → D ≡ cell_of r.d → d ≡ amountOf D → E ≡ cell_of r.e → e ≡ amountOf E → L ≡ cell_of r.lives → l ≡ wholeIn least-lives most-lives L → t ≡ memberJoined a g d e l → t ≡ memberTaken r
+all : {A G D E L : SheetCell} {a g d e l : Taken} {t : SheetRow} (r : MemberFloats) → A ≡ cell_of r.age → a ≡ whole_in 0 most_age A → G ≡ cell_of r.group → g ≡ whole_in least_group most_group G
+    → D ≡ cell_of r.d → d ≡ amount_of D → E ≡ cell_of r.e → e ≡ amount_of E → L ≡ cell_of r.lives → l ≡ whole_in least_lives most_lives L → t ≡ member_joined a g d e l → t ≡ member_taken r
 all r age-cell age group-cell group d-cell d e-cell e lives-cell lives joined = cc
 
-read : (row : List ℕ) {age group d e lives : ℕ} {r : MemberFloats} → r ≡ members_of age group d e lives → age ≡ leastFirst (take 8 (drop 0 row)) → group ≡ leastFirst (take 8 (drop 8 row))
-    → d ≡ leastFirst (take 8 (drop 16 row)) → e ≡ leastFirst (take 8 (drop 24 row)) → lives ≡ leastFirst (take 8 (drop 32 row)) → memberTaken r ≡ memberTaken (memberFloats row)
+read : (row : List ℕ) {age group d e lives : ℕ} {r : MemberFloats} → r ≡ members_of age group d e lives → age ≡ least_first (take 8 (drop 0 row)) → group ≡ least_first (take 8 (drop 8 row))
+    → d ≡ least_first (take 8 (drop 16 row)) → e ≡ least_first (take 8 (drop 24 row)) → lives ≡ least_first (take 8 (drop 32 row)) → member_taken r ≡ member_taken (member_floats row)
 read row r age group d e lives = cc
 
 classed-requires : tie.Need-classed-requires

@@ -1,6 +1,6 @@
 -- `cells::rate_joined`: arm by arm.
 use borrow.Author.Rules.{rules}
-use Rattle.fund.specs.SheetCells.{rateJoined}
+use Rattle.fund.specs.SheetCells.{rate_joined}
 use Rattle.sheet_cells.proofs.rate_joined.Statement.{statement}
 use Rattle.sheet_cells.proofs.rate_joined.Tie as tie
 
@@ -11,7 +11,7 @@ enum_told : tie.Need-enum-told
 enum_told c = search rules
 
 returns : tie.Need-returns
-unfolding rateJoined
+unfolding rate_joined
 returns c = cc
 
 enum-known-q : tie.Need-enum-known-q
@@ -21,7 +21,7 @@ enum-told-2 : tie.Need-enum-told-2
 enum-told-2 c = search rules
 
 returns-2 : tie.Need-returns-2
-unfolding rateJoined
+unfolding rate_joined
 returns-2 c = cc
 
 enum-known-i : tie.Need-enum-known-i
@@ -31,11 +31,11 @@ enum-told-3 : tie.Need-enum-told-3
 enum-told-3 c = search rules
 
 returns-3 : tie.Need-returns-3
-unfolding rateJoined
+unfolding rate_joined
 returns-3 c = cc
 
 returns-4 : tie.Need-returns-4
-unfolding rateJoined
+unfolding rate_joined
 returns-4 c = cc
 
 pub rate-joined-spec : {M : Type 1} → statement M

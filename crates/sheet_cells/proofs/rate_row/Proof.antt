@@ -11,26 +11,26 @@ use Rattle.fund.specs.declared.Taken.{Taken}
 use Rattle.fund.specs.declared.SheetRow.{SheetRow}
 use Rattle.fund.specs.declared.SheetRow.TheVariants.{NotTaken}
 use Rattle.fund.specs.declared.RateFloats.{RateFloats}
-use Rattle.fund.specs.Limits.{most-age}
-use Rattle.fund.specs.SheetCells.{leastFirst, cell_of, wholeIn, rateIn, rateJoined, rateTaken, rateFloats, rate-width, rateRowOf}
-use Rattle.sheet_cells.specs.Plain.{ratesOf}
+use Rattle.fund.specs.Limits.{most_age}
+use Rattle.fund.specs.SheetCells.{least_first, cell_of, whole_in, rate_in, rate_joined, rate_taken, rate_floats, rate_width, rate_row_of}
+use Rattle.sheet_cells.specs.Plain.{rates_of}
 use Rattle.sheet_cells.proofs.rate_row.Statement.{statement}
 use Rattle.sheet_cells.proofs.rate_row.Tie as tie
 
-cut_short : (row : List ℕ) → (length row ≡ rate-width → ⊥) → NotTaken ≡ rateRowOf row
-unfolding rateRowOf
-cut_short row h = rw (ne_eqb (length row) rate-width h)
+cut_short : (row : List ℕ) → (length row ≡ rate_width → ⊥) → NotTaken ≡ rate_row_of row
+unfolding rate_row_of
+cut_short row h = rw (ne_eqb (length row) rate_width h)
 
-whole : (row : List ℕ) → length row ≡ rate-width → rateTaken (rateFloats row) ≡ rateRowOf row
-unfolding rateRowOf
-whole row h = rw (eq-eqb (length row) rate-width h)
+whole : (row : List ℕ) → length row ≡ rate_width → rate_taken (rate_floats row) ≡ rate_row_of row
+unfolding rate_row_of
+whole row h = rw (eq-eqb (length row) rate_width h)
 
-all : {A Q I : SheetCell} {a q i : Taken} {t : SheetRow} (r : RateFloats) → A ≡ cell_of r.age → a ≡ wholeIn 0 most-age A → Q ≡ cell_of r.q → q ≡ rateIn Q
-    → I ≡ cell_of r.i → i ≡ rateIn I → t ≡ rateJoined a q i → t ≡ rateTaken r
+all : {A Q I : SheetCell} {a q i : Taken} {t : SheetRow} (r : RateFloats) → A ≡ cell_of r.age → a ≡ whole_in 0 most_age A → Q ≡ cell_of r.q → q ≡ rate_in Q
+    → I ≡ cell_of r.i → i ≡ rate_in I → t ≡ rate_joined a q i → t ≡ rate_taken r
 all r age-cell age q-cell q i-cell i joined = cc
 
-read : (row : List ℕ) {age q i : ℕ} {r : RateFloats} → r ≡ ratesOf age q i → age ≡ leastFirst (take 8 (drop 0 row)) → q ≡ leastFirst (take 8 (drop 8 row))
-    → i ≡ leastFirst (take 8 (drop 16 row)) → rateTaken r ≡ rateTaken (rateFloats row)
+read : (row : List ℕ) {age q i : ℕ} {r : RateFloats} → r ≡ rates_of age q i → age ≡ least_first (take 8 (drop 0 row)) → q ≡ least_first (take 8 (drop 8 row))
+    → i ≡ least_first (take 8 (drop 16 row)) → rate_taken r ≡ rate_taken (rate_floats row)
 read row r age q i = cc
 
 classed-requires : tie.Need-classed-requires

@@ -5,7 +5,7 @@ use native.Mathlib.Numerals.{add-one}
 use native.Mathlib.Omega.{arith}
 use lib.ListN.{length, drop}
 use Rattle.spelling.specs.Text.{before}
-use Rattle.spelling.proofs.Texts.{before_here, before-next, before-end}
+use Rattle.spelling.proofs.Texts.{before_here, before_next, before_end}
 use Rattle.spelling.proofs.find.Statement.{statement}
 use Rattle.spelling.proofs.find.Tie as tie
 
@@ -28,12 +28,12 @@ loop-again : tie.Need-loop-preserved invariant-loop decreases-loop
 loop-again c =
     let a = c.before.before.before.before.args in
     let l = c.before.before.before.loop in
-    rw add-one (omega (arith, before-next a.b a.s.now l.i c.before.before.loop-test.true c.if1.false))
+    rw add-one (omega (arith, before_next a.b a.s.now l.i c.before.before.loop-test.true c.if1.false))
 
 returns-2 : tie.Need-returns-2 invariant-loop decreases-loop
 returns-2 c =
     let a = c.before.before.args in
-    omega (arith, before-end a.b a.s.now c.before.loop.i c.loop-test.false)
+    omega (arith, before_end a.b a.s.now c.before.loop.i c.loop-test.false)
 
 pub find_spec : {M : Type 1} → statement M
 find_spec =

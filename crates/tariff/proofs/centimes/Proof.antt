@@ -1,13 +1,13 @@
--- `tariff::centimes`: each part of the product fits a word, and their sum is the product (`loaded-parts`); less than 10^15 is added to it before it is
+-- `tariff::centimes`: each part of the product fits a word, and their sum is the product (`loaded_parts`); less than 10^15 is added to it before it is
 -- divided, which is what up is.
 use native.Mathlib.Omega.{arith}
 use Rattle.rounding.specs.Rounding.{up}
-use Rattle.tariff.proofs.Parts.{LoadedParts, loaded-parts}
+use Rattle.tariff.proofs.Parts.{LoadedParts, loaded_parts}
 use Rattle.tariff.proofs.centimes.Statement.{statement}
 use Rattle.tariff.proofs.centimes.Tie as tie
 
 parts : (s : tie.Start) → LoadedParts s.args.high s.args.low s.args.loaded
-parts s = loaded-parts s.args.high s.args.low s.args.loaded (omega arith) (omega arith) (omega arith)
+parts s = loaded_parts s.args.high s.args.low s.args.loaded (omega arith) (omega arith) (omega arith)
 
 mul-rest : tie.Need-overflow-mul-rest
 mul-rest c = omega (arith, parts c)

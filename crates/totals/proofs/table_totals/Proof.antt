@@ -5,14 +5,14 @@ use mathlib.Core.List.{List, [], ◌∷◌}
 use lib.Dec.{T as Holds, lit<}
 use Rattle.fund.proofs.Fund.TheLaws as G'
 use Rattle.walks.specs.ByHand.{Ura, first, branches, skips, exec, returns_within, via, emp∗, w64, vint, emp, id⊢, Model, fact_i, Running, tables, ◌$◌, !, move, look, lit, and_then, no_more, returns, free0, Clauses, framed, Body, Local, ty_bool, ty_int, place, copy, int, local, value_local, skip, seq, cond, return, call, Env, at_ret}
-use Rattle.walks.specs.Calls.{held, made, calls-plain, ends-plain}
-use Rattle.walks.specs.FreedLocals.{Blocks, env, frees-cells}
-use Rattle.walks.specs.HandedTable.{handedLocals, HandedWalk, handed-meets}
+use Rattle.walks.specs.Calls.{held, made, calls_plain, ends_plain}
+use Rattle.walks.specs.FreedLocals.{Blocks, env, frees_cells}
+use Rattle.walks.specs.HandedTable.{handed_locals, HandedWalk, handed_meets}
 use Rattle.walks.specs.Plain.{word, flag}
-use Rattle.walks.specs.TableCalls.{tableVal, calls-walk, calls-handed}
+use Rattle.walks.specs.TableCalls.{table_val, calls_walk, calls_handed}
 use Rattle.walks.specs.Walks.{Stated, cell}
 use Rattle.totals.proofs.PointElement.{point, terms, totals}
-use Rattle.totals.proofs.TableTotals.{inside, outside, totalled-inside, totalled-outside}
+use Rattle.totals.proofs.TableTotals.{inside, outside, totalled_inside, totalled_outside}
 use Rattle.totals.proofs.Totals.TheLaws as T'
 use Rattle.totals.specs.contracts.inside.lives_in_all as lives-in-all
 use Rattle.totals.proofs.inside.lives_in_all.Symbol.{name as #lives-in-all}
@@ -62,36 +62,36 @@ module _ {M : Type 1} {𝓤 : Ura M} (𝓛 : Logic 𝓤) (𝓜 : Model 𝓤 𝓛
   abbrev c : Clauses 𝓤 totalled.ended
   c = totalled.clauses 𝓛 𝓜.mem 𝓡.run
 
-  abbrev E : Blocks (handedLocals point T'.mir G'.mir others) → Env 𝓤 H
-  E bs = env 𝓤 H (handedLocals point T'.mir G'.mir others) bs
+  abbrev E : Blocks (handed_locals point T'.mir G'.mir others) → Env 𝓤 H
+  E bs = env 𝓤 H (handed_locals point T'.mir G'.mir others) bs
 
   walk : HandedWalk 𝓛 𝓜 𝓡 point T'.mir terms c others body code.env (λ fund ps. Unit {0}) 8 6
   walk κ q fund points g is_f asks bs =
-      let y : (Stated 𝓛 totalled.ended c).Ghost = (((κ, tt), (q, tt), tt, (fund, (points, tt)), (G'.lowered fund ∷ [], (tableVal point points ∷ [], tt))), g) in
+      let y : (Stated 𝓛 totalled.ended c).Ghost = (((κ, tt), (q, tt), tt, (fund, (points, tt)), (G'.lowered fund ∷ [], (table_val point points ∷ [], tt))), g) in
       let fm = framed 𝓤 H 𝓜 (tables 𝓤 H 𝓜 𝓡 code.env) in
       let ps = points.now in
       move ! (12 ∷ 13 ∷ []) $
       -- [the token; what the lines own; room for _5; …; _4; …; _3; …; _2; …; _1; …; _0; …]
-      calls-walk 𝓛 point κ q points word word 1001 (lives-in-all.clauses 𝓛 𝓜.mem 𝓡.run) tt 2 refl refl fm (lives-in-all-thm.met 𝓤 𝓛 𝓜 𝓡) (id⊢ 𝓤 _) (λ r e. id⊢ 𝓤 _)
+      calls_walk 𝓛 point κ q points word word 1001 (lives-in-all.clauses 𝓛 𝓜.mem 𝓡.run) tt 2 refl refl fm (lives-in-all-thm.met 𝓤 𝓛 𝓜 𝓡) (id⊢ 𝓤 _) (λ r e. id⊢ 𝓤 _)
       (refl, lit< tt) (λ i. and_then ! (cell ! 8 refl) (and_then ! (lit ! tt) (no_more !))) (λ k count is₄.
-      calls-plain 𝓛 headed.ended (headed.clauses 𝓛 𝓜.mem 𝓡.run) ((tt, tt, tt, (fund, (k, tt)), (G'.lowered fund ∷ [], (vint w64 k ∷ [], tt))), tt) flag (id⊢ 𝓤 _)
+      calls_plain 𝓛 headed.ended (headed.clauses 𝓛 𝓜.mem 𝓡.run) ((tt, tt, tt, (fund, (k, tt)), (G'.lowered fund ∷ [], (vint w64 k ∷ [], tt))), tt) flag (id⊢ 𝓤 _)
       (made 𝓛 (held terms fund is_f ∷ held word k is₄ ∷ [])) 6 refl refl fm (headed-thm.met 𝓤 𝓛 𝓜 𝓡) (id⊢ 𝓤 _) (λ r e. id⊢ 𝓤 _) (and_then ! (cell ! 11 refl) (and_then ! (cell ! 5 refl) (no_more !))) (λ b header is₃.
-      calls-walk 𝓛 point κ q points flag flag b (all-inside.clauses 𝓛 𝓜.mem 𝓡.run) tt 0 refl refl fm (all-inside-thm.met 𝓤 𝓛 𝓜 𝓡) (id⊢ 𝓤 _) (λ r e. id⊢ 𝓤 _)
+      calls_walk 𝓛 point κ q points flag flag b (all-inside.clauses 𝓛 𝓜.mem 𝓡.run) tt 0 refl refl fm (all-inside-thm.met 𝓤 𝓛 𝓜 𝓡) (id⊢ 𝓤 _) (λ r e. id⊢ 𝓤 _)
       is₃ (λ i. and_then ! (cell ! 8 refl) (and_then ! (cell ! 6 refl) (no_more !))) (λ r lines is₅.
       first ! $ branches ! (cell ! 2 refl) (λ yes.
       let all_in = inside fund ps k b r count header lines (is_true r yes) in
-      calls-handed 𝓛 point κ q points totals terms fund (summed.clauses 𝓛 𝓜.mem 𝓡.run) tt 10 refl refl fm (summed-thm.met 𝓤 𝓛 𝓜 𝓡) (fact_i 𝓤 _ (emp 𝓤) all_in) (λ t e. id⊢ 𝓤 _)
+      calls_handed 𝓛 point κ q points totals terms fund (summed.clauses 𝓛 𝓜.mem 𝓡.run) tt 10 refl refl fm (summed-thm.met 𝓤 𝓛 𝓜 𝓡) (fact_i 𝓤 _ (emp 𝓤) all_in) (λ t e. id⊢ 𝓤 _)
       is_f (λ i. and_then ! (cell ! 10 refl) (and_then ! (cell ! 8 refl) (no_more !))) (λ t sums is-t.
-      returns_within ! ((Stated 𝓛 totalled.ended c).post y) refl (look ! 12 refl) $ frees-cells ! 12 (_ ∷ _ ∷ _ ∷ _ ∷ _ ∷ _ ∷ []) refl $ free0 ! $
-      ends-plain 𝓛 totalled.ended c y totals t is-t (tt, (tt, tt)) (via 𝓤 _ (emp∗ 𝓤 _) (emp∗ 𝓤 _)) (fact_i 𝓤 _ (emp 𝓤) (totalled-inside fund ps t all_in sums))))
+      returns_within ! ((Stated 𝓛 totalled.ended c).post y) refl (look ! 12 refl) $ frees_cells ! 12 (_ ∷ _ ∷ _ ∷ _ ∷ _ ∷ _ ∷ []) refl $ free0 ! $
+      ends_plain 𝓛 totalled.ended c y totals t is-t (tt, (tt, tt)) (via 𝓤 _ (emp∗ 𝓤 _) (emp∗ 𝓤 _)) (fact_i 𝓤 _ (emp 𝓤) (totalled_inside fund ps t all_in sums))))
       (λ no. skips ! $ exec ! (tables 𝓤 H 𝓜 𝓡 code.env).C (tables 𝓤 H 𝓜 𝓡 code.env).Λ (E bs) rest (at_ret (E bs) ((Stated 𝓛 totalled.ended c).post y)) $
-      calls-plain 𝓛 none.ended (none.clauses 𝓛 𝓜.mem 𝓡.run) ((tt, tt, tt, tt, tt), tt) totals (id⊢ 𝓤 _) (made 𝓛 []) 12 refl refl fm (none-thm.met 𝓤 𝓛 𝓜 𝓡) (id⊢ 𝓤 _) (λ t e. id⊢ 𝓤 _)
+      calls_plain 𝓛 none.ended (none.clauses 𝓛 𝓜.mem 𝓡.run) ((tt, tt, tt, tt, tt), tt) totals (id⊢ 𝓤 _) (made 𝓛 []) 12 refl refl fm (none-thm.met 𝓤 𝓛 𝓜 𝓡) (id⊢ 𝓤 _) (λ t e. id⊢ 𝓤 _)
       (no_more !) (λ t e is-t.
-      returns ! (look ! 12 refl) $ frees-cells ! 12 (_ ∷ _ ∷ _ ∷ _ ∷ _ ∷ _ ∷ []) refl $ free0 ! $
-      ends-plain 𝓛 totalled.ended c y totals t is-t (tt, (tt, tt)) (via 𝓤 _ (emp∗ 𝓤 _) (emp∗ 𝓤 _)) (fact_i 𝓤 _ (emp 𝓤) (totalled-outside fund ps t (outside fund ps k b r count header lines (is_false r no)) e)))))))
+      returns ! (look ! 12 refl) $ frees_cells ! 12 (_ ∷ _ ∷ _ ∷ _ ∷ _ ∷ _ ∷ []) refl $ free0 ! $
+      ends_plain 𝓛 totalled.ended c y totals t is-t (tt, (tt, tt)) (via 𝓤 _ (emp∗ 𝓤 _) (emp∗ 𝓤 _)) (fact_i 𝓤 _ (emp 𝓤) (totalled_outside fund ps t (outside fund ps k b r count header lines (is_false r no)) e)))))))
 
 pub table-totals-spec : {M : Type 1} → stated.statement M
 unfolding code.routine
 table-totals-spec 𝓤 𝓛 𝓜 𝓡 =
-    handed-meets 𝓛 𝓜 𝓡 point T'.mir terms (c 𝓛 𝓜 𝓡) others body code.env (λ fund ps. Unit {0}) 8 6 {name = #totalled} (code.unfolded 𝓤 𝓛.H 𝓜 𝓡)
+    handed_meets 𝓛 𝓜 𝓡 point T'.mir terms (c 𝓛 𝓜 𝓡) others body code.env (λ fund ps. Unit {0}) 8 6 {name = #totalled} (code.unfolded 𝓤 𝓛.H 𝓜 𝓡)
     (λ κ x table g. fact_i 𝓤 (Unit {0}) (emp 𝓤) tt) (λ bs Γ. refl) (λ bs Γ i. refl) (walk 𝓛 𝓜 𝓡)

@@ -1,8 +1,8 @@
 -- The slices are cleared; where the tests pass, the first lines are lent to fill them.
 use borrow.Author.Rules.{rules}
 use Rattle.fund.specs.Refusals.{Lengths}
-use Rattle.transform.specs.Transformed.{lengthsOf}
-use Rattle.transform.proofs.FilledTransform.{refused-transform, table_fits, filled-transform}
+use Rattle.transform.specs.Transformed.{lengths_of}
+use Rattle.transform.proofs.FilledTransform.{refused_transform, table_fits, filled_transform}
 use Rattle.transform.proofs.transformed.Statement.{statement}
 use Rattle.transform.proofs.transformed.Tie as tie
 
@@ -10,7 +10,7 @@ abbrev tests : tie.After-clear → tie.After-tested-totals
 tests z = z.before.before.before.before.before
 
 abbrev slices : tie.Start → Lengths
-slices s = lengthsOf s.args.transform.now s.args.h.now s.args.f s.args.r s.args.sums
+slices s = lengths_of s.args.transform.now s.args.h.now s.args.f s.args.r s.args.sums
 
 returns : tie.Need-returns
 returns c =
@@ -19,7 +19,7 @@ returns c =
     let o = (tests z).before in
     let s = o.before.before in
     rw (z.before.before.before.clear-signed.ensures, z.clear.ensures)
-    (refused-transform s.args.fund s.args.n _ _ o.first-totals.ensures (slices s) _ (tests z).tested-totals.ensures m.match.keys2)
+    (refused_transform s.args.fund s.args.n _ _ o.first-totals.ensures (slices s) _ (tests z).tested-totals.ensures m.match.keys2)
 
 fill-first-requires : tie.Need-fill-first-requires
 fill-first-requires c κs =
@@ -37,7 +37,7 @@ returns-2 c =
     let z = told.before.before.before.before in
     let o = (tests z).before in
     let s = o.before.before in
-    filled-transform s.args.fund s.args.n _ _ o.first-totals.ensures (slices s) _ (tests z).tested-totals.ensures told.enum_told.given.1 _ _
+    filled_transform s.args.fund s.args.n _ _ o.first-totals.ensures (slices s) _ (tests z).tested-totals.ensures told.enum_told.given.1 _ _
     (rw (z.before.before.before.clear-signed.ensures, z.clear.ensures) at fill.fill-first.ensures)
 
 pub transformed-spec : {M : Type 1} → statement M

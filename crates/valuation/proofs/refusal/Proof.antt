@@ -9,18 +9,18 @@ use Rattle.fund.specs.declared.Verdict.TheVariants.{Refused}
 use Rattle.recursion_limits.specs.declared.Recursed.{Recursed}
 use Rattle.recursion_limits.specs.declared.Recursed.TheVariants as recursed
 use Rattle.recursion_limits.specs.contracts.Recursed as R
-use Rattle.valuation.specs.Steps.{refusalOf}
+use Rattle.valuation.specs.Steps.{refusal_of}
 use Rattle.valuation.proofs.refusal.Statement.{statement}
 use Rattle.valuation.proofs.refusal.Tie as tie
 
 returns : tie.Need-returns
-returns c = ap refusalOf (sym c.before.answer.given.1)
+returns c = ap refusal_of (sym c.before.answer.given.1)
 
 returns-2 : tie.Need-returns-2
-returns-2 c = ap refusalOf (sym c.enum_told.given.1)
+returns-2 c = ap refusal_of (sym c.enum_told.given.1)
 
 -- the other arms
-others : (a : Recursed) → OneOf (1 ∷ 2 ∷ 4 ∷ []) (Declared.tag_of R.the_type a) → Refused refusal.Range 0 ≡ refusalOf a
+others : (a : Recursed) → OneOf (1 ∷ 2 ∷ 4 ∷ []) (Declared.tag_of R.the_type a) → Refused refusal.Range 0 ≡ refusal_of a
 others recursed.Done k = absurd (miss (1 ∷ 2 ∷ 4 ∷ []) 0 tt k)
 others recursed.Short k = refl
 others (recursed.Outside x) k = refl

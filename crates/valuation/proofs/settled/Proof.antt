@@ -5,9 +5,9 @@ use borrow.Author.Rules.{rules, sfits_of}
 use lib.ListN.{length}
 use mir.Syntax.{w64}
 use mir.Facts.{to_z-of_z}
-use Rattle.fund.specs.Answer.{noFigures}
-use Rattle.valuation.specs.Steps.{ReadyFor, centimesIn}
-use Rattle.valuation.proofs.SettledCells.{answers-wide, Stands, stands, below-deductible, sums-fit, answers-accepted}
+use Rattle.fund.specs.Answer.{no_figures}
+use Rattle.valuation.specs.Steps.{ReadyFor, centimes_in}
+use Rattle.valuation.proofs.SettledCells.{answers_wide, Stands, stands, below_deductible, sums_fit, answers_accepted}
 use Rattle.valuation.proofs.settled.Statement.{statement}
 use Rattle.valuation.proofs.settled.Tie as tie
 
@@ -18,8 +18,8 @@ returns c count ps k =
     let m = t-clear.before.before.before in
     let s = m.before.before.before in
     let a = s.args in
-    answers-wide a.fund count ps a.t a.transform.now a.h.now a.f.now a.r.now (length a.sums.now) k a.answer m.match.keys2 s.requires.left_is _ _ _ _
-    (c.refused.ensures ∙ ap (λ v. record { verdict = v; figures = noFigures }) c.before.refusal.ensures) t-clear.clear-transform.ensures.0 t-clear.clear-transform.ensures.1 s-clear.clear-signed.ensures
+    answers_wide a.fund count ps a.t a.transform.now a.h.now a.f.now a.r.now (length a.sums.now) k a.answer m.match.keys2 s.requires.left_is _ _ _ _
+    (c.refused.ensures ∙ ap (λ v. record { verdict = v; figures = no_figures }) c.before.refusal.ensures) t-clear.clear-transform.ensures.0 t-clear.clear-transform.ensures.1 s-clear.clear-signed.ensures
 
 -- the cells stand, for every table of which this is known
 standing : (c : tie.After-enum-told) (count : _) (ps : _) →
@@ -37,7 +37,7 @@ running-sums-requires c κs =
     let s = c.before.before.before.before.before in
     let a = s.args in
     let k = s.requires.ready.ready in
-    sums-fit a.fund s.requires.ready.count s.requires.ready.ps a.t a.transform.now a.h.now a.f.now a.r.now (length a.sums.now) k (standing c.before _ _ k)
+    sums_fit a.fund s.requires.ready.count s.requires.ready.ps a.t a.transform.now a.h.now a.f.now a.r.now (length a.sums.now) k (standing c.before _ _ k)
 
 premium-requires : tie.Need-premium-requires
 premium-requires c κs =
@@ -45,7 +45,7 @@ premium-requires c κs =
     let s = told.before.before.before.before in
     let a = s.args in
     let k = s.requires.ready.ready in
-    (below-deductible a.fund s.requires.ready.count s.requires.ready.ps a.t a.transform.now a.h.now a.f.now a.r.now (length a.sums.now) k (standing told _ _ k), (omega (arith, (k.totals-are.sums k.verdict-is.inside_is).mean-is), k.verdict-is.truncation-within))
+    (below_deductible a.fund s.requires.ready.count s.requires.ready.ps a.t a.transform.now a.h.now a.f.now a.r.now (length a.sums.now) k (standing told _ _ k), (omega (arith, (k.totals_are.sums k.verdict_is.inside_is).mean_is), k.verdict_is.truncation_within))
 
 returns-2 : tie.Need-returns-2
 returns-2 c count ps k =
@@ -56,9 +56,9 @@ returns-2 c count ps k =
     let s = told.before.before.before.before in
     let a = s.args in
     let same = to_z-of_z (sfits_of {w = w64} price.premium.type-inv.1.1.0.1) in
-    answers-accepted a.fund count ps a.t a.transform.now a.h.now a.f.now a.r.now (length a.sums.now) k (standing told count ps k) _ price.premium.result _ _ price.premium.ensures
+    answers_accepted a.fund count ps a.t a.transform.now a.h.now a.f.now a.r.now (length a.sums.now) k (standing told count ps k) _ price.premium.result _ _ price.premium.ensures
     same
-    (c.before.centimes-of.ensures ∙ ap centimesIn (rw same at gross.gross-premium.ensures))
+    (c.before.centimes-of.ensures ∙ ap centimes_in (rw same at gross.gross-premium.ensures))
     summed.running-sums.ensures
 
 pub settled-spec : {M : Type 1} → statement M

@@ -4,7 +4,7 @@ use lib.ListN.{length, take}
 use Rattle.fund.specs.Refusals.{Lengths}
 use Rattle.valuation.specs.Valued.{lengths}
 use Rattle.valuation.specs.Steps.{ReadyFor}
-use Rattle.valuation.proofs.RefusedTotals.{left-judged, left-answered}
+use Rattle.valuation.proofs.RefusedTotals.{left_judged, left_answered}
 use Rattle.valuation.proofs.value.Statement.{statement}
 use Rattle.valuation.proofs.value.Tie as tie
 
@@ -31,7 +31,7 @@ returns c =
     let m = cells.before.before.before.before.before in
     let o = m.before.before.before.before in
     let s = entered o in
-    left-judged s.args.fund s.args.n _ (slices s) o.transformed.result.totals o.transformed.result.verdict c.refused.result _ _ _ _ _ m.match.keys2
+    left_judged s.args.fund s.args.n _ (slices s) o.transformed.result.totals o.transformed.result.verdict c.refused.result _ _ _ _ _ m.match.keys2
     o.transformed.ensures c.refused.ensures cells.clear-cells.ensures
 
 recursed-requires : tie.Need-recursed-requires
@@ -45,7 +45,7 @@ returns-2 c =
     let s = entered o in
     let k = o.transformed.auto.1.1.1.1.1.1 in
     let r = ready told in
-    left-answered s.args.fund s.args.n _ o.transformed.result.totals r.totals-are (slices s) r.verdict-is.inside_is _
+    left_answered s.args.fund s.args.n _ o.transformed.result.totals r.totals_are (slices s) r.verdict_is.inside_is _
     (rw (k.0, k.1.0) at (done.recursed.ensures _ _ r))
 
 pub value_spec : {M : Type 1} → statement M

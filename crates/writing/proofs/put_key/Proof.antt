@@ -7,7 +7,7 @@ use borrow.Author.Rules.{rules}
 use lib.ListN.{length, take}
 use lib.Seq.{take-suc, take-length}
 use Rattle.writing.specs.Writing.{Puts}
-use Rattle.writing.proofs.PieceLaws.{puts_none, puts-length, puts_then}
+use Rattle.writing.proofs.PieceLaws.{puts_none, puts_length, puts_then}
 use Rattle.writing.proofs.put_key.Statement.{statement}
 use Rattle.writing.proofs.put_key.Tie as tie
 
@@ -27,7 +27,7 @@ loop-again c =
     (omega arith, rw (add-one, take-suc k l.i 0 (omega arith)) (puts_then l.invariant.1 c.before.before.put_byte.ensures))
 
 same_length : tie.Need-same-length invariant-loop decreases-loop
-same_length c = puts-length c.before.loop.invariant.1
+same_length c = puts_length c.before.loop.invariant.1
 
 returns : tie.Need-returns invariant-loop decreases-loop
 returns c =

@@ -4,8 +4,8 @@ use native.Mathlib.Omega.{arith}
 use borrow.Author.Rules.{rules}
 use Rattle.writing.specs.Writing.{Puts}
 use Rattle.writing.specs.Pointed.{padded}
-use Rattle.writing.proofs.PieceLaws.{puts_none, puts-as, puts-length, puts_then}
-use Rattle.writing.proofs.Pointed.{padded-more, all-padded}
+use Rattle.writing.proofs.PieceLaws.{puts_none, puts_as, puts_length, puts_then}
+use Rattle.writing.proofs.Pointed.{padded_more, all_padded}
 use Rattle.writing.proofs.put_padded.Statement.{statement}
 use Rattle.writing.proofs.put_padded.Tie as tie
 
@@ -25,16 +25,16 @@ loop-again c =
     let left = digit.before.before in
     let l = left.before.before in (
       omega arith,
-      puts-as _ (padded-more _ _ _ _ left.before.loop-test.true left.without-places.ensures) (puts_then l.loop.invariant.1 digit.put-digit.ensures),
+      puts_as _ (padded_more _ _ _ _ left.before.loop-test.true left.without-places.ensures) (puts_then l.loop.invariant.1 digit.put-digit.ensures),
     )
 
 same_length : tie.Need-same-length invariant-loop decreases-loop
-same_length c = puts-length c.before.loop.invariant.1
+same_length c = puts_length c.before.loop.invariant.1
 
 returns : tie.Need-returns invariant-loop decreases-loop
 returns c =
     let a = c.before.before.before.args in
-    puts-as _ (all-padded c.before.loop.i a.places a.n (omega arith)) c.before.loop.invariant.1
+    puts_as _ (all_padded c.before.loop.i a.places a.n (omega arith)) c.before.loop.invariant.1
 
 pub put-padded-spec : {M : Type 1} → statement M
 put-padded-spec =

@@ -1,14 +1,14 @@
 -- `writing::put_signed` meets its contract: the sign where the number is below 0, and the magnitude in decimal.
 use mathlib.Core.Path.{refl}
 use borrow.Author.Rules.{rules}
-use Rattle.fund.specs.Listing.{decimal, signedDecimal}
-use Rattle.writing.proofs.PieceLaws.{puts-as, puts_then}
+use Rattle.fund.specs.Listing.{decimal, signed_decimal}
+use Rattle.writing.proofs.PieceLaws.{puts_as, puts_then}
 use Rattle.writing.proofs.Signed.{WithSign, signed_below, signed_above}
 use Rattle.writing.proofs.put_signed.Statement.{statement}
 use Rattle.writing.proofs.put_signed.Tie as tie
 
-signs : WithSign decimal signedDecimal
-unfolding signedDecimal
+signs : WithSign decimal signed_decimal
+unfolding signed_decimal
 signs = record { above = λ n. refl; below = λ n. refl }
 
 returns : tie.Need-returns
@@ -17,7 +17,7 @@ returns c =
     let sign = digits.before.before.before.before in
     let t = sign.before.before in
     let s = t.before.before.before in
-    puts-as _
+    puts_as _
     (signed_below signs s.args.z _ s.ranges.z t.before.magnitude.ensures t.if1.true)
     (puts_then sign.put_byte.ensures digits.put-decimal.ensures)
 
@@ -26,7 +26,7 @@ returns-2 c =
     let digits = c.before.before in
     let t = digits.before.before in
     let s = t.before.before.before in
-    puts-as _ (signed_above signs s.args.z _ s.ranges.z t.before.magnitude.ensures t.if1.false) digits.put-decimal2.ensures
+    puts_as _ (signed_above signs s.args.z _ s.ranges.z t.before.magnitude.ensures t.if1.false) digits.put-decimal2.ensures
 
 pub put-signed-spec : {M : Type 1} → statement M
 put-signed-spec =

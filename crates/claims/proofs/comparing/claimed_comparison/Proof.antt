@@ -1,6 +1,6 @@
 -- The contract of the comparison, in plain words.
 use borrow.Author.Rules.{rules}
-use Rattle.claims.proofs.Compared.{compares-plainly}
+use Rattle.claims.proofs.Compared.{compares_plainly}
 use Rattle.claims.proofs.comparing.claimed_comparison.Statement.{statement}
 use Rattle.claims.proofs.comparing.claimed_comparison.Tie as tie
 
@@ -8,7 +8,7 @@ returns : tie.Need-returns
 returns c =
     let lent = c.before.before.before.before.before.before.before in
     let called = lent.before.before.before.before.before.before.before in
-    compares-plainly _ _ _ _ _ _ _ _ _ _ _ _ _ _ _ _ called.compare.ensures
+    compares_plainly _ _ _ _ _ _ _ _ _ _ _ _ _ _ _ _ called.compare.ensures
 
 pub claimed-comparison-spec : {M : Type 1} → statement M
 claimed-comparison-spec =

@@ -1,8 +1,8 @@
--- `lines::header::header_step`: each return is a step of the definition `readHeader`.
+-- `lines::header::header_step`: each return is a step of the definition `read_header`.
 use mathlib.Core.Path.{sym, ◌∙◌}
 use native.Mathlib.Omega.{arith}
 use borrow.Author.Rules.{rules}
-use Rattle.lines.proofs.Headers.{step-missing, step-form, step_range, step-next}
+use Rattle.lines.proofs.Headers.{step_missing, step_form, step_range, step_next}
 use Rattle.lines.proofs.header.header_step.Statement.{statement}
 use Rattle.lines.proofs.header.header_step.Tie as tie
 
@@ -10,7 +10,7 @@ returns : tie.Need-returns
 returns c =
     let s = c.before.before in
     let a = s.args in
-    step-missing a.file.now a.k a.at s.requires (omega arith)
+    step_missing a.file.now a.k a.at s.requires (omega arith)
 
 returns-2 : tie.Need-returns-2
 returns-2 c =
@@ -18,7 +18,7 @@ returns-2 c =
     let r = c.before.before.before.before.before.numbers-at in
     let s = l.before.before.before in
     let a = s.args in
-    step-next a.file.now a.k a.at s.requires _ l.next-line.ensures r.result r.ensures c.before.before.before.before.if2.true (sym c.before.header-in-range.ensures ∙ c.if3.true)
+    step_next a.file.now a.k a.at s.requires _ l.next-line.ensures r.result r.ensures c.before.before.before.before.if2.true (sym c.before.header-in-range.ensures ∙ c.if3.true)
 
 returns-3 : tie.Need-returns-3
 returns-3 c =
@@ -34,7 +34,7 @@ returns-4 c =
     let r = c.before.numbers-at in
     let s = l.before.before.before in
     let a = s.args in
-    step-form a.file.now a.k a.at s.requires _ l.next-line.ensures r.result r.ensures c.if2.false
+    step_form a.file.now a.k a.at s.requires _ l.next-line.ensures r.result r.ensures c.if2.false
 
 pub header-step-spec : {M : Type 1} → statement M
 header-step-spec =

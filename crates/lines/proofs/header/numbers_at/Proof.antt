@@ -3,13 +3,13 @@ use mathlib.Core.Path.{◌≡◌}
 use native.Mathlib.Omega.{arith}
 use borrow.Author.Rules.{rules}
 use Rattle.fund.specs.Base.{bytes}
-use Rattle.fund.specs.Reading.{headerLines}
-use Rattle.lines.specs.Header.{headerLine}
+use Rattle.fund.specs.Reading.{header_lines}
+use Rattle.lines.specs.Header.{header_line}
 use Rattle.lines.proofs.header.numbers_at.Statement.{statement}
 use Rattle.lines.proofs.header.numbers_at.Tie as tie
 
 pub numbers-at-spec : {M : Type 1} → statement M
-unfolding headerLine headerLines bytes
+unfolding header_line header_lines bytes
 numbers-at-spec =
     tie.close
     (tie.spec (λ c. search rules) (λ c κs. search rules) (λ c. search rules) (λ c κs. search rules)

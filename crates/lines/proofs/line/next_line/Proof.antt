@@ -29,8 +29,8 @@ use denote.Triple.Walked.{needs}
 use Rattle.lines.specs.Lines.{NextLine}
 use Rattle.lines.specs.declared.line.Line.{Line}
 use Rattle.lines.specs.declared.line.LineReader.{LineReader}
-use Rattle.walks.specs.FreedLocals.{frees-cell}
-use Rattle.walks.specs.Walks.{Stated, tokens, passed, Walk, starts, calls-for, ends, cell}
+use Rattle.walks.specs.FreedLocals.{frees_cell}
+use Rattle.walks.specs.Walks.{Stated, tokens, passed, Walk, starts, calls_for, ends, cell}
 use Rattle.lines.specs.contracts.line.LineReader as T
 use Rattle.lines.proofs.line.LineReader.TheLaws as T'
 use Rattle.lines.specs.contracts.line.Line as S
@@ -53,11 +53,11 @@ module _ {M : Type 1} {𝓤 : Ura M} (𝓛 : Logic 𝓤) (𝓜 : Model 𝓤 𝓛
   abbrev c : Clauses 𝓤 next-line.ended
   c = next-line.clauses 𝓛 𝓜.mem 𝓡.run
 
-  abbrev reader-asked : Clauses 𝓤 reader_at.ended
-  reader-asked = reader_at.clauses 𝓛 𝓜.mem 𝓡.run
+  abbrev reader_asked : Clauses 𝓤 reader_at.ended
+  reader_asked = reader_at.clauses 𝓛 𝓜.mem 𝓡.run
 
-  abbrev line-asked : Clauses 𝓤 take-line.ended
-  line-asked = take-line.clauses 𝓛 𝓜.mem 𝓡.run
+  abbrev line_asked : Clauses 𝓤 take-line.ended
+  line_asked = take-line.clauses 𝓛 𝓜.mem 𝓡.run
 
   module _ (κ : Lft) (q : Share) (file : Bor (List ℕ)) (at : ℕ) where
     abbrev v : Val
@@ -83,16 +83,16 @@ module _ {M : Type 1} {𝓤 : Ura M} (𝓛 : Logic 𝓤) (𝓜 : Model 𝓤 𝓛
         pass1 ! (init ! 4 refl ((shr_slice_Lawful 𝓛 (named 0) κ u8).typed file (v ∷ []) is).0) $ pass1 ! (init ! 2 refl (tt, record { fits = fits })) $ pass0 ! $
         -- [room for _3; …; _2; …; _1; …; room for _0; …; the token; what the file and the position own]
         move ! (8 ∷ 9 ∷ []) $
-        calls-for 𝓛 reader_at.ended reader-asked y ! (framed 𝓤 H 𝓜 (tables 𝓤 H 𝓜 𝓡 code.env)) (reader-at-thm.met 𝓤 𝓛 𝓜 𝓡) (id⊢ 𝓤 _)
+        calls_for 𝓛 reader_at.ended reader_asked y ! (framed 𝓤 H 𝓜 (tables 𝓤 H 𝓜 𝓡 code.env)) (reader-at-thm.met 𝓤 𝓛 𝓜 𝓡) (id⊢ 𝓤 _)
         (λ (r : LineReader). r ≡ made) (λ r e. id⊢ 𝓤 _) (and_then ! (cell ! 5 refl) (and_then ! (cell ! 3 refl) (no_more !))) (λ u r e is-r.
         -- [what the reader owns; the token; room for _3; …; _2; …; _1; …; room for _0; …]
         land ! (from ! (stop !)) (init ! 2 refl ((LL.lawful (T.the_type α) (T'.the_laws α) 𝓛).typed r _ is-r).0) $
         nothing ! $ move ! (1 ∷ 0 ∷ []) $ fjoin ! $ move ! (1 ∷ 0 ∷ []) $
-        calls-for 𝓛 take-line.ended line-asked (((κ, tt), (q, tt), tt, (r, tt), (u ∷ [], tt)), tt) ! (framed 𝓤 H 𝓜 (tables 𝓤 H 𝓜 𝓡 code.env)) (take-line-thm.met 𝓤 𝓛 𝓜 𝓡)
+        calls_for 𝓛 take-line.ended line_asked (((κ, tt), (q, tt), tt, (r, tt), (u ∷ [], tt)), tt) ! (framed 𝓤 H 𝓜 (tables 𝓤 H 𝓜 𝓡 code.env)) (take-line-thm.met 𝓤 𝓛 𝓜 𝓡)
         (fact_i 𝓤 _ (emp 𝓤) (subst (λ (x : LineReader). x.at < length x.file.now) (sym e) inside)) (Took r) (λ l e. id⊢ 𝓤 _) (and_then ! (cell ! 1 refl) (no_more !)) (λ u' l took is-l.
         -- [what the line owns; the token; _3; …; _2; …; _1; …; room for _0; …]
         land ! (from ! (stop !)) (init ! 8 refl ((LL.lawful S.the_type S'.the_laws 𝓛).typed l _ is-l).0) $
-        returns ! (look ! 8 refl) $ frees-cell ! 8 8 refl refl $ frees-cell ! 6 6 refl refl $ frees-cell ! 4 4 refl refl $ frees-cell ! 2 2 refl refl $ free0 ! $
+        returns ! (look ! 8 refl) $ frees_cell ! 8 8 refl refl $ frees_cell ! 6 6 refl refl $ frees_cell ! 4 4 refl refl $ frees_cell ! 2 2 refl refl $ free0 ! $
         by ! (ends 𝓛 next-line.ended c y u' l (tt, (tt, tt)) (via 𝓤 _ (emp∗ 𝓤 _) (emp∗ 𝓤 _)) (fact_i 𝓤 _ (emp 𝓤) (subst (λ (x : LineReader). Took x l) e took)))))))))
 
   meets : Triple 𝓤 Run (Stated 𝓛 next-line.ended c)

@@ -27,7 +27,7 @@ use denote.Triple.Clauses.{Clauses}
 use denote.Triple.Statement.{Triple}
 use denote.Triple.Table.{entered}
 use Rattle.lines.specs.declared.line.LineReader.{LineReader}
-use Rattle.walks.specs.FreedLocals.{frees-cell}
+use Rattle.walks.specs.FreedLocals.{frees_cell}
 use Rattle.walks.specs.Walks.{Stated, tokens, passed, Walk, starts, ends, cell}
 use Rattle.lines.specs.contracts.line.LineReader as T
 use Rattle.lines.proofs.line.LineReader.TheLaws as T'
@@ -65,7 +65,7 @@ module _ {M : Type 1} {𝓤 : Ura M} (𝓛 : Logic 𝓤) (𝓜 : Model 𝓤 𝓛
         alloc1 ! (λ l₀. alloc1 ! (λ l₁. alloc1 ! (λ l₂. alloc0 ! $ params1 ! $ pass1 ! (init ! 2 refl typed) $ pass1 ! (init ! 0 refl (tt, record { fits = fits })) $ pass0 ! $
         -- [_2; …; _1; …; room for _0; …; the token; what the file and the position own]
         assigns ! (agg ! (and_then ! (cell ! 2 refl) (and_then ! (cell ! 0 refl) (no_more !)))) (from ! (stop !)) (init ! 4 refl (tt, (typed.1, (record { fits = fits }, tt)))) $
-        returns ! (look ! 4 refl) $ frees-cell ! 4 4 refl refl $ frees-cell ! 2 2 refl refl $ frees-cell ! 0 0 refl refl $ free0 ! $
+        returns ! (look ! 4 refl) $ frees_cell ! 4 4 refl refl $ frees_cell ! 2 2 refl refl $ frees_cell ! 0 0 refl refl $ free0 ! $
         -- [the token; what the file and the position own]: that is what the reader owns
         move ! (1 ∷ 0 ∷ []) $ use1 𝓛 (‵ ((T.the_row α).own_val made (T'.lowered made ∷ []))) (own_shut 𝓛 (T.the_type α) (T'.the_laws α) (file, (at, tt))) $
         by ! (ends 𝓛 reader_at.ended c y (T'.lowered made) made (tt, (tt, tt)) (via 𝓤 _ (emp∗ 𝓤 _) (emp∗ 𝓤 _)) (fact_i 𝓤 _ (emp 𝓤) refl)))))

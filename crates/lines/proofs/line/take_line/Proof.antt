@@ -30,8 +30,8 @@ use denote.Triple.Table.{entered, framed}
 use denote.Triple.Walked.{needs}
 use Rattle.lines.specs.Lines.{NextLine}
 use Rattle.lines.specs.declared.line.LineReader.{LineReader}
-use Rattle.walks.specs.FreedLocals.{frees-cell}
-use Rattle.walks.specs.Walks.{Stated, tokens, passed, Walk, starts, calls-for, ends, cell}
+use Rattle.walks.specs.FreedLocals.{frees_cell}
+use Rattle.walks.specs.Walks.{Stated, tokens, passed, Walk, starts, calls_for, ends, cell}
 use Rattle.lines.specs.contracts.line.LineReader as T
 use Rattle.lines.proofs.line.LineReader.TheLaws as T'
 use Rattle.lines.specs.contracts.line.Line as S
@@ -85,11 +85,11 @@ module _ {M : Type 1} {𝓤 : Ura M} (𝓛 : Logic 𝓤) (𝓜 : Model 𝓤 𝓛
         move ! (9 ∷ []) $ fsplit ! $
         use1 𝓛 (given (mach ∷ [] ≡ mach ∷ []) (‵ (all_own (D (κ, tt)).parts (L (κ, tt)) fields))) (own_open 𝓛 (D (κ, tt)) (L (κ, tt)) fields mach) $
         learn ! (λ _. move ! (1 ∷ []) $ drop ! $ move ! (9 ∷ 0 ∷ []) $
-        calls-for 𝓛 line-from.ended asked to ! (framed 𝓤 H 𝓜 (tables 𝓤 H 𝓜 𝓡 code.env)) (line-from-thm.met 𝓤 𝓛 𝓜 𝓡) (fact_i 𝓤 _ (emp 𝓤) inside)
+        calls_for 𝓛 line-from.ended asked to ! (framed 𝓤 H 𝓜 (tables 𝓤 H 𝓜 𝓡 code.env)) (line-from-thm.met 𝓤 𝓛 𝓜 𝓡) (fact_i 𝓤 _ (emp 𝓤) inside)
         (NextLine d.file.now d.at) (λ l e. id⊢ 𝓤 _) (and_then ! (cell ! 3 refl) (and_then ! (cell ! 1 refl) (no_more !))) (λ v l found is.
         -- [what the line owns; the token; _3; …; _2; …; _1; …; room for _0; …]
         land ! (from ! (stop !)) (init ! 8 refl ((LL.lawful S.the_type S'.the_laws 𝓛).typed l _ is).0) $
-        returns ! (look ! 8 refl) $ frees-cell ! 8 8 refl refl $ frees-cell ! 6 6 refl refl $ frees-cell ! 4 4 refl refl $ frees-cell ! 2 2 refl refl $ free0 ! $
+        returns ! (look ! 8 refl) $ frees_cell ! 8 8 refl refl $ frees_cell ! 6 6 refl refl $ frees_cell ! 4 4 refl refl $ frees_cell ! 2 2 refl refl $ free0 ! $
         by ! (ends 𝓛 take-line.ended c y v l (tt, tt) (emp∗ 𝓤 _) (fact_i 𝓤 _ (emp 𝓤) found))))))))
 
   meets : Triple 𝓤 Run (Stated 𝓛 take-line.ended c)

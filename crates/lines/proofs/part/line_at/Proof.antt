@@ -6,7 +6,7 @@ use native.Mathlib.Omega.{arith}
 use borrow.Author.Rules.{rules}
 use Rattle.fund.specs.Answer.{empty, line_at}
 use Rattle.lines.specs.Part.{Spans}
-use Rattle.lines.proofs.Parts.{spans-none}
+use Rattle.lines.proofs.Parts.{spans_none}
 use Rattle.lines.proofs.part.line_at.Statement.{statement}
 use Rattle.lines.proofs.part.line_at.Tie as tie
 
@@ -17,7 +17,7 @@ no_place file place e = rw e
 returns : tie.Need-returns
 returns c =
     let a = c.before.before.before.args in
-    spans-none _ _ _ (no_place a.file.now a.place c.before.if1.true) c.empty.ensures
+    spans_none _ _ _ (no_place a.file.now a.place c.before.if1.true) c.empty.ensures
 
 returns-2 : tie.Need-returns-2
 returns-2 c =

@@ -7,8 +7,8 @@ use borrow.Author.Rules.{rules}
 use lib.ListN.{length}
 use Rattle.fund.specs.Lines.{lines}
 use Rattle.lines.specs.Lines.{Passed}
-use Rattle.lines.proofs.Lines.{line-there, line-missing, passed-next}
-use Rattle.lines.proofs.Parts.{spans-none}
+use Rattle.lines.proofs.Lines.{line_there, line_missing, passed_next}
+use Rattle.lines.proofs.Parts.{spans_none}
 use Rattle.lines.proofs.part.line_behind.Statement.{statement}
 use Rattle.lines.proofs.part.line_behind.Tie as tie
 
@@ -36,7 +36,7 @@ returns c =
     record {
       ordered = n.within.ordered;
       inside = n.within.inside;
-      same = line-there _ _ _ l.invariant.passed _ _ (omega (arith, l.invariant.fewer, c.if1.true)) n;
+      same = line_there _ _ _ l.invariant.passed _ _ (omega (arith, l.invariant.fewer, c.if1.true)) n;
     }
 
 loop-less : tie.Need-loop-smaller invariant-loop decreases-loop
@@ -50,12 +50,12 @@ loop-again c =
     let n = c.before.next-line.ensures in
     let a = c.before.before.before.before.before.args in
     let z : a.before - l.left + 1 ≡ a.before - (l.left - 1) = omega (arith, l.invariant.fewer, c.if1.false) in
-    record { fewer = omega (arith, l.invariant.fewer); passed = subst (λ (k : ℕ). Passed a.file.now k c.before.next-line.result.next) z (passed-next _ _ _ l.invariant.passed _ n) }
+    record { fewer = omega (arith, l.invariant.fewer); passed = subst (λ (k : ℕ). Passed a.file.now k c.before.next-line.result.next) z (passed_next _ _ _ l.invariant.passed _ n) }
 
 returns-2 : tie.Need-returns-2 invariant-loop decreases-loop
 returns-2 c =
     let l = c.before.before.loop in
-    spans-none _ _ _ (line-missing _ _ _ l.invariant.passed _ (omega arith) c.before.loop-test.false) c.empty.ensures
+    spans_none _ _ _ (line_missing _ _ _ l.invariant.passed _ (omega arith) c.before.loop-test.false) c.empty.ensures
 
 pub line-behind-spec : {M : Type 1} → statement M
 line-behind-spec =

@@ -8,7 +8,7 @@ use denote.Enum.Declared
 use Rattle.fund.specs.declared.Refusal.{Refusal}
 use Rattle.fund.specs.declared.Refusal.TheVariants.{Form, Range, Edition, Deductible, Unmatched, Half, Load, Order, Short, Wide, Cell}
 use Rattle.fund.specs.contracts.Refusal as R
-use Rattle.fund.specs.Answer.{namesLine}
+use Rattle.fund.specs.Answer.{names_line}
 use Rattle.lines.proofs.part.names_line.Statement.{statement}
 use Rattle.lines.proofs.part.names_line.Tie as tie
 
@@ -18,7 +18,7 @@ named = 0 ∷ 1 ∷ 4 ∷ 5 ∷ []
 abbrev others : List ℕ
 others = 2 ∷ 3 ∷ 6 ∷ 7 ∷ 8 ∷ 9 ∷ 10 ∷ []
 
-told : (w : Refusal) → (OneOf named (Declared.tag_of R.the_type w) → true ≡ namesLine w) × (OneOf others (Declared.tag_of R.the_type w) → false ≡ namesLine w)
+told : (w : Refusal) → (OneOf named (Declared.tag_of R.the_type w) → true ≡ names_line w) × (OneOf others (Declared.tag_of R.the_type w) → false ≡ names_line w)
 told Form = (λ h. refl, λ h. absurd (miss others 0 tt h))
 told Range = (λ h. refl, λ h. absurd (miss others 1 tt h))
 told Edition = (λ h. absurd (miss named 2 tt h), λ h. refl)

@@ -1,7 +1,7 @@
 -- `lines::row::row_at`: the first of the three spellings that the line has.
 use borrow.Author.Rules.{rules}
 use Rattle.fund.specs.Base.{bytes}
-use Rattle.lines.proofs.Rows.{missing, rate-there, member-there, end-there, other}
+use Rattle.lines.proofs.Rows.{missing, rate_there, member_there, end_there, other}
 use Rattle.lines.proofs.row.row_at.Statement.{statement}
 use Rattle.lines.proofs.row.row_at.Tie as tie
 
@@ -12,14 +12,14 @@ returns-2 : tie.Need-returns-2
 unfolding bytes
 returns-2 c =
     let r = c.before.before.before.before in
-    rate-there _ _ _ r.before.before.next-line.ensures _ r.spelled.ensures c.before.before.before.if2.true
+    rate_there _ _ _ r.before.before.next-line.ensures _ r.spelled.ensures c.before.before.before.if2.true
 
 returns-3 : tie.Need-returns-3
 unfolding bytes
 returns-3 c =
     let m = c.before.before.before.before.before.before in
     let r = m.before.before.before in
-    member-there _ _ _ r.before.before.next-line.ensures _ r.spelled.ensures m.before.before.if2.false _ m.spelled2.ensures c.before.before.before.before.before.if3.true
+    member_there _ _ _ r.before.before.next-line.ensures _ r.spelled.ensures m.before.before.if2.false _ m.spelled2.ensures c.before.before.before.before.before.if3.true
 
 returns-4 : tie.Need-returns-4
 unfolding bytes
@@ -27,7 +27,7 @@ returns-4 c =
     let e = c.before.before in
     let m = e.before.before.before in
     let r = m.before.before.before in
-    end-there _ _ _ r.before.before.next-line.ensures _ r.spelled.ensures m.before.before.if2.false _ m.spelled2.ensures e.before.before.if3.false _ e.spelled3.ensures c.before.if4.true
+    end_there _ _ _ r.before.before.next-line.ensures _ r.spelled.ensures m.before.before.if2.false _ m.spelled2.ensures e.before.before.if3.false _ e.spelled3.ensures c.before.if4.true
 
 returns-5 : tie.Need-returns-5
 unfolding bytes

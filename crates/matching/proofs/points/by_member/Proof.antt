@@ -5,10 +5,10 @@ use Prim.Native.Nat.{suc, ◌+◌, ◌-◌, ◌*◌}
 use native.Mathlib.Omega.{arith}
 use borrow.Author.Rules.{rules}
 use lib.ListN.{length, length-map}
-use Rattle.fund.specs.Limits.{most-rates, most-members}
+use Rattle.fund.specs.Limits.{most_rates, most_members}
 use Rattle.fund.specs.declared.Verdict.TheVariants.{Accepted}
-use Rattle.matching.specs.Matching.{withPoints}
-use Rattle.matching.proofs.PointsSoFar.{PointsSoFar, start, points-long, next-rate, no-rate, its-rate, half-found, all-points}
+use Rattle.matching.specs.Matching.{with_points}
+use Rattle.matching.proofs.PointsSoFar.{PointsSoFar, start, points_long, next_rate, no_rate, its_rate, half_found, all_points}
 use Rattle.matching.proofs.points.by_member.Statement.{statement}
 use Rattle.matching.proofs.points.by_member.Tie as tie
 
@@ -17,44 +17,44 @@ invariant-loop line found matched₀ half-at₀ k₀ j₀ matched half_at k j =
     (matched.verdict ≡ Accepted) × PointsSoFar found.rates found.rated found.members found.enrolled line matched.points half_at k j
 
 abbrev decreases-loop : tie.decreases-loop
-decreases-loop line found matched₀ half-at₀ k₀ j₀ matched half_at k j = (found.enrolled - k) * suc most-rates + (found.rated - j)
+decreases-loop line found matched₀ half-at₀ k₀ j₀ matched half_at k j = (found.enrolled - k) * suc most_rates + (found.rated - j)
 
 loop-holds : tie.Need-loop-init invariant-loop decreases-loop
 loop-holds c =
     let s = c.before in
     let found = s.args.t1 in
-    let rates-long : length found.rates ≡ most-rates = sym (length-map found.rates _) ∙ s.well-formed.0.1.1.1.1.0.1.0.1 in
-    let members-long : length found.members ≡ most-members = sym (length-map found.members _) ∙ s.well-formed.0.1.1.1.1.1.1.0.1.0.1 in
+    let rates_long : length found.rates ≡ most_rates = sym (length-map found.rates _) ∙ s.well-formed.0.1.1.1.1.0.1.0.1 in
+    let members_long : length found.members ≡ most_members = sym (length-map found.members _) ∙ s.well-formed.0.1.1.1.1.1.1.0.1.0.1 in
     rw c.without-points.ensures
-    (refl, start found.rates found.rated found.members found.enrolled s.args.line (omega (arith, rates-long)) (omega (arith, members-long)) members-long)
+    (refl, start found.rates found.rated found.members found.enrolled s.args.line (omega (arith, rates_long)) (omega (arith, members_long)) members_long)
 
 loop-again : tie.Need-loop-preserved invariant-loop decreases-loop
 loop-again c =
     let l = c.before.before.before.before.before.before.before.loop in
-    (l.invariant.0, next-rate l.invariant.1 (omega arith) (omega arith) (omega arith))
+    (l.invariant.0, next_rate l.invariant.1 (omega arith) (omega arith) (omega arith))
 
 returns : tie.Need-returns invariant-loop decreases-loop
-unfolding withPoints
+unfolding with_points
 returns c =
     let l = c.before.before.before.before.before in
-    no-rate l.loop.invariant.1 (omega arith) (λ h. ⊎_elim (λ w. omega arith) (λ w. omega arith) c.before.before.if1.branch) c.before.if3.true _ c.without-points2.ensures
+    no_rate l.loop.invariant.1 (omega arith) (λ h. ⊎_elim (λ w. omega arith) (λ w. omega arith) c.before.before.if1.branch) c.before.if3.true _ c.without-points2.ensures
 
 element-set-from-matched : tie.Need-element-set-from-matched invariant-loop decreases-loop
-element-set-from-matched c = omega (arith, points-long c.before.before.before.before.before.before.before.loop.invariant.1)
+element-set-from-matched c = omega (arith, points_long c.before.before.before.before.before.before.before.loop.invariant.1)
 
 loop-again-2 : tie.Need-loop-preserved-2 invariant-loop decreases-loop
 loop-again-2 c =
     let l = c.before.before.before.before.before.before.before in
-    (l.loop.invariant.0, its-rate l.loop.invariant.1 (omega arith) (λ h. ⊎_elim (λ w. omega arith) (λ w. omega arith) c.before.before.before.before.if1.branch) (omega arith) (l.loop.j - 1) (omega arith) _ _ c.before.folded.ensures c.first-place.ensures)
+    (l.loop.invariant.0, its_rate l.loop.invariant.1 (omega arith) (λ h. ⊎_elim (λ w. omega arith) (λ w. omega arith) c.before.before.before.before.if1.branch) (omega arith) (l.loop.j - 1) (omega arith) _ _ c.before.folded.ensures c.first-place.ensures)
 
 returns-2 : tie.Need-returns-2 invariant-loop decreases-loop
-unfolding withPoints
-returns-2 c = half-found c.before.before.before.loop.invariant.1 (omega arith) c.before.if4.true _ c.without-points3.ensures
+unfolding with_points
+returns-2 c = half_found c.before.before.before.loop.invariant.1 (omega arith) c.before.if4.true _ c.without-points3.ensures
 
 returns-3 : tie.Need-returns-3 invariant-loop decreases-loop
 returns-3 c =
     let l = c.before.before.loop in
-    rw l.invariant.0 (all-points l.invariant.1 (omega arith) c.if4.false)
+    rw l.invariant.0 (all_points l.invariant.1 (omega arith) c.if4.false)
 
 pub by-member-spec : {M : Type 1} → statement M
 by-member-spec =

@@ -1,12 +1,12 @@
 -- `matching::table::without_points`: every point is blank.
 use mathlib.Core.Path.{refl}
 use Rattle.fund.specs.Answer.{lent}
-use Rattle.matching.specs.Matching.{pointTable}
+use Rattle.matching.specs.Matching.{point_table}
 use Rattle.matching.proofs.table.without_points.Statement.{statement}
 use Rattle.matching.proofs.table.without_points.Tie as tie
 
 returns : tie.Need-returns
-unfolding pointTable lent
+unfolding point_table lent
 returns c = refl
 
 pub without-points-spec : {M : Type 1} → statement M

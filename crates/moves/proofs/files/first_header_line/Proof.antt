@@ -1,11 +1,11 @@
 -- `moves::files::first_header_line`: line by line, from the last to the first.
 use borrow.Author.Rules.{rules}
-use Rattle.moves.specs.Differences.{firstHeaderLine}
+use Rattle.moves.specs.Differences.{first_header_line}
 use Rattle.moves.proofs.files.first_header_line.Statement.{statement}
 use Rattle.moves.proofs.files.first_header_line.Tie as tie
 
 returns : tie.Need-returns
-unfolding firstHeaderLine
+unfolding first_header_line
 returns c =
     let order = c.before.before.before in
     let death = order.before.before.before in

@@ -4,7 +4,7 @@ use mathlib.Core.Bool.{◌&&◌, and_assoc}
 use mathlib.Core.Logic.{⊎_elim}
 use lib.Dec.{eqb}
 use borrow.Author.Tests.{eq-eqb, ne_eqb}
-use Rattle.moves.specs.Differences.{sameMember}
+use Rattle.moves.specs.Differences.{same_member}
 use Rattle.moves.proofs.files.is_same.Statement.{statement}
 use Rattle.moves.proofs.files.is_same.Tie as tie
 
@@ -19,8 +19,8 @@ four : (c : tie.Joined3) → let a = c.before.before.before.before.before.args i
     c.if3.if4 ≡ eqb a.m.age a.n.age && eqb a.m.group a.n.group && eqb a.m.d a.n.d && eqb a.m.e a.n.e
 four c = let e = sym (three c.before) in ⊎_elim (λ p. rw (e, p.0.taken, p.3)) (λ p. rw (e, p.1, p.0.left)) c.if3.branch
 
-all : (c : tie.Joined3) → let a = c.before.before.before.before.before.args in sameMember a.m a.n ≡ c.if3.if4 && eqb a.m.lives a.n.lives
-unfolding sameMember
+all : (c : tie.Joined3) → let a = c.before.before.before.before.before.args in same_member a.m a.n ≡ c.if3.if4 && eqb a.m.lives a.n.lives
+unfolding same_member
 all c = rw (four c) (simp (and_assoc))
 
 returns : tie.Need-returns

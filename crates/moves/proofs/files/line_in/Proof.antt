@@ -3,7 +3,7 @@ use native.Mathlib.Omega.{arith}
 use lib.ListN.{length-take}
 use borrow.Author.Rules.{rules}
 use borrow.Author.Tests.{eq-eqb, ne_eqb}
-use Rattle.fund.specs.Reading.{headerLines}
+use Rattle.fund.specs.Reading.{header_lines}
 use Rattle.moves.proofs.files.line_in.Statement.{statement}
 use Rattle.moves.proofs.files.line_in.Tie as tie
 
@@ -11,7 +11,7 @@ returns : tie.Need-returns
 returns c = rw (eq-eqb _ _ c.if1.true)
 
 returns-2 : tie.Need-returns-2
-unfolding headerLines
+unfolding header_lines
 returns-2 c =
     let a = c.before.before.args in
     rw (ne_eqb _ _ c.before.if1.false) (omega (arith, c.least.ensures, length-take a.rated a.rates))

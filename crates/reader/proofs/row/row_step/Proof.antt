@@ -2,25 +2,25 @@
 use mathlib.Core.Path.{sym, ◌∙◌}
 use native.Mathlib.Omega.{arith}
 use borrow.Author.Rules.{rules}
-use Rattle.fund.specs.Reading.{headerLines}
-use Rattle.reader.proofs.Steps.{step_other, step-order, step-rate-out, step-rate, step-member-out, step-member, step_count, step-more, step_end}
+use Rattle.fund.specs.Reading.{header_lines}
+use Rattle.reader.proofs.Steps.{step_other, step_order, step_rate_out, step_rate, step_member_out, step_member, step_count, step_more, step_end}
 use Rattle.reader.proofs.row.row_step.Statement.{statement}
 use Rattle.reader.proofs.row.row_step.Tie as tie
 
 returns : tie.Need-returns
 returns c =
     let k = c.before.before in
-    step-order _ _ _ _ _ _ _ k.before.before.before.line-place.ensures _ _ (rw k.r.given.1 at k.before.before.row_at.ensures) c.if1.true
+    step_order _ _ _ _ _ _ _ k.before.before.before.line-place.ensures _ _ (rw k.r.given.1 at k.before.before.row_at.ensures) c.if1.true
 
 returns-2 : tie.Need-returns-2
 returns-2 c =
     let k = c.before.before.before.before in
-    step-rate _ _ _ _ _ _ _ k.before.before.before.line-place.ensures _ _ (rw k.r.given.1 at k.before.before.row_at.ensures) (omega (arith, c.before.before.if1.false)) (sym c.before.rate-in-range.ensures ∙ c.if2.true)
+    step_rate _ _ _ _ _ _ _ k.before.before.before.line-place.ensures _ _ (rw k.r.given.1 at k.before.before.row_at.ensures) (omega (arith, c.before.before.if1.false)) (sym c.before.rate-in-range.ensures ∙ c.if2.true)
 
 returns-3 : tie.Need-returns-3
 returns-3 c =
     let k = c.before.before.before in
-    step-member _ _ _ _ _ _ _ k.before.before.before.line-place.ensures _ _ (rw k.m.given.1 at k.before.before.row_at.ensures) (sym c.before.member-in-range.ensures ∙ c.if3.true)
+    step_member _ _ _ _ _ _ _ k.before.before.before.line-place.ensures _ _ (rw k.m.given.1 at k.before.before.row_at.ensures) (sym c.before.member-in-range.ensures ∙ c.if3.true)
 
 returns-4 : tie.Need-returns-4
 returns-4 c =
@@ -28,7 +28,7 @@ returns-4 c =
     step_count _ _ _ _ _ _ _ k.before.before.before.line-place.ensures _ _ (rw k.k.given.1 at k.before.before.row_at.ensures) c.if4.true
 
 add-t28 : tie.Need-overflow-add-t28
-unfolding headerLines
+unfolding header_lines
 add-t28 c =
     let p = c.before.before.before.before.before.before in
     omega (arith, p.line-place.ensures, p.before.before.requires.0, p.before.before.requires.1)
@@ -36,7 +36,7 @@ add-t28 c =
 returns-5 : tie.Need-returns-5
 returns-5 c =
     let k = c.before.before.before in
-    step-more _ _ _ _ _ _ _ k.before.before.before.line-place.ensures _ _ (rw k.k.given.1 at k.before.before.row_at.ensures) c.before.if4.false c.if5.true
+    step_more _ _ _ _ _ _ _ k.before.before.before.line-place.ensures _ _ (rw k.k.given.1 at k.before.before.row_at.ensures) c.before.if4.false c.if5.true
 
 returns-6 : tie.Need-returns-6
 returns-6 c =
@@ -46,12 +46,12 @@ returns-6 c =
 returns-7 : tie.Need-returns-7
 returns-7 c =
     let k = c.before.before.before.before in
-    step-rate-out _ _ _ _ _ _ _ k.before.before.before.line-place.ensures _ _ (rw k.r.given.1 at k.before.before.row_at.ensures) (omega (arith, c.before.before.if1.false)) (sym c.before.rate-in-range.ensures ∙ c.if2.false)
+    step_rate_out _ _ _ _ _ _ _ k.before.before.before.line-place.ensures _ _ (rw k.r.given.1 at k.before.before.row_at.ensures) (omega (arith, c.before.before.if1.false)) (sym c.before.rate-in-range.ensures ∙ c.if2.false)
 
 returns-8 : tie.Need-returns-8
 returns-8 c =
     let k = c.before.before.before in
-    step-member-out _ _ _ _ _ _ _ k.before.before.before.line-place.ensures _ _ (rw k.m.given.1 at k.before.before.row_at.ensures) (sym c.before.member-in-range.ensures ∙ c.if3.false)
+    step_member_out _ _ _ _ _ _ _ k.before.before.before.line-place.ensures _ _ (rw k.m.given.1 at k.before.before.row_at.ensures) (sym c.before.member-in-range.ensures ∙ c.if3.false)
 
 returns-9 : tie.Need-returns-9
 returns-9 c =

@@ -8,7 +8,7 @@ use borrow.Author.Rules.{sfits_of}
 use mir.Facts.{to_z-of_z}
 use lib.ListN.{length}
 use Rattle.recursion.specs.Places.{Listed, AllSmall}
-use Rattle.recursion.proofs.ListedPlaces.{listed-none, listed-noted, small-noted}
+use Rattle.recursion.proofs.ListedPlaces.{listed_none, listed_noted, small_noted}
 use Rattle.recursion.proofs.places.list_places.Statement.{statement}
 use Rattle.recursion.proofs.places.list_places.Tie as tie
 
@@ -20,7 +20,7 @@ abbrev decreases-loop : tie.decreases-loop
 decreases-loop horizon d h list₀ p₀ k₀ list p k = horizon - k
 
 loop-holds : tie.Need-loop-init invariant-loop decreases-loop
-loop-holds c = (omega arith, refl, listed-none _ _ _, λ e j l. absurd (omega arith))
+loop-holds c = (omega arith, refl, listed_none _ _ _, λ e j l. absurd (omega arith))
 
 note-requires : tie.Need-note-requires invariant-loop decreases-loop
 note-requires c κs =
@@ -38,8 +38,8 @@ loop-again c =
     let long : l.p.count < length l.list = omega (arith, l.invariant.2.few, l.invariant.1, s.requires.2) in (
       omega arith,
       n.auto.0 ∙ l.invariant.1,
-      rw add-one (listed-noted a.transform.now a.h.now l.k l.list _ l.p _ l.invariant.2 long noted),
-      rw add-one (small-noted a.transform.now a.h.now l.k l.list _ l.p _ l.invariant.2 long noted l.invariant.3),
+      rw add-one (listed_noted a.transform.now a.h.now l.k l.list _ l.p _ l.invariant.2 long noted),
+      rw add-one (small_noted a.transform.now a.h.now l.k l.list _ l.p _ l.invariant.2 long noted l.invariant.3),
     )
 
 same_length : tie.Need-same-length invariant-loop decreases-loop

@@ -1,11 +1,11 @@
 -- `opposite` meets its contract, by the two signs.
 use mir.Facts.{to_z-of_z}
-use Rattle.recursion.proofs.Opposite.{signs-opposite}
+use Rattle.recursion.proofs.Opposite.{signs_opposite}
 use Rattle.recursion.proofs.products.opposite.Statement.{statement}
 use Rattle.recursion.proofs.products.opposite.Tie as tie
 
 returns : tie.Need-returns
-returns c = rw (to_z-of_z c.ranges.d, to_z-of_z c.ranges.f) (signs-opposite c.args.d c.args.f)
+returns c = rw (to_z-of_z c.ranges.d, to_z-of_z c.ranges.f) (signs_opposite c.args.d c.args.f)
 
 pub opposite-spec : {M : Type 1} → statement M
 opposite-spec = tie.close (tie.spec returns)

@@ -1,6 +1,6 @@
 -- The parts of a product fit a word, and are rounded by constants.
 use native.Mathlib.Omega.{arith}
-use Rattle.recursion.proofs.SmallProduct.{Parts, parts, nearest-is}
+use Rattle.recursion.proofs.SmallProduct.{Parts, parts, nearest_is}
 use Rattle.recursion.proofs.products.product_nearest.Statement.{statement}
 use Rattle.recursion.proofs.products.product_nearest.Tie as tie
 
@@ -20,7 +20,7 @@ add-result-2 : tie.Need-overflow-add-result-2
 add-result-2 c = omega (arith, in_parts c)
 
 returns : tie.Need-returns
-returns c = nearest-is c.args.a c.args.b (in_parts c)
+returns c = nearest_is c.args.a c.args.b (in_parts c)
 
 pub product-nearest-spec : {M : Type 1} → statement M
 product-nearest-spec =

@@ -15,9 +15,9 @@ use Rattle.fund.specs.Recursion.{Cell}
 use Rattle.whole.specs.Sums.{sum_of}
 use Rattle.recursion_limits.specs.Limits.{CellFits}
 use Rattle.recursion.specs.Slices.{cell_of}
-use Rattle.recursion.specs.Steps.{most-part-sum, CellsFilled}
-use Rattle.recursion.proofs.SumsTo.{sums-fit}
-use Rattle.recursion.proofs.CellsFilled.{filled-first, filled-known, next-f, next-R, filled_more}
+use Rattle.recursion.specs.Steps.{most_part_sum, CellsFilled}
+use Rattle.recursion.proofs.SumsTo.{sums_fit}
+use Rattle.recursion.proofs.CellsFilled.{filled_first, filled_known, next_f, next_R, filled_more}
 use Rattle.recursion.proofs.steps.fill_cells.Statement.{statement}
 use Rattle.recursion.proofs.steps.fill_cells.Tie as tie
 
@@ -39,7 +39,7 @@ loop-holds c =
       omega arith,
       refl,
       refl,
-      filled-first a.horizon a.transform.now a.h.now a.f.now a.r.now (omega arith) (omega arith) s.requires.1.0.2,
+      filled_first a.horizon a.transform.now a.h.now a.f.now a.r.now (omega arith) (omega arith) s.requires.1.0.2,
     )
 
 sums-requires : tie.Need-sums-requires invariant-loop decreases-loop
@@ -48,41 +48,41 @@ sums-requires c κs =
     let a = s.args in
     let l = c.before.before.before.loop in (
       s.requires.0,
-      ((filled-known a.horizon a.transform.now a.h.now a.f.now a.r.now l.f l.r l.last l.invariant.3 (omega arith) (omega arith), omega arith), s.requires.1.1),
+      ((filled_known a.horizon a.transform.now a.h.now a.f.now a.r.now l.f l.r l.last l.invariant.3 (omega arith) (omega arith), omega arith), s.requires.1.1),
     )
 
 -- the sums for the next cell fit
 fit : (c : tie.After-sums invariant-loop decreases-loop) →
-    (c.sums.result.plus ≤ most-part-sum) × (c.sums.result.minus ≤ most-part-sum) × (c.sums.result.bound ≤ most-part-sum)
+    (c.sums.result.plus ≤ most_part_sum) × (c.sums.result.minus ≤ most_part_sum) × (c.sums.result.bound ≤ most_part_sum)
 fit c =
     let s = c.before.before.before.before.before.before.before.before in
     let a = s.args in
     let l = c.before.before.before.before.loop in
-    sums-fit a.transform.now a.h.now l.f l.r l.last a.horizon (suc l.last) c.sums.result s.requires.0 (omega arith) c.sums.ensures
+    sums_fit a.transform.now a.h.now l.f l.r l.last a.horizon (suc l.last) c.sums.result s.requires.0 (omega arith) c.sums.ensures
 
 bound-of-requires : tie.Need-bound-of-requires invariant-loop decreases-loop
 bound-of-requires c κs =
     ((fit c).2, omega arith)
 
 -- R and f of the next cell
-bound-is : (c : tie.After-bound-of invariant-loop decreases-loop) → c.bound_of.result ≡ (cell c.before.before.before.before.before.before.before.before.before (suc c.before.before.before.before.before.loop.last)).R
-bound-is c =
+bound_is : (c : tie.After-bound-of invariant-loop decreases-loop) → c.bound_of.result ≡ (cell c.before.before.before.before.before.before.before.before.before (suc c.before.before.before.before.before.loop.last)).R
+bound_is c =
     let a = c.before.before.before.before.before.before.before.before.before.args in
     let l = c.before.before.before.before.before.loop in
     let s = c.before.sums in
     c.bound_of.ensures
     ∙ ap (λ x. up s.result.bound x + 1) (add-one l.last)
-    ∙ next-R a.horizon a.transform.now a.h.now a.f.now a.r.now l.f l.r l.last l.invariant.3 s.result (omega arith) s.ensures
+    ∙ next_R a.horizon a.transform.now a.h.now a.f.now a.r.now l.f l.r l.last l.invariant.3 s.result (omega arith) s.ensures
 
-cell-is : (c : tie.After-cell-of invariant-loop decreases-loop) → to_z w64 (of_z w64 c.cell-of.result) ≡ (cell c.before.before.before.before.before.before.before.before.before.before.before (suc c.before.before.before.before.before.before.before.loop.last)).f
-cell-is c =
+cell_is : (c : tie.After-cell-of invariant-loop decreases-loop) → to_z w64 (of_z w64 c.cell-of.result) ≡ (cell c.before.before.before.before.before.before.before.before.before.before.before (suc c.before.before.before.before.before.before.before.loop.last)).f
+cell_is c =
     let a = c.before.before.before.before.before.before.before.before.before.before.before.args in
     let l = c.before.before.before.before.before.before.before.loop in
     let s = c.before.before.before.sums in
     to_z-of_z (sfits_of {w = w64} c.cell-of.type-inv)
     ∙ c.cell-of.ensures
     ∙ ap (λ x. nearest (sum_of s.result) x) (add-one l.last)
-    ∙ next-f a.horizon a.transform.now a.h.now a.f.now a.r.now l.f l.r l.last l.invariant.3 s.result (omega arith) s.ensures
+    ∙ next_f a.horizon a.transform.now a.h.now a.f.now a.r.now l.f l.r l.last l.invariant.3 s.result (omega arith) s.ensures
 
 same_length : tie.Need-same-length invariant-loop decreases-loop
 same_length c = c.before.before.before.before.before.before.loop.invariant.1
@@ -97,7 +97,7 @@ returns c =
     (record {
       within = omega arith;
       fit = λ y g. l.invariant.3.fit y (omega arith);
-      wide = omega (arith, bound-is c.before, c.if1.true);
+      wide = omega (arith, bound_is c.before, c.if1.true);
     })
 
 cell-of-requires : tie.Need-cell-of-requires invariant-loop decreases-loop
@@ -116,7 +116,7 @@ same-length-4 c = c.before.before.before.before.before.before.before.before.befo
 
 -- |f| of the next cell
 size_is : (c : tie.After-magnitude invariant-loop decreases-loop) → c.magnitude.result ≡ nat_abs (cell c.before.before.before.before.before.before.before.before.before.before.before.before (suc c.before.before.before.before.before.before.before.before.loop.last)).f
-size_is c = c.magnitude.ensures ∙ ap nat_abs (cell-is c.before)
+size_is c = c.magnitude.ensures ∙ ap nat_abs (cell_is c.before)
 
 returns-2 : tie.Need-returns-2 invariant-loop decreases-loop
 returns-2 c =
@@ -125,7 +125,7 @@ returns-2 c =
     (record {
       within = omega arith;
       fit = λ y g. l.invariant.3.fit y (omega arith);
-      narrow = omega (arith, bound-is c.before.before.before.before, c.before.before.before.if1.false);
+      narrow = omega (arith, bound_is c.before.before.before.before, c.before.before.before.if1.false);
       large = omega (arith, size_is c.before, c.if2.true);
     })
 
@@ -135,16 +135,16 @@ loop-again c =
     let start = turn.before.before.before.before.before.before.before.before.before.before in
     let a = start.args in
     let l = c.before.before.before.before.before.before.before.before.before.loop in
-    let R-is = bound-is c.before.before.before.before in
+    let R_is = bound_is c.before.before.before.before in
     let limited : CellFits (cell start (suc l.last)) =
-    record { narrow = omega (arith, R-is, c.before.before.before.if1.false); level = omega (arith, size_is c.before, c.if2.false) } in (
+    record { narrow = omega (arith, R_is, c.before.before.before.if1.false); level = omega (arith, size_is c.before, c.if2.false) } in (
       omega arith,
       simp length-set l.invariant.1,
       simp length-set l.invariant.2,
       rw add-one
           (filled_more a.horizon a.transform.now a.h.now a.f.now a.r.now l.f l.r l.last l.invariant.3
           (to_z w64 (of_z w64 c.before.before.cell-of.result)) c.before.before.before.before.bound_of.result
-          (omega arith) (omega arith) (cell-is c.before.before) R-is limited),
+          (omega arith) (omega arith) (cell_is c.before.before) R_is limited),
     )
 
 same-length-5 : tie.Need-same-length-5 invariant-loop decreases-loop

@@ -12,7 +12,7 @@ use mir.Val.{to_z, of_z}
 use mir.Facts.{to_z-of_z}
 use Rattle.recursion.specs.Places.{from}
 use Rattle.recursion.specs.Steps.{SumsTo}
-use Rattle.recursion.proofs.SumsTo.{sums_none, sums-more, sums-small, sums_at, sums-over, sums-end}
+use Rattle.recursion.proofs.SumsTo.{sums_none, sums_more, sums_small, sums_at, sums_over, sums_end}
 use Rattle.recursion.proofs.steps.sums.Statement.{statement}
 use Rattle.recursion.proofs.steps.sums.Tie as tie
 
@@ -32,14 +32,14 @@ returns c =
     let s = c.before.before.before.before.before.before.before.before in
     let a = s.args in
     let l = c.before.before.before.before.loop in
-    sums-over a.transform.now a.h.now a.f.now a.r.now a.last a.horizon a.list.now a.p.count l.s s.requires.0 s.requires.1.0.0 s.requires.1.0.1 s.requires.1.1.listed l.j (omega arith) c.if2.true l.invariant.1 l.invariant.2
+    sums_over a.transform.now a.h.now a.f.now a.r.now a.last a.horizon a.list.now a.p.count l.s s.requires.0 s.requires.1.0.0 s.requires.1.0.1 s.requires.1.1.listed l.j (omega arith) c.if2.true l.invariant.1 l.invariant.2
 
 -- what was read of D and of f are the elements
-read-D : (c : tie.After-shared-slice-known6 invariant-loop decreases-loop) → let a = c.before.before.before.before.before.before.before.before.before.before.before.before.args in let k = get_or a.list.now c.before.before.before.before.before.before.before.before.loop.j 0 in to_z w64 (of_z w64 (get_or a.transform.now (k + 1) (pos 0))) ≡ get_or a.transform.now (k + 1) (pos 0)
-read-D c = to_z-of_z (sfits_of c.before.before.before.add-arg.given)
+read_D : (c : tie.After-shared-slice-known6 invariant-loop decreases-loop) → let a = c.before.before.before.before.before.before.before.before.before.before.before.before.args in let k = get_or a.list.now c.before.before.before.before.before.before.before.before.loop.j 0 in to_z w64 (of_z w64 (get_or a.transform.now (k + 1) (pos 0))) ≡ get_or a.transform.now (k + 1) (pos 0)
+read_D c = to_z-of_z (sfits_of c.before.before.before.add-arg.given)
 
-read-f : (c : tie.After-shared-slice-known6 invariant-loop decreases-loop) → let a = c.before.before.before.before.before.before.before.before.before.before.before.before.args in let k = get_or a.list.now c.before.before.before.before.before.before.before.before.loop.j 0 in to_z w64 (of_z w64 (get_or a.f.now (a.last - k) (pos 0))) ≡ get_or a.f.now (a.last - k) (pos 0)
-read-f c = to_z-of_z (sfits_of c.before.add-arg2.given)
+read_f : (c : tie.After-shared-slice-known6 invariant-loop decreases-loop) → let a = c.before.before.before.before.before.before.before.before.before.before.before.before.args in let k = get_or a.list.now c.before.before.before.before.before.before.before.before.loop.j 0 in to_z w64 (of_z w64 (get_or a.f.now (a.last - k) (pos 0))) ≡ get_or a.f.now (a.last - k) (pos 0)
+read_f c = to_z-of_z (sfits_of c.before.add-arg2.given)
 
 add-requires : tie.Need-add-requires invariant-loop decreases-loop
 add-requires c κs =
@@ -49,8 +49,8 @@ add-requires c κs =
     let i = s.requires.1.1 in
     let k = get_or a.list.now l.j 0 in
     let sums = sums_at a.transform.now a.h.now a.f.now a.r.now a.last a.horizon a.list.now a.p.count l.s s.requires.0 s.requires.1.0.0 s.requires.1.0.1 i.listed l.j (omega arith) c.before.before.before.before.if2.false l.invariant.2 in
-    rw (read-D c, read-f c, add-one)
-    (sums-small a.transform.now a.h.now a.f.now a.r.now a.last a.horizon k l.s s.requires.0 s.requires.1.0.0 s.requires.1.0.1 c.before.before.before.before.if2.false sums, λ e. i.all_small e k (i.listed.within l.j (omega arith)))
+    rw (read_D c, read_f c, add-one)
+    (sums_small a.transform.now a.h.now a.f.now a.r.now a.last a.horizon k l.s s.requires.0 s.requires.1.0.0 s.requires.1.0.1 c.before.before.before.before.if2.false sums, λ e. i.all_small e k (i.listed.within l.j (omega arith)))
 
 loop-again : tie.Need-loop-preserved invariant-loop decreases-loop
 loop-again c =
@@ -64,7 +64,7 @@ loop-again c =
     rw add-one (
       omega arith,
       omega (arith, c.before.before.before.before.before.if2.false),
-      sums-more a.transform.now a.h.now a.f.now a.r.now a.last k l.s c.add.result sums (rw (read-D c.before, read-f c.before, add-one) at c.add.ensures),
+      sums_more a.transform.now a.h.now a.f.now a.r.now a.last k l.s c.add.result sums (rw (read_D c.before, read_f c.before, add-one) at c.add.ensures),
     )
 
 returns-2 : tie.Need-returns-2 invariant-loop decreases-loop
@@ -74,7 +74,7 @@ returns-2 c =
     let l = c.before.before.loop in
     let e : l.j ≡ a.p.count = omega arith in
     let all = subst (λ j. (from a.list.now j ≤ suc a.last) × SumsTo a.transform.now a.h.now a.f.now a.r.now a.last (from a.list.now j) l.s) e (l.invariant.1, l.invariant.2) in
-    sums-end a.transform.now a.h.now a.f.now a.r.now a.last a.horizon a.list.now a.p.count l.s s.requires.0 s.requires.1.0.0 s.requires.1.0.1 s.requires.1.1.listed all.0 all.1
+    sums_end a.transform.now a.h.now a.f.now a.r.now a.last a.horizon a.list.now a.p.count l.s s.requires.0 s.requires.1.0.0 s.requires.1.0.1 s.requires.1.1.listed all.0 all.1
 
 pub sums-spec : {M : Type 1} → statement M
 sums-spec =

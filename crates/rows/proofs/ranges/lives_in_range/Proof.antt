@@ -6,8 +6,8 @@ use native.Mathlib.Omega.{arith}
 use borrow.Author.Rules.{rules}
 use borrow.Author.Tests.{leb-true, leb-false, le-leb, lt-leb}
 use lib.Dec.{leb}
-use Rattle.fund.specs.Limits.{least-lives, most-lives}
-use Rattle.laws.specs.Ranges.{between-true}
+use Rattle.fund.specs.Limits.{least_lives, most_lives}
+use Rattle.laws.specs.Ranges.{between_true}
 use Rattle.rows.proofs.ranges.lives_in_range.Statement.{statement}
 use Rattle.rows.proofs.ranges.lives_in_range.Tie as tie
 
@@ -21,14 +21,14 @@ left_over before lives most h = go (leb before (most - lives)) refl
 sub-result : tie.Need-sub-result
 sub-result c =
     let a = c.before.before.args in
-    let h = between-true least-lives most-lives a.lives (sym c.before.within.ensures ∙ c.if1.taken) in
+    let h = between_true least_lives most_lives a.lives (sym c.before.within.ensures ∙ c.if1.taken) in
     omega (arith, h.1)
 
 returns : tie.Need-returns
 returns c =
     let a = c.before.before.args in
     let e = sym c.before.within.ensures ∙ c.if1.taken in
-    rw e (left_over a.before a.lives most-lives (between-true least-lives most-lives a.lives e).1)
+    rw e (left_over a.before a.lives most_lives (between_true least_lives most_lives a.lives e).1)
 
 returns-2 : tie.Need-returns-2
 returns-2 c = rw (sym c.before.within.ensures ∙ c.if1.left) c.if1.left

@@ -8,7 +8,7 @@ use lib.Ieee.Bits.{nan_bits_is}
 use Rattle.fund.specs.declared.SheetCell.{SheetCell}
 use Rattle.fund.specs.SheetCells.{cell_of}
 use Rattle.sheet_cells.specs.Patterns.{blank_of}
-use Rattle.sheet_cells.specs.Plain.{NoNan, cell-no-nan}
+use Rattle.sheet_cells.specs.Plain.{NoNan, cell_no_nan}
 use Rattle.sheet_cells.proofs.number.classed.Statement.{statement}
 use Rattle.sheet_cells.proofs.number.classed.Tie as tie
 
@@ -16,7 +16,7 @@ told : (c : tie.After-is-nan) → c.is-nan.result ≡ isNan c.before.args.x
 told c = c.is-nan.ensures ∙ nan_bits_is binary64 c.before.args.bits ∙ sym (ap isNan c.before.requires)
 
 both : {r : SheetCell} (x : Float) → cell_of x ≡ r → (r ≡ cell_of x) × NoNan r
-both x e = (sym e, subst NoNan e (cell-no-nan x))
+both x e = (sym e, subst NoNan e (cell_no_nan x))
 
 is-nan-requires : tie.Need-is-nan-requires
 is-nan-requires c κs = search rules

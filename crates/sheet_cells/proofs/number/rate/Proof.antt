@@ -7,7 +7,7 @@ use native.Mathlib.Omega.{arith}
 use borrow.Author.Rules.{rules}
 use lib.Dec.{le→leb, lit≤}
 use lib.Ieee.{Float, binary64, in_float, of_int, of_bits, div, eq, lt}
-use Rattle.fund.specs.SheetCells.{ofWhole, quotient, rateOf}
+use Rattle.fund.specs.SheetCells.{of_whole, quotient, rate_of}
 use Rattle.sheet_cells.specs.Ascending as ascending
 use Rattle.sheet_cells.proofs.number.rate.Statement.{statement}
 use Rattle.sheet_cells.proofs.number.rate.Tie as tie
@@ -16,7 +16,7 @@ abbrev q : ℕ → Float
 q k = quotient k 1000000
 
 -- the literal is the float of 1,000,000
-is : {b : Bool} (compare : Float → Float → Bool) (x : Float) (k : ℕ) → compare x (div binary64 (ofWhole k) (of_bits binary64 0x412e848000000000)) ≡ b → compare x (q k) ≡ b
+is : {b : Bool} (compare : Float → Float → Bool) (x : Float) (k : ℕ) → compare x (div binary64 (of_whole k) (of_bits binary64 0x412e848000000000)) ≡ b → compare x (q k) ≡ b
 unfolding quotient of_int of_bits
 is compare x k e = e
 
@@ -46,7 +46,7 @@ int-to-float-quotient c =
     le→leb _ _ (le_trans small (lit≤ tt))
 
 returns : tie.Need-returns invariant-loop decreases-loop
-unfolding rateOf
+unfolding rate_of
 returns c = let x = c.before.before.before.before.before.args.x in ascending.found q 1000000 ascending.millionths x _ (omega arith) (is eq x _ c.if2.true)
 
 loop-less : tie.Need-loop-smaller invariant-loop decreases-loop
@@ -56,7 +56,7 @@ loop-again : tie.Need-loop-preserved invariant-loop decreases-loop
 loop-again c =
     let at = c.before.before.before in
     let x = at.before.args.x in
-    (omega arith, ascending.within-left q 1000000 ascending.millionths x at.loop.lo at.loop.hi _ at.loop.invariant.1 (omega arith) (is lt x _ c.if1.true))
+    (omega arith, ascending.within_left q 1000000 ascending.millionths x at.loop.lo at.loop.hi _ at.loop.invariant.1 (omega arith) (is lt x _ c.if1.true))
 
 add-lo : tie.Need-overflow-add-lo invariant-loop decreases-loop
 add-lo c = omega arith
@@ -69,11 +69,11 @@ loop-again-2 c =
     let at = c.before.before.before.before in
     let x = at.before.args.x in (
       omega arith,
-      ascending.within-right q 1000000 ascending.millionths x at.loop.lo at.loop.hi _ at.loop.invariant.1 (omega arith) (is eq x _ c.if2.false) (is lt x _ c.before.if1.false),
+      ascending.within_right q 1000000 ascending.millionths x at.loop.lo at.loop.hi _ at.loop.invariant.1 (omega arith) (is eq x _ c.if2.false) (is lt x _ c.before.if1.false),
     )
 
 returns-2 : tie.Need-returns-2 invariant-loop decreases-loop
-unfolding rateOf
+unfolding rate_of
 returns-2 c = let at = c.before in ascending.none q 1000000 ascending.millionths at.before.args.x at.loop.lo at.loop.hi at.loop.invariant.1 c.loop-test.false
 
 pub rate-spec : {M : Type 1} → statement M

@@ -9,8 +9,8 @@ use lib.Dec.{T, le→leb}
 use lib.Ieee.{Float, binary64, fits, in_float, of_bits, to_bits, eq}
 use lib.Ieee.Bits.{of_bits-to_bits}
 use Rattle.fund.specs.declared.Taken.TheVariants.{Not}
-use Rattle.fund.specs.SheetCells.{ofWhole, whole_of}
-use Rattle.sheet_cells.specs.Taken.{whole-at, whole-none}
+use Rattle.fund.specs.SheetCells.{of_whole, whole_of}
+use Rattle.sheet_cells.specs.Taken.{whole_at, whole_none}
 use Rattle.sheet_cells.specs.Part.{OnlyWhole}
 use Rattle.sheet_cells.proofs.number.whole.Statement.{statement}
 use Rattle.sheet_cells.proofs.number.whole.Tie as tie
@@ -23,10 +23,10 @@ only : (x : Float) (k : ℕ) → T (fits binary64 x) → OnlyWhole (of_bits bina
 only x k h o = subst (λ (y : Float). OnlyWhole y k) (of_bits-to_bits binary64 x h) o
 
 above : (x : Float) (most k : ℕ) → most ≤ 2 ^ 53 → OnlyWhole x k → most < k → Not ≡ whole_of x most
-above x most k m o l = sym (whole-none x most (λ n h t. not-le_of_lt l (subst (λ (z : ℕ). z ≤ most) (o n (le_trans h m) t) h)))
+above x most k m o l = sym (whole_none x most (λ n h t. not-le_of_lt l (subst (λ (z : ℕ). z ≤ most) (o n (le_trans h m) t) h)))
 
-other : (x : Float) (most k : ℕ) → most ≤ 2 ^ 53 → OnlyWhole x k → eq x (ofWhole k) ≡ false → Not ≡ whole_of x most
-other x most k m o e = sym (whole-none x most (λ n h t. subst T (ap (λ (z : ℕ). eq x (ofWhole z)) (o n (le_trans h m) t) ∙ e) t))
+other : (x : Float) (most k : ℕ) → most ≤ 2 ^ 53 → OnlyWhole x k → eq x (of_whole k) ≡ false → Not ≡ whole_of x most
+other x most k m o e = sym (whole_none x most (λ n h t. subst T (ap (λ (z : ℕ). eq x (of_whole z)) (o n (le_trans h m) t) ∙ e) t))
 
 int-to-float-if2 : tie.Need-int-to-float-if2
 unfolding in_float
@@ -35,7 +35,7 @@ int-to-float-if2 c = le→leb _ _ (le_trans c.before.if1.true c.before.before.be
 returns : tie.Need-returns
 returns c =
     let start = c.before.before.before.before in
-    sym ((whole-at start.args.x start.args.most _ start.requires.0).1 c.before.before.if1.true (subst T (sym c.if2.true) tt))
+    sym ((whole_at start.args.x start.args.most _ start.requires.0).1 c.before.before.if1.true (subst T (sym c.if2.true) tt))
 
 returns-2 : tie.Need-returns-2
 returns-2 c =

@@ -3,7 +3,7 @@ use mathlib.Core.Path.{sym, ◌∙◌, subst}
 use borrow.Author.Rules.{rules}
 use lib.Dec.{T}
 use lib.Ieee.{binary64, fits}
-use Rattle.sheet_cells.specs.Plain.{subnormal-never}
+use Rattle.sheet_cells.specs.Plain.{subnormal_never}
 use Rattle.sheet_cells.proofs.number.whole_of.Statement.{statement}
 use Rattle.sheet_cells.proofs.number.whole_of.Tie as tie
 
@@ -15,7 +15,7 @@ is-subnormal-requires : tie.Need-is-subnormal-requires
 is-subnormal-requires c κs = search rules
 
 returns : tie.Need-returns
-returns c = let start = c.before.before in sym ((subnormal-never start.args.x (held start) (cc)).1 start.args.most start.requires.0)
+returns c = let start = c.before.before in sym ((subnormal_never start.args.x (held start) (cc)).1 start.args.most start.requires.0)
 
 whole-requires : tie.Need-whole-requires
 whole-requires c κs = let start = c.before.before in (start.requires.0, (start.requires.1, sym c.before.is_subnormal.ensures ∙ c.if1.false))

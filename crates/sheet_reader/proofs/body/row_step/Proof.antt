@@ -2,7 +2,7 @@
 use mathlib.Core.Path.{sym, subst}
 use borrow.Author.Rules.{rules}
 use Rattle.sheet_reader.specs.Rows.{RowStepped}
-use Rattle.sheet_reader.proofs.Next.{rows_end, row-after}
+use Rattle.sheet_reader.proofs.Next.{rows_end, row_after}
 use Rattle.sheet_reader.proofs.body.row_step.Statement.{statement}
 use Rattle.sheet_reader.proofs.body.row_step.Tie as tie
 
@@ -17,7 +17,7 @@ returns-2 c =
     let n = c.before.before.before.before in
     let a = n.before.before.before.args in
     let e = rw c.before.before.row.given.1 at n.next_row.ensures in
-    subst (RowStepped a.rates.now a.members.now a.rated a.enrolled a.least a.lives) (sym c.step_of_lem.ensures) (row-after _ _ _ _ a.least a.lives _ e)
+    subst (RowStepped a.rates.now a.members.now a.rated a.enrolled a.least a.lives) (sym c.step_of_lem.ensures) (row_after _ _ _ _ a.least a.lives _ e)
 
 pub row-step-spec : {M : Type 1} → statement M
 row-step-spec = tie.close (tie.spec (λ c κs. search rules) (λ c. search rules) (λ c. search rules) (λ c κs. search rules) returns returns-2)

@@ -1,7 +1,7 @@
 -- The group decides, and the products fit: 10^6 × 5,000 × 1,000.
 use borrow.Author.Tests.{eq-eqb, ne_eqb}
 use native.Mathlib.Omega.{arith}
-use Rattle.fund.specs.Transform.{deathWeight, disabilityWeight}
+use Rattle.fund.specs.Transform.{death_weight, disability_weight}
 use Rattle.laws.specs.Weights.{Products, products}
 use Rattle.totals.proofs.figures.lambda_part.Statement.{statement}
 use Rattle.totals.proofs.figures.lambda_part.Tie as tie
@@ -25,7 +25,7 @@ mul-result-3 : tie.Need-overflow-mul-result-3
 mul-result-3 c = omega (arith, fits c.before.before.before.before.before.before)
 
 returns-2 : tie.Need-returns-2
-unfolding deathWeight disabilityWeight
+unfolding death_weight disability_weight
 returns-2 c = rw (ne_eqb _ _ c.before.before.before.before.if1.false) (omega arith)
 
 pub lambda-part-spec : {M : Type 1} → statement M

@@ -4,15 +4,15 @@ use Prim.Native.Nat.{◌+◌, ◌*◌, ◌≤◌}
 use native.Mathlib.Nat.{mul-le-mul}
 use native.Mathlib.Omega.{arith}
 use borrow.Author.Tests.{eq-eqb, ne_eqb}
-use Rattle.fund.specs.Transform.{deathWeight, disabilityWeight}
-use Rattle.laws.specs.Weights.{most-weight, Products, products, by-thousand, weights-most}
-use Rattle.widths.specs.PartBounds.{amount-le, weighted-le}
+use Rattle.fund.specs.Transform.{death_weight, disability_weight}
+use Rattle.laws.specs.Weights.{most_weight, Products, products, by_thousand, weights_most}
+use Rattle.widths.specs.PartBounds.{amount_le, weighted_le}
 use Rattle.totals.proofs.figures.mean_part.Statement.{statement}
 use Rattle.totals.proofs.figures.mean_part.Tie as tie
 
 -- ---- group 1
 amounts : (c : tie.Start) → c.args.m.q * c.args.m.d + c.args.m.i * c.args.m.e ≤ 65535 * 1000000
-amounts c = omega (arith, amount-le c.args.m c.requires.0, c.requires.0.rates)
+amounts c = omega (arith, amount_le c.args.m c.requires.0, c.requires.0.rates)
 
 weighed-requires : tie.Need-weighed-requires
 weighed-requires c κs = omega (arith, amounts c.before.before)
@@ -36,15 +36,15 @@ returns c = rw (eq-eqb _ _ c.before.before.if1.true, both c) (omega arith)
 fits : (c : tie.Start) → let a = c.args in Products a.ab a.m.q × Products a.ab a.m.i
 fits c = products c.args.ab c.args.m c.requires.1 c.requires.0.rates
 
-weighted : (c : tie.Start) → let a = c.args in deathWeight a.ab a.m * a.m.d + disabilityWeight a.ab a.m * a.m.e ≤ 65535 * most-weight
-weighted c = let a = c.args in omega (arith, weighted-le a.m a.ab c.requires.0, weights-most a.ab a.m c.requires.1 c.requires.0.rates)
+weighted : (c : tie.Start) → let a = c.args in death_weight a.ab a.m * a.m.d + disability_weight a.ab a.m * a.m.e ≤ 65535 * most_weight
+weighted c = let a = c.args in omega (arith, weighted_le a.m a.ab c.requires.0, weights_most a.ab a.m c.requires.1 c.requires.0.rates)
 
 by_weights : (c : tie.Start) → let a = c.args in
-    (a.m.q * a.ab.death * a.m.d + a.m.i * a.ab.disability * a.m.e) * 1000 ≡ deathWeight a.ab a.m * a.m.d + disabilityWeight a.ab a.m * a.m.e
-unfolding deathWeight disabilityWeight
+    (a.m.q * a.ab.death * a.m.d + a.m.i * a.ab.disability * a.m.e) * 1000 ≡ death_weight a.ab a.m * a.m.d + disability_weight a.ab a.m * a.m.e
+unfolding death_weight disability_weight
 by_weights c =
     let a = c.args in
-    omega (arith, by-thousand (a.m.q * a.ab.death) a.m.d, by-thousand (a.m.i * a.ab.disability) a.m.e)
+    omega (arith, by_thousand (a.m.q * a.ab.death) a.m.d, by_thousand (a.m.i * a.ab.disability) a.m.e)
 
 mul-weighed : tie.Need-overflow-mul-weighed
 mul-weighed c = omega (arith, fits c.before.before.before.before)
@@ -64,15 +64,15 @@ weighed-requires-4 c κs =
     let f = fits s in
     omega (arith, mul-le-mul f.1.0 s.requires.0.disability, mul-le-mul f.1.1 s.requires.0.disability)
 
-both-weighed : (c : tie.After-weighed4) → let a = c.before.before.before.before.before.before.before.before.args in
+both_weighed : (c : tie.After-weighed4) → let a = c.before.before.before.before.before.before.before.before.args in
     c.before.before.before.weighed3.result + c.weighed4.result ≡ a.m.q * a.ab.death * a.m.d + a.m.i * a.ab.disability * a.m.e
-both-weighed c = ap₂ ◌+◌ c.before.before.before.weighed3.ensures c.weighed4.ensures
+both_weighed c = ap₂ ◌+◌ c.before.before.before.weighed3.ensures c.weighed4.ensures
 
 add-result-2 : tie.Need-overflow-add-result-2
-add-result-2 c = let s = c.before.before.before.before.before.before.before.before in omega (arith, both-weighed c, by_weights s, weighted s)
+add-result-2 c = let s = c.before.before.before.before.before.before.before.before in omega (arith, both_weighed c, by_weights s, weighted s)
 
 returns-2 : tie.Need-returns-2
-returns-2 c = rw (ne_eqb _ _ c.before.before.before.before.before.before.if1.false, both-weighed c) (by_weights c.before.before.before.before.before.before.before.before)
+returns-2 c = rw (ne_eqb _ _ c.before.before.before.before.before.before.if1.false, both_weighed c) (by_weights c.before.before.before.before.before.before.before.before)
 
 pub mean-part-spec : {M : Type 1} → statement M
 mean-part-spec =

@@ -5,7 +5,7 @@ use native.Mathlib.Nat.{le_antisymm}
 use native.Mathlib.Omega.{arith}
 use Rattle.fund.specs.Folding.{claim}
 use Rattle.fund.specs.Transform.{w}
-use Rattle.widths.specs.PartBounds.{w-first, w_le, w-next}
+use Rattle.widths.specs.PartBounds.{w_first, w_le, w_next}
 use Rattle.totals.proofs.figures.weight.Statement.{statement}
 use Rattle.totals.proofs.figures.weight.Tie as tie
 
@@ -16,7 +16,7 @@ abbrev decreases-loop : tie.decreases-loop
 decreases-loop m n last₀ k₀ last k = n - k
 
 loop-holds : tie.Need-loop-init invariant-loop decreases-loop
-loop-holds c = (c.requires, omega arith, w-first _)
+loop-holds c = (c.requires, omega arith, w_first _)
 
 next-weight-requires : tie.Need-next-weight-requires invariant-loop decreases-loop
 next-weight-requires c κs = let v = c.before.loop.invariant in (v.0, rw v.2 (w_le _ v.0 _))
@@ -24,7 +24,7 @@ next-weight-requires c κs = let v = c.before.loop.invariant in (v.0, rw v.2 (w_
 loop-again : tie.Need-loop-preserved invariant-loop decreases-loop
 loop-again c =
     let v = c.before.before.loop.invariant in
-    (v.0, omega arith, w-next _ _ _ _ v.2 c.next-weight.ensures)
+    (v.0, omega arith, w_next _ _ _ _ v.2 c.next-weight.ensures)
 
 returns : tie.Need-returns invariant-loop decreases-loop
 returns c = let v = c.before.loop.invariant in v.2 ∙ ap (w _) (le_antisymm v.1 c.loop-test.false)

@@ -18,8 +18,8 @@ use Rattle.totals.specs.contracts.inside.all_inside.Key.{name as #all-inside}
 use Rattle.totals.proofs.inside.all_inside.Statement.{statement}
 use Rattle.totals.proofs.inside.all_inside.Code as code
 
-bool-local : Extra bool ty_bool
-bool-local = record {
+bool_local : Extra bool ty_bool
+bool_local = record {
   plain = flag;
   copies = λ 𝓛. bool-copy 𝓛;
   last = λ x. tt;
@@ -29,9 +29,9 @@ bool-local = record {
 abbrev given : RValue
 given = rv_opd (copy (place 2 []))
 
-from-x : First bool bool bool-local.plain.val given
-unfolding bool-local
-from-x = record { start = λ x. x; val = vbool; is = λ x is. is; runs = λ 𝓛 Γ E x o. of_opd ! o }
+from_x : First bool bool bool_local.plain.val given
+unfolding bool_local
+from_x = record { start = λ x. x; val = vbool; is = λ x is. is; runs = λ 𝓛 Γ E x o. of_opd ! o }
 
 abbrev says : Says point bool bool false false
 says = record {
@@ -57,6 +57,6 @@ facts = record {
 }
 
 pub all-inside-spec : {M : Type 1} → statement M
-unfolding code.routine bool-local from-x
+unfolding code.routine bool_local from_x
 all-inside-spec 𝓤 𝓛 𝓜 𝓡 =
-    meets 𝓛 𝓜 𝓡 point bool bool ty_bool ty_bool given bool-local bool-local from-x false false says facts code.env #all-inside #step (code.unfolded 𝓤 𝓛.H 𝓜 𝓡) (step_thm.met 𝓤 𝓛 𝓜 𝓡)
+    meets 𝓛 𝓜 𝓡 point bool bool ty_bool ty_bool given bool_local bool_local from_x false false says facts code.env #all-inside #step (code.unfolded 𝓤 𝓛.H 𝓜 𝓡) (step_thm.met 𝓤 𝓛 𝓜 𝓡)

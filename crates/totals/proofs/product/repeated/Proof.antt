@@ -7,7 +7,7 @@ use native.Mathlib.Omega.{arith}
 use lib.ListN.{replicate}
 use Rattle.fund.specs.Recursion.{multiplied}
 use Rattle.whole.specs.Sign.{signed}
-use Rattle.totals.proofs.StartProduct.{times-one, no-larger}
+use Rattle.totals.proofs.StartProduct.{times_one, no_larger}
 use Rattle.totals.proofs.product.repeated.Statement.{statement}
 use Rattle.totals.proofs.product.repeated.Tie as tie
 
@@ -28,9 +28,9 @@ loop-again c =
     let m = c.before.before.before.args.m in
     let l = c.before.before.loop in
     let e : l.left ≡ suc (l.left - 1) = omega (arith, c.before.loop-test.true) in (
-      omega (arith, c.times.ensures, no-larger m l.product, l.invariant.0),
+      omega (arith, c.times.ensures, no_larger m l.product, l.invariant.0),
       λ s. ap (λ k. multiplied (signed s k) (replicate (l.left - 1) m)) c.times.ensures
-          ∙ sym (times-one m c.before.before.before.requires.0 s l.product (replicate (l.left - 1) m))
+          ∙ sym (times_one m c.before.before.before.requires.0 s l.product (replicate (l.left - 1) m))
           ∙ ap (λ n. multiplied (signed s l.product) (replicate n m)) (sym e)
           ∙ l.invariant.1 s,
     )

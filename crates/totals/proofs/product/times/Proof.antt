@@ -5,9 +5,9 @@ use Prim.Native.Nat.{◌-◌, ◌*◌, ◌^◌}
 use native.Mathlib.Omega.{arith}
 use Rattle.rounding.specs.Rounding.{near}
 use Rattle.rounding.specs.Word.{word}
-use Rattle.rounding.proofs.Word.{near-rounds, per-million-is}
+use Rattle.rounding.proofs.Word.{near_rounds, per_million_is}
 use Rattle.fund.specs.Folding.{stay}
-use Rattle.fund.specs.Limits.{most-rate}
+use Rattle.fund.specs.Limits.{most_rate}
 use Rattle.totals.proofs.product.times.Statement.{statement}
 use Rattle.totals.proofs.product.times.Tie as tie
 
@@ -15,8 +15,8 @@ returns : tie.Need-returns
 returns c =
     let a = c.before.before.before.args in
     let p = c.before.before.before.requires in
-    let e : most-rate - a.m.q - a.m.i ≡ stay a.m = omega arith in
-    c.nearest-per-million.ensures ∙ ap (λ k. word (near (a.size * k) (10 ^ 6))) e ∙ per-million-is near-rounds a.size (stay a.m) (omega (arith, p)) (omega arith)
+    let e : most_rate - a.m.q - a.m.i ≡ stay a.m = omega arith in
+    c.nearest-per-million.ensures ∙ ap (λ k. word (near (a.size * k) (10 ^ 6))) e ∙ per_million_is near_rounds a.size (stay a.m) (omega (arith, p)) (omega arith)
 
 pub times-spec : {M : Type 1} → statement M
 times-spec = tie.close (tie.spec (λ c. search rules) (λ c. search rules) (λ c κs. search rules) returns)

@@ -4,7 +4,7 @@ use borrow.Author.Tests.{not-true, not-false}
 use mathlib.Core.Path.{◌≡◌, sym, ◌∙◌}
 use mathlib.Core.Bool.{true}
 use Rattle.fund.specs.Transform.{placed}
-use Rattle.widths.specs.PlacedTerms.{left-out-d, left-out-h, placed-d, placed-h, term-room}
+use Rattle.widths.specs.PlacedTerms.{left_out_d, left_out_h, placed_d, placed_h, term_room}
 use Rattle.transform.proofs.terms.add_at.Statement.{statement}
 use Rattle.transform.proofs.terms.add_at.Tie as tie
 
@@ -15,10 +15,10 @@ returns : tie.Need-returns
 returns c =
     let a = c.before.before.before.before.args in
     let e = sym c.before.placed.ensures ∙ not-true c.before.placed.result c.if1.true in
-    (left-out-d a.horizon a.p.life a.n a.l a.p.lives e a.transform.now, left-out-h a.horizon a.p.life a.n a.l a.p.lives e a.h.now)
+    (left_out_d a.horizon a.p.life a.n a.l a.p.lives e a.transform.now, left_out_h a.horizon a.p.life a.n a.l a.p.lives e a.h.now)
 
-is-placed : (c : tie.Else1) → let a = c.before.before.before.before.args in placed a.horizon a.p.life a.n a.l ≡ true
-is-placed c = sym c.before.placed.ensures ∙ not-false c.before.placed.result c.if1.false
+is_placed : (c : tie.Else1) → let a = c.before.before.before.before.args in placed a.horizon a.p.life a.n a.l ≡ true
+is_placed c = sym c.before.placed.ensures ∙ not-false c.before.placed.result c.if1.false
 
 add-term-requires : tie.Need-add-term-requires
 add-term-requires c κs =
@@ -26,7 +26,7 @@ add-term-requires c κs =
     let s = y.before.before.before.before in
     let a = s.args in
     rw y.before.before.place.ensures
-    (term-room a.horizon a.p.life a.n a.l a.p.lives (is-placed y) s.requires.0 s.requires.2 s.requires.3)
+    (term_room a.horizon a.p.life a.n a.l a.p.lives (is_placed y) s.requires.0 s.requires.2 s.requires.3)
 
 returns-2 : tie.Need-returns-2
 returns-2 c =
@@ -35,8 +35,8 @@ returns-2 c =
     let a = s.args in
     let t = c.before.before.before.add_term in
     let x = y.before.before.place.ensures in (
-      rw (placed-d a.horizon a.p.life a.n a.l a.p.lives (is-placed y) a.transform.now, ← s.requires.2, ← x) t.ensures.0,
-      rw (placed-h a.horizon a.p.life a.n a.l a.p.lives (is-placed y) a.h.now, ← x) t.ensures.1,
+      rw (placed_d a.horizon a.p.life a.n a.l a.p.lives (is_placed y) a.transform.now, ← s.requires.2, ← x) t.ensures.0,
+      rw (placed_h a.horizon a.p.life a.n a.l a.p.lives (is_placed y) a.h.now, ← x) t.ensures.1,
     )
 
 pub add-at-spec : {M : Type 1} → statement M

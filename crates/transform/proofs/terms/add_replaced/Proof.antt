@@ -3,11 +3,11 @@ use borrow.Author.Rules.{rules}
 use mathlib.Core.Path.{◌≡◌, sym, ◌∙◌, ap}
 use mathlib.Core.List.{List, ◌++◌}
 use native.Mathlib.Omega.{arith}
-use Rattle.fund.specs.Transform.{Term, deathWeight, disabilityWeight, replacedTerm, replacedTerms}
+use Rattle.fund.specs.Transform.{Term, death_weight, disability_weight, replaced_term, replaced_terms}
 use Rattle.laws.specs.Weights.{Products, products}
-use Rattle.widths.specs.AddedTerms.{addD, RoomD, times}
-use Rattle.widths.specs.Times.{times-append}
-use Rattle.widths.specs.AddingLaws.{addD-append, roomD-first, roomD-rest}
+use Rattle.widths.specs.AddedTerms.{add_d, RoomD, times}
+use Rattle.widths.specs.Times.{times_append}
+use Rattle.widths.specs.AddingLaws.{add_d_append, room_d_first, room_d_rest}
 use Rattle.transform.proofs.terms.add_replaced.Statement.{statement}
 use Rattle.transform.proofs.terms.add_replaced.Tie as tie
 
@@ -16,14 +16,14 @@ fits c = products c.args.ab c.args.p.life c.requires.1 c.requires.0.rates
 
 -- the two terms, each as often as there are lives
 abbrev death : tie.Start → List Term
-death c = let a = c.args in times a.p.lives (replacedTerm a.horizon (deathWeight a.ab a.p.life) a.p.life.d)
+death c = let a = c.args in times a.p.lives (replaced_term a.horizon (death_weight a.ab a.p.life) a.p.life.d)
 
 abbrev disability : tie.Start → List Term
-disability c = let a = c.args in times a.p.lives (replacedTerm a.horizon (disabilityWeight a.ab a.p.life) a.p.life.e)
+disability c = let a = c.args in times a.p.lives (replaced_term a.horizon (disability_weight a.ab a.p.life) a.p.life.e)
 
-both : (c : tie.Start) → times c.args.p.lives (replacedTerms c.args.horizon c.args.ab c.args.p.life) ≡ death c ++ disability c
-unfolding replacedTerms
-both c = times-append c.args.p.lives _ _
+both : (c : tie.Start) → times c.args.p.lives (replaced_terms c.args.horizon c.args.ab c.args.p.life) ≡ death c ++ disability c
+unfolding replaced_terms
+both c = times_append c.args.p.lives _ _
 
 apart : (c : tie.Start) → RoomD c.args.horizon c.args.transform.now (death c ++ disability c)
 apart c = rw (both c) at c.requires.2
@@ -35,8 +35,8 @@ mul-add-replaced-term-2 : tie.Need-overflow-mul-add-replaced-term-2
 mul-add-replaced-term-2 c = omega (arith, fits c.before.before.before)
 
 add-replaced-term-requires : tie.Need-add-replaced-term-requires
-unfolding deathWeight disabilityWeight
-add-replaced-term-requires c κs = let s = c.before.before.before in (omega (arith, fits s), roomD-first (death s) (disability s) (apart s))
+unfolding death_weight disability_weight
+add-replaced-term-requires c κs = let s = c.before.before.before in (omega (arith, fits s), room_d_first (death s) (disability s) (apart s))
 
 mul-add-replaced-term-3 : tie.Need-overflow-mul-add-replaced-term-3
 mul-add-replaced-term-3 c = omega (arith, fits c.before.before.before.before.before.before.before.before)
@@ -45,19 +45,19 @@ mul-add-replaced-term-4 : tie.Need-overflow-mul-add-replaced-term-4
 mul-add-replaced-term-4 c = omega (arith, fits c.before.before.before.before.before.before.before.before)
 
 add-replaced-term-requires-2 : tie.Need-add-replaced-term-requires-2
-unfolding deathWeight disabilityWeight
+unfolding death_weight disability_weight
 add-replaced-term-requires-2 c κs =
     let s = c.before.before.before.before.before.before.before.before in
-    (omega (arith, fits s), rw c.before.before.before.before.add-replaced-term.ensures (roomD-rest (death s) (disability s) (apart s)))
+    (omega (arith, fits s), rw c.before.before.before.before.add-replaced-term.ensures (room_d_rest (death s) (disability s) (apart s)))
 
 returns : tie.Need-returns
-unfolding deathWeight disabilityWeight
+unfolding death_weight disability_weight
 returns c =
     let s = c.before.before.before.before.before.before.before.before.before.before in
     c.before.add-replaced-term2.ensures
-    ∙ ap (λ x. addD x (disability s)) c.before.before.before.before.before.before.add-replaced-term.ensures
-    ∙ sym (addD-append s.args.transform.now (death s) (disability s))
-    ∙ ap (addD s.args.transform.now) (sym (both s))
+    ∙ ap (λ x. add_d x (disability s)) c.before.before.before.before.before.before.add-replaced-term.ensures
+    ∙ sym (add_d_append s.args.transform.now (death s) (disability s))
+    ∙ ap (add_d s.args.transform.now) (sym (both s))
 
 pub add-replaced-spec : {M : Type 1} → statement M
 add-replaced-spec =

@@ -6,8 +6,8 @@ use native.Mathlib.Nat.{mul-le-mul, mul-zero}
 use native.Mathlib.Omega.{arith}
 use lib.IntN.{pos, ◌*ℤ◌, *ℤ-zero}
 use Rattle.rounding.specs.Rounding.{near}
-use Rattle.widths.specs.PlacedTerms.{alternate-signed, term-zero, add_nothing}
-use Rattle.widths.specs.Times.{times-signed}
+use Rattle.widths.specs.PlacedTerms.{alternate_signed, term_zero, add_nothing}
+use Rattle.widths.specs.Times.{times_signed}
 use Rattle.transform.proofs.terms.add_term.Statement.{statement}
 use Rattle.transform.proofs.terms.add_term.Tie as tie
 
@@ -15,10 +15,10 @@ returns : tie.Need-returns
 returns c =
     let a = c.before.before.before.args in
     let n : 0 < a.n = omega arith in
-    (add_nothing a.transform.now a.x _ (ap (λ z. pos a.lives *ℤ z) (term-zero a.n a.x a.v n (ap (λ v. a.x * v) c.if1.true ∙ mul-zero a.x)) ∙ *ℤ-zero (pos a.lives)), refl)
+    (add_nothing a.transform.now a.x _ (ap (λ z. pos a.lives *ℤ z) (term_zero a.n a.x a.v n (ap (λ v. a.x * v) c.if1.true ∙ mul-zero a.x)) ∙ *ℤ-zero (pos a.lives)), refl)
 
 product : (c : tie.Start) → c.args.x * c.args.v ≤ 4095 * 1000000000000
-product c = mul-le-mul c.requires.place-most c.requires.number-most
+product c = mul-le-mul c.requires.place_most c.requires.number_most
 
 mul-nearest : tie.Need-overflow-mul-nearest
 mul-nearest c = omega (arith, product c.before.before.before.before)
@@ -28,17 +28,17 @@ gain : (c : tie.After-nearest) → let a = c.before.before.before.before.before.
 gain c = ap (λ r. c.before.before.before.before.before.args.lives * r) c.nearest.ensures
 
 mul-shift : tie.Need-overflow-mul-shift
-mul-shift c = omega (arith, gain c, c.before.before.before.before.before.requires.d-room)
+mul-shift c = omega (arith, gain c, c.before.before.before.before.before.requires.d_room)
 
 shift-requires : tie.Need-shift-requires
 shift-requires c κs =
     let p = c.before.before.before.before.before.requires in
-    (p.d-long, omega (arith, gain c, p.d-room))
+    (p.d_long, omega (arith, gain c, p.d_room))
 
 returns-2 : tie.Need-returns-2
 returns-2 c =
     let a = c.before.before.before.before.before.before.before.args in
-    (rw (alternate-signed a.n (near (a.x * a.v) a.n), times-signed a.lives _ (near (a.x * a.v) a.n), ← c.before.before.nearest.ensures) c.before.shift.ensures, refl)
+    (rw (alternate_signed a.n (near (a.x * a.v) a.n), times_signed a.lives _ (near (a.x * a.v) a.n), ← c.before.before.nearest.ensures) c.before.shift.ensures, refl)
 
 pub add-term-spec : {M : Type 1} → statement M
 add-term-spec =

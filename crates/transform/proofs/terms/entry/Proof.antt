@@ -4,7 +4,7 @@ use mathlib.Core.Path.{sym, ◌∙◌, ap}
 use Prim.Native.Nat.{ℕ}
 use native.Mathlib.Omega.{arith}
 use Rattle.rounding.specs.Rounding.{near}
-use Rattle.rounding.proofs.Laws.{near-zero}
+use Rattle.rounding.proofs.Laws.{near_zero}
 use Rattle.fund.specs.Folding.{stay}
 use Rattle.transform.proofs.terms.entry.Statement.{statement}
 use Rattle.transform.proofs.terms.entry.Tie as tie
@@ -21,7 +21,7 @@ add-sum c = omega (arith, c.before.before.requires.1)
 returns : tie.Need-returns
 returns c =
     let m = c.before.before.before.args.m in
-    sym (ap (λ (k : ℕ). near k (stay m)) c.if1.true ∙ near-zero (stay m) (omega (arith, c.before.before.before.requires.0)))
+    sym (ap (λ (k : ℕ). near k (stay m)) c.if1.true ∙ near_zero (stay m) (omega (arith, c.before.before.before.requires.0)))
 
 pub entry_spec : {M : Type 1} → statement M
 entry_spec =

@@ -4,24 +4,24 @@ use Prim.Native.Nat.{◌+◌, ◌-◌, ◌≤◌, ◌<◌}
 use native.Mathlib.Numerals.{add-one}
 use native.Mathlib.Omega.{arith}
 use lib.ListN.{length, length-set}
-use Rattle.fund.specs.Limits.{half-rate}
+use Rattle.fund.specs.Limits.{half_rate}
 use Rattle.fund.specs.Folding.{claim}
 use Rattle.fund.specs.Transform.{row as row_of}
-use Rattle.laws.specs.Triangle.{v as vOf, left as left_of, v-step, sum_below}
-use Rattle.widths.specs.Triangle.{rowUpTo, row-goes-on, row_made}
+use Rattle.laws.specs.Triangle.{v as vOf, left as left_of, v_step, sum_below_lem}
+use Rattle.widths.specs.Triangle.{row_up_to, row_goes_on, row_made}
 use Rattle.transform.proofs.terms.next_row.Statement.{statement}
 use Rattle.transform.proofs.terms.next_row.Tie as tie
 
 abbrev invariant-loop : tie.invariant-loop
 invariant-loop m n row out₀ last left₀ l₀ out left l =
-    (claim m < half-rate)
+    (claim m < half_rate)
     × (last ≤ 12)
     × (last ≡ n + 1)
     × (row ≡ row_of m n)
     × (l ≤ n + 2)
     × (length out ≡ 13)
     × (left ≡ left_of m n l)
-    × (out ≡ rowUpTo m (n + 1) l)
+    × (out ≡ row_up_to m (n + 1) l)
 
 abbrev decreases-loop : tie.decreases-loop
 decreases-loop m n row out₀ last left₀ l₀ out left l = last + 1 - l
@@ -42,14 +42,14 @@ entry-requires : tie.Need-entry-requires invariant-loop decreases-loop
 entry-requires c κs =
     let l = c.before.loop in
     let v = l.invariant in
-    (v.0, rw (v.6, v.3) (sum_below c.before.before.args.m v.0 c.before.before.args.n l.l))
+    (v.0, rw (v.6, v.3) (sum_below_lem c.before.before.args.m v.0 c.before.before.args.n l.l))
 
 loop-again : tie.Need-loop-preserved invariant-loop decreases-loop
 loop-again c =
     let l = c.before.before.loop in
     let v = l.invariant in
     let a = c.before.before.before.args in
-    let made : c.entry.result ≡ vOf a.m (a.n + 1) l.l = rw (add-one a.n, v-step a.m a.n l.l (omega arith), ← v.6, ← v.3) c.entry.ensures in (
+    let made : c.entry.result ≡ vOf a.m (a.n + 1) l.l = rw (add-one a.n, v_step a.m a.n l.l (omega arith), ← v.6, ← v.3) c.entry.ensures in (
       v.0,
       v.1,
       v.2,
@@ -57,7 +57,7 @@ loop-again c =
       omega arith,
       simp length-set v.5,
       rw (v.3, add-one l.l) refl,
-      rw v.7 (row-goes-on a.m (a.n + 1) l.l c.entry.result (omega arith) made),
+      rw v.7 (row_goes_on a.m (a.n + 1) l.l c.entry.result (omega arith) made),
     )
 
 returns : tie.Need-returns invariant-loop decreases-loop

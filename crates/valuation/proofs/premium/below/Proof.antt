@@ -9,7 +9,7 @@ use lib.ListN.{get_or}
 use mir.Syntax.{w64}
 use mir.Val.{to_z, of_z}
 use mir.Facts.{to_z-of_z}
-use Rattle.recursion_limits.proofs.PartialSums.{sumN-grow, sumN-term}
+use Rattle.recursion_limits.proofs.PartialSums.{sum_n_grow, sum_n_term}
 use Rattle.valuation.specs.Premium.{BelowTo}
 use Rattle.valuation.proofs.WeighedCells.{below_none, below_more}
 use Rattle.valuation.proofs.premium.below.Statement.{statement}
@@ -27,11 +27,11 @@ loop-holds c =
     (omega arith, below_none a.deductible a.f.now a.r.now)
 
 -- what was read of f is the element
-read-f : (c : tie.After-shared-slice-known2 invariant-loop decreases-loop) →
+read_f : (c : tie.After-shared-slice-known2 invariant-loop decreases-loop) →
     let a = c.before.before.before.before.before.args in
     let x = c.before.before.before.loop.x in
     to_z w64 (of_z w64 (get_or a.f.now x (pos 0))) ≡ get_or a.f.now x (pos 0)
-read-f c = to_z-of_z (sfits_of c.before.with-cell-arg.given)
+read_f c = to_z-of_z (sfits_of c.before.with-cell-arg.given)
 
 with-cell-requires : tie.Need-with-cell-requires invariant-loop decreases-loop
 with-cell-requires c κs =
@@ -39,12 +39,12 @@ with-cell-requires c κs =
     let a = s.args in
     let l = c.before.before.before.loop in
     let level : ℕ → ℕ = λ x. nat_abs (get_or a.f.now x (pos 0)) in
-    let whole = s.requires.levels-within in
-    let part = sumN-grow level l.x a.deductible (omega arith) in
-    let term = sumN-term level a.deductible l.x (omega arith) in
+    let whole = s.requires.levels_within in
+    let part = sum_n_grow level l.x a.deductible (omega arith) in
+    let term = sum_n_term level a.deductible l.x (omega arith) in
     let i = l.invariant.1 in (
-      (omega (arith, i.plus-within, part, whole), omega (arith, i.minus-within, part, whole), omega (arith, i.bound-within, s.requires.few)),
-      (omega (arith, s.requires.few), rw (read-f c) (omega (arith, term, whole)), s.requires.narrow l.x (omega arith)),
+      (omega (arith, i.plus_within, part, whole), omega (arith, i.minus_within, part, whole), omega (arith, i.bound_within, s.requires.few)),
+      (omega (arith, s.requires.few), rw (read_f c) (omega (arith, term, whole)), s.requires.narrow l.x (omega arith)),
     )
 
 loop-again : tie.Need-loop-preserved invariant-loop decreases-loop
@@ -55,7 +55,7 @@ loop-again c =
       omega arith,
       rw add-one
           (below_more a.deductible a.f.now a.r.now l.x l.s c.with_cell.result s.requires (omega arith) l.invariant.1
-          (rw (read-f c.before) at c.with_cell.ensures)),
+          (rw (read_f c.before) at c.with_cell.ensures)),
     )
 
 returns : tie.Need-returns invariant-loop decreases-loop
