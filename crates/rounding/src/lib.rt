@@ -2,6 +2,8 @@
 // A product is taken apart in base 10^6, so that every part fits a word. Where b is below the unit, every divisor but n
 // is a constant.
 
+#![tactic(auto)]
+
 ghost use Rattle.std.specs.Prelude.{◌≡◌, true, false, ℕ, ◌+◌, ◌*◌, ◌/◌, ◌^◌, ◌<◌, ◌≤◌};
 ghost use Rattle.rounding.specs.Division.{Divided};
 ghost use Rattle.rounding.specs.Rounding.{near, up};

@@ -2,23 +2,17 @@
 -- that was divided, at the product that `by_unit` divides.
 use mathlib.Core.Path.{sym, ◌∙◌}
 use Prim.Native.Nat.{◌*◌}
-use borrow.Author.Rules.{rules}
 use native.Mathlib.Omega.{arith}
 use Rattle.rounding.proofs.Rest.{up_raised}
 use Rattle.rounding.proofs.Word.{up_rounds, per_unit_is}
-use Rattle.rounding.proofs.up_per_unit.Statement.{statement}
-use Rattle.rounding.proofs.up_per_unit.Tie as tie
+use Rattle.rounding.proofs.up_per_unit.Goals as goal
 
-returns : tie.Need-returns
-returns c =
+pub returns-then-b-le10000000000000 : goal.returns-then-b-le10000000000000
+returns-then-b-le10000000000000 c =
     let s = c.before.before.before.args in
     c.raised.ensures ∙ sym (per_unit_is up_rounds s.a s.b (omega arith) (omega arith) ∙ up_raised (s.a * s.b))
 
-returns-2 : tie.Need-returns-2
-returns-2 c =
+pub returns : goal.returns
+returns c =
     let s = c.before.before.before.args in
-    c.up_of.ensures (s.a * s.b) c.before.by-unit.ensures
-
-pub up-per-unit-spec : {M : Type 1} → statement M
-up-per-unit-spec =
-    tie.close (tie.spec (λ c. search rules) (λ c κs. search rules) returns (λ c κs. search rules) (λ c κs. search rules) returns-2)
+    c.up_of.ensures (s.a * s.b) c.before.by_unit.ensures
