@@ -1,4 +1,6 @@
 // Whole numbers with a sign, in words: sums keep apart what is added and what is subtracted, and an i64 only holds what is stored.
+#![tactic(auto)]
+
 mod cells;
 
 ghost use Rattle.std.specs.Prelude.{◌≡◌, ◌+◌, ◌≤◌, min, pos, ◌-ℤ◌, nat_lt, unsigned_abs};
