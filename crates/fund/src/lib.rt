@@ -1,5 +1,8 @@
 // The types of the method, docs/METHOD.md: a fund file's header, rate and member rows, and what a pricing call answers. Their meaning is
 // in specs/, in the document's order; the code here ties the limits and the refusals' numbers to it.
+
+#![tactic(auto)]
+
 ghost use Rattle.std.specs.Prelude.{◌≡◌, length};
 ghost use Rattle.fund.specs.Limits.{limits};
 ghost use Rattle.fund.specs.Reading.{header_lines};
