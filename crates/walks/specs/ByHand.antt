@@ -1,8 +1,8 @@
 -- What a walk by hand names of the logic, passed on.
-pub use seplogic.Ra.TreeShare.{full_share}
+pub use base.Fraction.{full_share}
 pub use seplogic.Ra.Ura.{Ura}
 pub use mir.Fields.{get_v, set_v}
-pub use mir.Syntax.{named, w64, Lifetime, Name, Ty, Opd as Operand, Body, place, seq, call, ty_ptr, deref, copy, rv_opd, assign, Local, local, Fn, value_local, erased, imm, ty_array, ty_int, ty_ref, addr_of, aggregate, ty_bool, Tys, Sym, mut, ty_struct, field, Rv as RValue, unsigned, int, skip, block, loop, cond, exit, return, op2, add, mul, lt, offset, Place, Step as PStep}
+pub use mir.Syntax.{named, w64, Lifetime, Callee, Ty, Opd as Operand, Body, place, seq, call, ty_ptr, deref, copy, rv_opd, assign, Local, local, Fn, value_local, erased, imm, ty_array, ty_int, ty_ref, addr_of, aggregate, ty_bool, Tys, Sym, mut, ty_struct, field, Rv as RValue, unsigned, int, skip, block, loop, cond, exit, return, op2, add, mul, lt, offset, Place, Step as PStep}
 pub use mir.Val.{Val, vint, vunit, bits, vptr, WT, has_ty, vbool, Vals, vstruct}
 pub use base.Fml.{Lft, Share, GName, fat, flft, ftrue, Fml, fsep, fdead, fobs, fauth, flent, fobor, feq, froom, fshr_bor, fdies}
 pub use base.Logic.{SProp, ent, emp, id⊢, sep, ex, via, mono_l, mono_r, assoc', fst∗, emp∗}
@@ -11,12 +11,13 @@ pub use prog.Model.{Model}
 pub use prog.Routine.{Env as Routines}
 pub use prog.Wp.{Heap, WpFn, Env, Calls, Loops, spot_of, Closed, Tables, exits, after_seq, after_block, Wp, at_return, Spot}
 unfoldable pub use prog.Wp.{after_turn}
-pub use ghost.Atoms.{Atoms, sem}
+pub use ghost.Atoms.{Atoms}
+pub use types.Logic.{sem}
 pub use sound.WpLaws.{WpFn-mono, FmC}
 pub use contract.Monad.{Fun, fact_i, fact}
-pub use contract.Running.{Running, GhostRules, given_of, tables}
+pub use contract.Running.{Running, tables}
 unfoldable pub use contract.Running.{tables_of}
-pub use types.Kit.{Given, Item, ‵, ⋆, ◌⊛◌, ◌$◌, ◌∵◌, !, qed, by, move, keep, drop, use0, use1, split, join, rewrite, fsplit, fjoin, feq_i, suffices, frame, done, Goal, Soaks, Seq, Step, step, some, later, use2, use3, pick, feq_l, await, updating, now as at_once, show, Post, Go, nth, put, raw, mean, runs, lands, prop, aim, del, pull, allocs, frees, at_ret, fpack, post, any_q}
+pub use types.Kit.{Item, ‵, ⋆, ◌⊛◌, ◌$◌, ◌∵◌, !, qed, by, move, keep, drop, use0, use1, split, join, rewrite, fsplit, fjoin, feq_i, suffices, frame, done, Goal, Soaks, Seq, Step, step, some, later, use2, use3, pick, feq_l, await, updating, now as at_once, show, Post, Go, nth, put, raw, mean, runs, lands, prop, aim, del, pull, allocs, frees, at_ret, fpack, post, any_q}
 pub use types.Part.{whole, sub, look_in, agg, Part}
 pub use types.Run.{look, init, stop, fld, from, load, lit, of_opd, unit_lit, and_then, no_more, assigns, land, returns, enter, params1, pass1, pass0, free0, Opds, look_raw, hop, alloc1, alloc0, addr, Reads, Opd, Rv, store, forget, bin, assigns_last, first, blocks, branches, skips, jumps, exec, loops, again, Below, Walks, returns_within}
 pub use types.SemTy.{cells, Arr}
