@@ -1,4 +1,4 @@
--- The first elements of a local array, lent as a `&[T]`, and back: `Denote/Lend.antt`'s `lends_shr_slice` over the array's memory.
+-- The first elements of a local array, lent as a `&[T]`, and back. Each is lent with no token (`Denote/Lends.antt`'s `Lent`), as a value is whose type is Copy.
 --     Kept           what the lender keeps: the way back of what is lent, and the elements after
 --     lends_first    the array in memory, with what it owns, gives a `&κ [T]` on its first k elements, and Kept
 --     first_back     κ is dead: the array's memory is back, as room
@@ -14,7 +14,7 @@ use Rattle.std.proofs.Math.Path.{refl}
 use Rattle.std.proofs.Common.{sym, subst, arith, take-append-drop, length-take}
 use Prim.Native.Nat.{ℕ, suc, ◌+◌, ◌<◌, ◌≤◌, ◌^◌}
 use mathlib.Core.List.{List, [], ◌∷◌, ◌++◌}
-use Rattle.walks.specs.ByHand.{Ura, full_share, Ty, Lifetime, Body, named, erased, imm, w64, ty_array, ty_int, ty_ref, place, copy, rv_opd, addr_of, aggregate, seq, assign, Val, vint, vptr, ent, sep, snd∗, Lft, Fml, fsep, fat, froom, fdead, flent, fhide, flft, Env, Calls, Loops, spot_of, sem, Item, Goal, Soaks, Post, Seq, Step, step, Go, nth, put, del, runs, ‵, ◌⊛◌, some, later, ◌$◌, ◌∵◌, !, qed, move, use1, use2, drop as let_go, rewrite, split, pick, fsplit, fjoin, fpack, feq, feq_i, feq_l, frame, await, updating, at_once, show, done, cells, arr_parts, parts, agg, look, init, stop, from, load, addr, of_opd, and_then, no_more, assigns, lent_back, lft_new, lft_end, RattleType, Array, Array-Lawful, Is, Single, Array-whole, Array-apart, mem, lone, pointee, part_at, part_of, shares, shared_of, cell_at, slice_ty, slice_val, ShrSlice, shr_slice_at, elements_shared, Room, pure_i, Lent, Lent-nothing, Lent-both, Lent-map, at, cut_app, join_app, parts-cells, part_room, Room-take}
+use Rattle.walks.specs.ByHand.{Ura, full_share, Ty, Lifetime, Body, named, erased, imm, w64, ty_array, ty_int, ty_ref, place, copy, rv_opd, addr_of, aggregate, seq, assign, Val, vint, vptr, ent, sep, snd∗, Lft, Fml, fsep, fat, froom, fdead, flent, fhide, flft, Env, Calls, Loops, spot_of, sem, Item, Goal, Soaks, Post, Seq, Step, step, Go, nth, put, del, runs, ‵, ◌⊛◌, later, ◌$◌, ◌∵◌, !, qed, move, use1, use2, drop as let_go, rewrite, split, fsplit, fjoin, fpack, feq, feq_i, feq_l, frame, await, updating, at_once, done, cells, arr_parts, parts, agg, look, init, stop, from, load, addr, of_opd, and_then, no_more, assigns, lent_back, lft_new, lft_end, RattleType, Array, Array-Lawful, Is, Single, Array-whole, Array-apart, mem, lone, pointee, part_at, part_of, shares, shared_of, cell_at, slice_ty, slice_val, ShrSlice, shr_slice_at, elements_shared, Room, pure_i, Lent, Lent-nothing, Lent-both, Lent-map, at, cut_app, join_app, parts-cells, part_room, Room-take}
 use denote.Struct.Laws as LL
 use Rattle.walks.specs.Element.{Element, Of, element_row, mir_of}
 use Rattle.walks.specs.FreedLocals.{pulls}

@@ -6,10 +6,9 @@
 --     Facts            what is to be shown of a walk, of lists and values alone: an invariant that holds at first, that a step keeps, and
 --                      that says at the end what the walk gives
 use Rattle.std.specs.Prelude.{◌≡◌, refl, Bool, true, false, List, [], ◌∷◌}
-use Rattle.walks.specs.ByHand.{Ura, Callee, Operand, Ty, Fn, Body, RValue, named, imm, w64, ty_int, ty_bool, ty_ptr, ty_ref, deref, field, place, unsigned, copy, int, local, value_local, skip, seq, assign, block, loop, cond, exit, return, call, rv_opd, op2, add, mul, lt, offset, Val, SProp, ent, sep, emp, via, fst∗, id⊢, Env, sem, fact, fact_i, Item, Go, runs, Opd, Rv, SliceRefOf, yes, Last, left, Is, Copy, pointee, RattleType, plain, slice_ty, Clauses, Ended, needs}
+use Rattle.walks.specs.ByHand.{Ura, Callee, Operand, Ty, Fn, Body, RValue, named, imm, w64, ty_int, ty_bool, ty_ptr, ty_ref, deref, field, place, unsigned, copy, int, local, value_local, skip, seq, assign, block, loop, cond, exit, return, call, rv_opd, op2, add, mul, lt, offset, Val, SProp, ent, sep, emp, via, fst∗, id⊢, Env, sem, fact, fact_i, Item, Go, Opd, Rv, SliceRefOf, yes, Last, left, Is, Copy, pointee, RattleType, plain, slice_ty, Clauses, Ended, needs}
 use Rattle.walks.specs.Plain.{Plain}
 use Rattle.walks.specs.Element.{Element, Of, element_row, mir_of, element_bytes}
-use Rattle.walks.specs.Walks.{ends}
 use types.Logic.{Logic, sem}
 
 abbrev pub word_ty : Ty

@@ -14,7 +14,7 @@ use Rattle.std.proofs.Math.Dec.{ltb→lt}
 use Rattle.std.proofs.Math.ListN.{get_or, drop}
 use Rattle.std.proofs.Math.Seq.{drop-length}
 use lib.WfN.{lt-wf_rel}
-use Rattle.walks.specs.ByHand.{Ura, full_share, Callee, Operand, Ty, Body, RValue, named, w64, ty_bool, ty_ptr, place, copy, skip, seq, cond, exit, call, Val, vbool, vint, ent, emp, id⊢, Lft, Share, fat, froom, fdies, flft, ftrue, Model, Routines, Closed, Env, Calls, Loops, WpFn, Tables, exits, after_seq, after_block, after_turn, Wp, at_return, sem, FmC, Fun, fact_i, Running, tables, tables_of, Item, Post, Seq, Go, ‵, ◌⊛◌, runs, lands, prop, post, at_ret, any_q, ◌$◌, ◌∵◌, !, qed, by, move, keep, drop as let_go, use0, use1, split, join, fsplit, fjoin, frame, done, whole, sub, look_in, Opd, look, init, store, forget, stop, fld, from, load, lit, of_opd, bin, and_then, no_more, assigns, assigns_last, land, first, blocks, branches, skips, jumps, exec, loops, again, Below, returns, enter, alloc1, alloc0, params1, pass1, pass0, free0, yes, left, Is, RattleType, slice_val, ShrSlice, shr_slice_Tells, shr_slice_Lawful, nothing, Clauses, Ended, lasts, Triple, entered, framed, needs}
+use Rattle.walks.specs.ByHand.{Ura, full_share, Callee, Operand, Ty, Body, RValue, named, w64, ty_bool, ty_ptr, place, copy, skip, seq, cond, exit, call, Val, vbool, vint, ent, emp, id⊢, Lft, Share, fat, froom, fdies, flft, ftrue, Model, Routines, Closed, Env, Calls, Loops, WpFn, Tables, exits, after_seq, after_block, after_turn, Wp, at_return, sem, FmC, Fun, fact_i, Running, tables, tables_of, Item, Post, Seq, Go, ‵, ◌⊛◌, runs, lands, prop, post, at_ret, any_q, ◌$◌, ◌∵◌, !, qed, by, move, keep, drop as let_go, use0, use1, split, join, fsplit, fjoin, frame, done, whole, sub, look_in, Opd, look, init, store, forget, stop, fld, from, load, lit, of_opd, bin, and_then, no_more, assigns, assigns_last, land, first, blocks, branches, skips, jumps, exec, loops, again, Below, returns, enter, alloc1, alloc0, params1, pass1, pass0, free0, yes, left, Is, RattleType, slice_val, ShrSlice, shr_slice_Tells, shr_slice_Lawful, nothing, Clauses, Ended, lasts, Triple, entered, framed}
 use Rattle.walks.specs.Element.{Element, Of, element_row, mir_of, element_bytes, value_of, borrowed, copies_element}
 use Rattle.walks.specs.FreedLocals.{frees_cell, frees_room}
 use Rattle.walks.specs.Walks.{Stated, tokens, passed, Walk, starts, calls_for, ends, cell}
