@@ -27,7 +27,7 @@ pub use denote.Array.{Array, array_vals, Array-Tells, Array-Lawful}
 pub use denote.ArrayMemory.{Single, Array-whole, Array-apart}
 pub use denote.Builtin.{i64, u64, bool, SliceRefOf}
 pub use denote.Exit.{yes, Last, left}
-pub use denote.Index.{row as index-row, whole_out, whole_in, opens_slice, closes_slice, place_is, elem_out, elem_back, looks_slice, shuts_slice}
+pub use denote.Index.{row as index_row, whole_out, whole_in, opens_slice, closes_slice, place_is, elem_out, elem_back, looks_slice, shuts_slice}
 pub use denote.Laws.{Is, shows, Tells, Makes, Copy, Are, Ises, Spells, Tellss, valss}
 pub use denote.Lend.{Held, lends_slice, slice_back}
 pub use denote.Lends.{Lent, Lent-nothing, Lent-both, Lent-map}

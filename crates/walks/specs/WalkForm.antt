@@ -114,8 +114,8 @@ pub record Extra (X : RattleType) (σ : Ty) : Type 2 where
   pub silent : {M : Type 1} {𝓤 : Ura M} (𝓛 : Logic 𝓤) (x : X.Denot) → ent 𝓤 (emp 𝓤) (sem 𝓛 (left (X.exit yes) x (last x)))
 
 -- the running value at first, made of x
-pub record First (R X : RattleType) (x-val : X.Denot → Val) (rv : RValue) : Type 2 where
+pub record First (R X : RattleType) (x_val : X.Denot → Val) (rv : RValue) : Type 2 where
   pub start : X.Denot → R.Denot
   pub val : X.Denot → Val
-  pub is : (x : X.Denot) → Is X x (x-val x ∷ []) → Is R (start x) (val x ∷ [])
-  pub runs : {M : Type 1} {𝓤 : Ura M} (𝓛 : Logic 𝓤) (Γ : List (Item 𝓤)) (E : Env 𝓤 𝓛.H) (x : X.Denot) → Opd (Go {0}) 𝓛 Γ E (copy (place 2 [])) (x-val x) → Rv (Go {0}) 𝓛 Γ E rv (val x)
+  pub is : (x : X.Denot) → Is X x (x_val x ∷ []) → Is R (start x) (val x ∷ [])
+  pub runs : {M : Type 1} {𝓤 : Ura M} (𝓛 : Logic 𝓤) (Γ : List (Item 𝓤)) (E : Env 𝓤 𝓛.H) (x : X.Denot) → Opd (Go {0}) 𝓛 Γ E (copy (place 2 [])) (x_val x) → Rv (Go {0}) 𝓛 Γ E rv (val x)

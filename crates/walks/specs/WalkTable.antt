@@ -142,7 +142,7 @@ module _ {M : Type 1} {𝓤 : Ura M} (𝓛 : Logic 𝓤) (𝓣 : Tables 𝓤 �
           let small = byte_fits (element_bytes L) (length ms) s.k inside gb in
           let next = next_fits (length ms) s.k inside g in
           let m = get_or ms s.k L.blank in
-          let to-come = drop (s.k + 1) ms in
+          let to_come = drop (s.k + 1) ms in
           let inv = subst (λ (l : List (Of L)). facts.Inv ms x l s.r) (next_element L.blank ms s.k inside) s.inv in
           -- [what the running value owns; the borrow; the token; what x owns; _3; _4; _5; _6; _7; _8; _1; _2; _0; …]
           assigns ! (bin ! (cell ! 5 refl) (lit ! L.sized) (record { fits = small })) (from ! (stop !)) (store ! 6 refl (tt, record { fits = small })) $
@@ -150,13 +150,13 @@ module _ {M : Type 1} {𝓤 : Ura M} (𝓛 : Logic 𝓤) (𝓣 : Tables 𝓤 �
           move ! (1 ∷ 2 ∷ []) $ copies_element ! L 6 7 ms s.k b o inside refl refl refl refl $
           -- [the token; what the element owns; the borrow; what the running value owns; what x owns; _3; _4; _5; _6; _7; _8; _1; _2; _0; …]: what the step is passed
           move ! (4 ∷ []) $ use1 𝓛 (‵ (X.own_val x (u ∷ [])) ⊛ ‵ (X.own_val x (u ∷ []))) ((ξ.copies 𝓛).twice x _) $ split ! $ move ! (5 ∷ 3 ∷ 0 ∷ []) $
-          calls_step 𝓛 fm L R X s.r s.w m x u p t S met (facts.asked ms x m to-come s.r inv)
+          calls_step 𝓛 fm L R X s.r s.w m x u p t S met (facts.asked ms x m to_come s.r inv)
           (λ i. cell ! 4 refl) (λ i. cell ! 9 refl) (λ i. cell ! 11 refl) (λ w r gave is.
           -- [what the new value owns; what x owns; the token; the borrow; _3; _4; _5; _6; _7; _8; _1; _2; _0; …]
           land ! (from ! (stop !)) (store ! 4 refl (ρ.plain.typed 𝓛 r w is)) $
           assigns_last ! (bin ! (cell ! 5 refl) (lit ! tt) (record { fits = next })) (from ! (stop !)) (store ! 5 refl (tt, record { fits = next })) $
           forget ! 6 refl $ forget ! 7 refl $ forget ! 8 refl $ forget ! 9 refl $ move ! (0 ∷ 3 ∷ 2 ∷ 1 ∷ []) $
-          again ! ≺ At s (record { k = s.k + 1; r = r; w = w; is = is; within = next_in_lem (length ms) s.k inside; inv = facts.more ms x m to-come s.r inv r gave }) (nearer (length ms) s.k inside)))
+          again ! ≺ At s (record { k = s.k + 1; r = r; w = w; is = is; within = next_in_lem (length ms) s.k inside; inv = facts.more ms x m to_come s.r inv r gave }) (nearer (length ms) s.k inside)))
           (λ no. exec ! 𝓣.C 𝓣.Λ En rest (at_ret En ((Stated 𝓛 T' c).post y)) $
           let done = ended (length ms) s.k s.within (nltb→le s.k (length ms) no) in
           assigns ! (of_opd ! (cell ! 4 refl)) (from ! (stop !)) (init ! 12 refl (ρ.plain.typed 𝓛 s.r s.w s.is)) $
