@@ -12,7 +12,7 @@ use denote.Slice.{mut_slice_at}
 use Rattle.std.specs.Borrow.{MutBor}
 use Rattle.std.specs.Prelude.{◌≡◌, ℕ, List, [], ◌∷◌, length}
 use Rattle.std.proofs.Common.{sym, ap, subst}
-use Rattle.walks.specs.ByHand.{Ura, full_share, Lifetime, Val, ent, sep, ex, Lft, GName, Share, Fml, fsep, flft, fdead, fobs, fauth, flent, fobor, feq, sem, Goal, Soaks, Seq, Step, step, Item, ‵, ◌⊛◌, some, later, ◌$◌, ◌∵◌, !, qed, move, use1, use2, use3, drop, split, pick, fsplit, fjoin, feq_l, frame, await, updating, at_once, show, done, cells, Arr, lft_new, lft_end, RattleType, pure_l, pure_i, mem, RefT, slice_val, MutSlice, heres, Room, finally, at-slice, coded_holeys, Held, lends_slice, slice_back, index-row as row, whole_out, whole_in, opens_slice, closes_slice}
+use Rattle.walks.specs.ByHand.{Ura, full_share, Lifetime, Val, ent, sep, ex, Lft, GName, Share, Fml, fsep, flft, fdead, fobs, fauth, flent, fobor, feq, sem, Goal, Soaks, Seq, Step, step, Item, ‵, ◌⊛◌, some, later, ◌$◌, ◌∵◌, !, qed, move, use1, use2, use3, drop, split, pick, fsplit, fjoin, feq_l, frame, await, updating, at_once, show, done, cells, Arr, lft_new, lft_end, RattleType, pure_l, pure_i, mem, slice_val, MutSlice, heres, Room, finally, coded_holeys, Held, lends_slice, slice_back, index_row as row, whole_out, whole_in, opens_slice, closes_slice}
 
 module _ (R : RattleType) (κ κ' : Lft) (q : Share) (γ : GName) (b o : ℕ) where
   abbrev at_list : GName → List R.Denot → MutBor (List R.Denot)

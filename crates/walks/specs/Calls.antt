@@ -5,7 +5,7 @@
 -- Assumes `Logic`.
 use Rattle.std.specs.Prelude.{◌≡◌, ℕ, suc, List, [], ◌∷◌}
 use Rattle.std.proofs.Common.{sym, ap, subst}
-use Rattle.walks.specs.ByHand.{Ura, full_share, Name, Ty, Operand, Body, place, seq, call, Val, ent, emp, fat, froom, Env, Calls, Loops, spot_of, sem, FmC, fact, Item, Post, Seq, Go, ‵, nth, put, raw, mean, runs, lands, ◌$◌, ◌∵◌, !, qed, by, keep, drop as let_go, use0, fjoin, prop, done, Opds, init, stop, from, land, Is, RattleType, Denots, Valss, owns, type_at, nothing, only, Ended, Clauses, Lasts, AtExit, at_exit, lasts, Triple}
+use Rattle.walks.specs.ByHand.{Ura, full_share, Callee, Ty, Operand, Body, place, seq, call, Val, ent, emp, fat, froom, Env, Calls, Loops, spot_of, sem, FmC, fact, Item, Post, Seq, Go, ‵, nth, put, raw, mean, runs, lands, ◌$◌, ◌∵◌, !, qed, by, keep, drop as let_go, use0, fjoin, prop, done, Opds, init, stop, from, land, Is, RattleType, Denots, Valss, owns, type_at, nothing, only, Ended, Clauses, Lasts, AtExit, at_exit, lasts, Triple}
 use Rattle.walks.specs.Plain.{Plain}
 use Rattle.walks.specs.Walks.{Stated, tokens, passed, calls_for, ends, walks_at}
 use types.Logic.{Logic, sem}
@@ -47,7 +47,7 @@ module _ {M : Type 1} {𝓤 : Ura M} (𝓛 : Logic 𝓤) where
     abbrev kept : (r : Result.Denot) (v : Val) → Is Result r (v ∷ []) → Is Result r (ρ.val r ∷ [])
     kept r v is = subst (Is Result r) (ρ.tells r _ is) is
 
-    module _ {Γ : List (Item 𝓤)} {E : Env 𝓤 H} {C : Calls 𝓤 H} {f : Name} {xs : List Operand} {Λ : Loops 𝓤 H} {q : Post 𝓤 H} {i l : ℕ} {rest : Body} where
+    module _ {Γ : List (Item 𝓤)} {E : Env 𝓤 H} {C : Calls 𝓤 H} {f : Callee} {xs : List Operand} {Λ : Loops 𝓤 H} {q : Post 𝓤 H} {i l : ℕ} {rest : Body} where
       pub calls_into : (n : ℕ) → nth 𝓛 n Γ ≡ ‵ (froom τ l 0) → spot_of 𝓤 H E i ≡ (τ, l, 0) → FmC 𝓤 H 𝓛.laws C → Triple 𝓤 (C f) (Stated 𝓛 T c) → ent 𝓤 (emp 𝓤) ((c y.0.0 y.0.3).requires y.1)
           → {φ : Result.Denot → Type 0} → ((r : Result.Denot) (e : AtExit T y.0.0) → ent 𝓤 ((c y.0.0 y.0.3).ensures y.1 r e) (fact 𝓤 (φ r)))
           → Opds (Go {0}) 𝓛 (raw ((Stated 𝓛 T c).pre y) ∷ Γ) E xs ((Stated 𝓛 T c).args y)

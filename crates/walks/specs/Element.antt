@@ -5,7 +5,7 @@
 -- Assumes `Logic`.
 use Rattle.std.specs.Prelude.{◌≡◌, refl, ℕ, suc, ◌+◌, ◌*◌, ◌^◌, ◌<◌, List, [], ◌∷◌, T, ltb, length, get_or}
 use Rattle.std.proofs.Common.{sym, ◌∙◌, ap}
-use Rattle.walks.specs.ByHand.{Ura, full_share, Ty, w64, Body, ty_ptr, deref, place, copy, rv_opd, seq, assign, Val, bits, vptr, Lft, Share, Fml, fat, froom, flft, fshr_bor, Env, Calls, Loops, spot_of, Item, Post, Step, step, ‵, ◌⊛◌, nth, put, runs, ◌$◌, move, use1, split, look, look_raw, init, stop, hop, from, load, of_opd, assigns, arr_parts, place_is, elem_out, elem_back, looks_slice, shuts_slice, Is, shows, lone, mem, shares, RattleType, Declared, row}
+use Rattle.walks.specs.ByHand.{Ura, full_share, Ty, w64, Body, ty_ptr, deref, place, copy, rv_opd, seq, assign, Val, bits, vptr, Lft, Share, Fml, fat, froom, flft, fhide, Env, Calls, Loops, spot_of, Item, Post, Step, step, ‵, ◌⊛◌, nth, put, runs, ◌$◌, move, use1, split, look, look_raw, init, stop, hop, from, load, of_opd, assigns, elements_shared, place_is, elem_out, elem_back, looks_slice, shuts_slice, Is, shows, lone, mem, RattleType, RowLaws, Declared, row, shape, Recorded-row_laws, Struct, Struct-row_laws}
 use denote.Struct.Laws as LL
 use Rattle.walks.specs.Walks.{walks_at}
 use types.Logic.{Logic}
@@ -29,11 +29,15 @@ mir_of L = lone (element_row L).mir
 abbrev pub element_bytes : Element → ℕ
 element_bytes L = (mem (element_row L)).size
 
+-- what a `&` to an element holds can be had twice
+pub element_row_laws : (L : Element) → RowLaws (element_row L)
+element_row_laws L = Recorded-row_laws (Struct (shape L.type)) L.type.D L.type.to L.type.to_one (Struct-row_laws (shape L.type) (LL.copy_row_laws L.type.parts L.copied))
+
 abbrev pub value_of : (L : Element) → Of L → Val
 value_of L m = LL.val L.type L.laws m
 
 abbrev pub borrowed : (L : Element) → Lft → List (Of L) → ℕ → ℕ → Fml
-borrowed L κ ms b o = fshr_bor κ (λ p. (arr_parts (shares (element_row L)) (length ms)).part p ms b o)
+borrowed L κ ms b o = fhide (elements_shared (element_row L) ms b o κ)
 
 module _ {M : Type 1} {𝓤 : Ura M} {𝓛 : Logic 𝓤} {K : Type 0} {Γ : List (Item 𝓤)} {E : Env 𝓤 𝓛.H} {C : Calls 𝓤 𝓛.H} {Λ : Loops 𝓤 𝓛.H} {post : Post 𝓤 𝓛.H} {rest : Body} where
   open 𝓛 use {H}
@@ -45,7 +49,7 @@ module _ {M : Type 1} {𝓤 : Ura M} {𝓛 : Logic 𝓤} {K : Type 0} {Γ : List
       (‵ (borrowed L κ ms b o) ∷ ‵ (flft κ q) ∷ Γ) (runs C Λ E (seq (assign (place i []) (rv_opd (copy (place j (deref (mir_of L) ∷ []))))) rest) post)
   copies_element t L p r {i} {j} {lp} {lm} ms k b o inside ei ej ep er = step (λ s.
       let m = get_or ms k L.blank in
-      looks_slice t tt (element_row L) (Is (element_row L)) (shows 𝓛 (element_row L)) (LL.vals L.type L.laws) (LL.tells L.type L.laws) (LL.copy L.type L.copied 𝓛) ms b o (λ q'.
+      looks_slice t tt (element_row L) (LL.copied L.type L.copied 𝓛) ms b o (λ q'.
       elem_out t (element_row L) (Is (element_row L)) (shows 𝓛 (element_row L)) (LL.vals L.type L.laws) (LL.tells L.type L.laws) q' ms k L.blank b o inside (λ is.
       -- [the life's cell; what it owns; the others; what shuts; the borrow; …]
       assigns t (of_opd t (load t (from t (walks_at ej (hop t (look t (suc (suc (suc (suc (suc p))))) (ep ∙ ap (λ (x : ℕ). ‵ (fat full_share ty_ptr lp 0 (vptr b x))) (sym (place_is (element_bytes L) o k)))) (stop t)))) (look_raw t 0 refl))) (from t (walks_at ei (stop t)))

@@ -77,7 +77,7 @@ module _ {M : Type 1} {𝓤 : Ura M} {𝓛 : Logic 𝓤} {K : Type 0} {g : Goal 
   pub frees_cells : K → {Γ : List (Item 𝓤)} {E : Env 𝓤 H} (n : ℕ) (vs : List Val) → found 𝓛 n vs Γ ≡ cells 𝓛 vs E → Step K 𝓛 (others 𝓛 n vs Γ) (frees (after 𝓛 vs E) g) Γ (frees E g)
   frees_cells t n [] e = step (λ s. s)
   frees_cells t {E = []} n (v ∷ vs) e = absurd (omega (arith, ap length e))
-  frees_cells t {E = (τ, b) ∷ E} n (v ∷ vs) e = step (λ s. frees_cell t n n (ap (head 𝓛) e) (ap (λ l. head 𝓛 (tail 𝓛 l)) e) $ frees_cells t (n - 2) vs (ap (λ l. tail 𝓛 (tail 𝓛 l)) e) $ s)
+  frees_cells t {Γ = Γ} {E = (τ, b) ∷ E} n (v ∷ vs) e = step (λ s. frees_cell t n n (ap (head 𝓛) e) (ap (λ l. head 𝓛 (tail 𝓛 l)) e) $ frees_cells t {Γ = del 𝓛 n (del 𝓛 n Γ)} {E = E} (n - 2) vs (ap (λ l. tail 𝓛 (tail 𝓛 l)) e) $ s)
 
 -- ---- at the start
 abbrev pub Blocks : List Local → Type 0
@@ -98,4 +98,4 @@ module _ {M : Type 1} {𝓤 : Ura M} {𝓛 : Logic 𝓤} {K : Type 0} where
 
   pub allocates : K → {Γ : List (Item 𝓤)} {ls : List Local} {G : Env 𝓤 H → Goal 𝓤 H} → ((bs : Blocks ls) → Seq K 𝓛 (rooms 𝓤 H ls bs Γ) (G (env 𝓤 H ls bs))) → Seq K 𝓛 Γ (allocs ls G)
   allocates t {ls = []} k = alloc0 t $ k tt
-  allocates t {ls = local τ h ∷ ls} k = alloc1 t (λ b. allocates t (λ bs. k (b, bs)))
+  allocates t {Γ = Γ} {ls = local τ h ∷ ls} k = alloc1 t (λ b. allocates t {Γ = ‵ (froom τ b 0) ∷ ‵ (fdies τ b) ∷ Γ} {ls = ls} (λ bs. k (b, bs)))

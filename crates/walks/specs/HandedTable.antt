@@ -5,7 +5,7 @@ use types.Logic.{Logic}
 use denote.Slice.{shr_slice_vals}
 use Rattle.std.specs.Borrow.{Bor}
 use Rattle.std.specs.Prelude.{◌≡◌, ℕ, List, [], ◌∷◌}
-use Rattle.walks.specs.ByHand.{full_share, Name, Ty, Fn, Local, Body, local, value_local, via, mono_r, froom, Routines, Closed, fact, Seq, Go, nth, put, runs, at_ret, RattleType, on_entry, Ura, named, ent, Lft, Share, fat, Model, WpFn, Running, tables, Item, ‵, ◌$◌, ◌∵◌, !, qed, move, drop, fsplit, init, enter, params1, pass1, pass0, Is, RefT, slice-vals, shr_slice_Tells, shr_slice_Lawful, Clauses, Triple, entered, needs}
+use Rattle.walks.specs.ByHand.{full_share, Callee, Ty, Fn, Local, Body, local, value_local, via, mono_r, froom, Routines, Closed, fact, Seq, Go, nth, put, runs, at_ret, RattleType, on_entry, Ura, named, ent, Lft, Share, fat, Model, WpFn, Running, tables, Item, ‵, ◌$◌, ◌∵◌, !, qed, move, drop, fsplit, init, enter, params1, pass1, pass0, Is, shr_slice_Tells, shr_slice_Lawful, Clauses, Triple, entered, needs}
 use Rattle.walks.specs.Element.{Element, Of, element_row}
 use Rattle.walks.specs.FreedLocals.{Blocks, env, rooms, allocates}
 use Rattle.walks.specs.Plain.{Plain}
@@ -17,7 +17,7 @@ abbrev pub handed_locals : Element → Ty → Ty → List Local → List Local
 handed_locals L τ σ ls = local τ value_local ∷ local σ value_local ∷ local (slice L) value_local ∷ ls
 
 abbrev pub handed_function : Element → Ty → Ty → List Local → Body → Fn
-handed_function L τ σ ls body = record { lifetimes = 1; outlives = []; params = 2; locals = handed_locals L τ σ ls; body = body }
+handed_function L τ σ ls body = record { lifetimes = 1; outlives = []; ty_params = []; givens = 0; params = 2; locals = handed_locals L τ σ ls; body = body }
 
 module _ {M : Type 1} {𝓤 : Ura M} (𝓛 : Logic 𝓤) (𝓜 : Model 𝓤 𝓛.H) (𝓡 : Running 𝓤 𝓛.H 𝓜) (L : Element) {R X : RattleType} (τ : Ty) {σ : Ty} (ξ : Plain X σ) (c : Clauses 𝓤 (handed_ended L R X)) (ls : List Local) (body : Body) (env' : Routines) (Φ : X.Denot → List (Of L) → Type 0) (n m : ℕ) where
   open 𝓛 use {H}
@@ -39,7 +39,7 @@ module _ {M : Type 1} {𝓤 : Ura M} (𝓛 : Logic 𝓤) (𝓜 : Model 𝓤 𝓛
   HandedWalk = (κ : Lft) (q : Share) (x : X.Denot) (table : Bor (List (Of L))) (g : (c (κ, tt) (x, (table, tt))).ghost) → Is X x (ξ.val x ∷ []) → Φ x table.now → (bs : Blocks locals)
       → Seq (Go {0}) 𝓛 (passed_table κ q x table g bs) (runs (tables 𝓤 H 𝓜 𝓡 env').C (tables 𝓤 H 𝓜 𝓡 env').Λ (env 𝓤 H locals bs) body (at_ret (env 𝓤 H locals bs) ((Stated 𝓛 (handed_ended L R X) c).post (y κ q x table g))))
 
-  pub handed_meets : {name : Name} → Closed 𝓤 H (tables 𝓤 H 𝓜 𝓡 env').C (tables 𝓤 H 𝓜 𝓡 env').Λ name (handed_function L τ σ ls body)
+  pub handed_meets : {name : Callee} → Closed 𝓤 H (tables 𝓤 H 𝓜 𝓡 env').C (tables 𝓤 H 𝓜 𝓡 env').Λ name (handed_function L τ σ ls body)
       → ((κ : Lft) (x : X.Denot) (table : Bor (List (Of L))) (g : (c (κ, tt) (x, (table, tt))).ghost) → ent 𝓤 ((c (κ, tt) (x, (table, tt))).requires g) (fact 𝓤 (Φ x table.now)))
       → ((bs : Blocks locals) (Γ : List (Item 𝓤)) → nth 𝓛 n (rooms 𝓤 H locals bs Γ) ≡ ‵ (froom σ bs.1.0 0))
       → ((bs : Blocks locals) (Γ : List (Item 𝓤)) (i : Item 𝓤) → nth 𝓛 m (put 𝓛 n i (rooms 𝓤 H locals bs Γ)) ≡ ‵ (froom (slice L) bs.1.1.0 0))

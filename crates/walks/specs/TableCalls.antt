@@ -6,8 +6,8 @@
 use types.Logic.{Logic}
 use Rattle.std.specs.Borrow.{Bor}
 use Rattle.std.specs.Prelude.{◌≡◌, ℕ, suc, List, [], ◌∷◌, length}
-use Rattle.walks.specs.ByHand.{Ura, full_share, Name, Ty, Operand, Body, named, place, seq, call, Val, ent, emp, Lft, Share, fat, froom, Env, Calls, Loops, spot_of, FmC, fact, Item, Post, Seq, Go, ‵, nth, put, ◌⊛◌, runs, ◌$◌, !, move, use0, use1, split, fjoin, Opds, SliceRefOf, yes, Is, RattleType, RefT, plain, slice_val, ShrSlice, shr_slice_copy, nothing, Ended, Clauses, AtExit, Triple}
-use Rattle.walks.specs.Element.{Element, Of, element_row}
+use Rattle.walks.specs.ByHand.{Ura, full_share, Callee, Ty, Operand, Body, named, place, seq, call, Val, ent, emp, Lft, Share, fat, froom, Env, Calls, Loops, spot_of, FmC, fact, Item, Post, Seq, Go, ‵, nth, put, ◌⊛◌, runs, ◌$◌, !, move, use0, use1, split, fjoin, Opds, SliceRefOf, yes, Is, RattleType, plain, slice_val, ShrSlice, shr_slice_copy, nothing, Ended, Clauses, AtExit, Triple}
+use Rattle.walks.specs.Element.{Element, Of, element_row, element_row_laws}
 use Rattle.walks.specs.Plain.{Plain}
 use Rattle.walks.specs.Calls.{calls_into}
 use Rattle.walks.specs.Walks.{Stated, tokens}
@@ -32,7 +32,7 @@ module _ {M : Type 1} {𝓤 : Ura M} (𝓛 : Logic 𝓤) (L : Element) (κ : Lft
   abbrev v : Val
   v = table_val L table
 
-  module _ {Γ : List (Item 𝓤)} {E : Env 𝓤 H} {C : Calls 𝓤 H} {f : Name} {xs : List Operand} {Λ : Loops 𝓤 H} {p : Post 𝓤 H} {i l : ℕ} {rest : Body} where
+  module _ {Γ : List (Item 𝓤)} {E : Env 𝓤 H} {C : Calls 𝓤 H} {f : Callee} {xs : List Operand} {Λ : Loops 𝓤 H} {p : Post 𝓤 H} {i l : ℕ} {rest : Body} where
     pub calls_walk : (c : Clauses 𝓤 (walk_ended L R X)) (g : (c (κ, tt) (table, (x, tt))).ghost) (n : ℕ) → nth 𝓛 n Γ ≡ ‵ (froom τ l 0) → spot_of 𝓤 H E i ≡ (τ, l, 0) → FmC 𝓤 H 𝓛.laws C → Triple 𝓤 (C f) (Stated 𝓛 (walk_ended L R X) c)
         → ent 𝓤 (emp 𝓤) ((c (κ, tt) (table, (x, tt))).requires g)
         → {φ : R.Denot → Type 0} → ((r : R.Denot) (e : AtExit (walk_ended L R X) (κ, tt)) → ent 𝓤 ((c (κ, tt) (table, (x, tt))).ensures g r e) (fact 𝓤 (φ r)))
@@ -41,7 +41,7 @@ module _ {M : Type 1} {𝓤 : Ura M} (𝓛 : Logic 𝓤) (L : Element) (κ : Lft
         ((r : R.Denot) → φ r → Is R r (ρ.val r ∷ []) → Seq (Go {0}) 𝓛 (tokens 𝓛 (walk_ended L R X) c y ∷ lent L κ table ∷ put 𝓛 n (‵ (fat full_share τ l 0 (ρ.val r))) Γ) (runs C Λ E rest p))
         → Seq (Go {0}) 𝓛 (tokens 𝓛 (walk_ended L R X) c y ∷ lent L κ table ∷ Γ) (runs C Λ E (seq (call f xs (place i [])) rest) p)
     calls_walk c g n room spot fm met requires says is os k =
-        move ! (1 ∷ []) $ use1 𝓛 (lent L κ table ⊛ lent L κ table) ((shr_slice_copy 𝓛 (named 0) κ (element_row L)).twice table _) $ split ! $ nothing ! $ use0 𝓛 (‵ (X.own_val x (ξ.val x ∷ []))) (ξ.makes 𝓛 x _ is) $ fjoin ! $ move ! (1 ∷ 0 ∷ []) $ fjoin ! $ move ! (2 ∷ 0 ∷ []) $
+        move ! (1 ∷ []) $ use1 𝓛 (lent L κ table ⊛ lent L κ table) ((shr_slice_copy 𝓛 (named 0) κ (element_row L) (element_row_laws L)).twice table _) $ split ! $ nothing ! $ use0 𝓛 (‵ (X.own_val x (ξ.val x ∷ []))) (ξ.makes 𝓛 x _ is) $ fjoin ! $ move ! (1 ∷ 0 ∷ []) $ fjoin ! $ move ! (2 ∷ 0 ∷ []) $
         calls_into 𝓛 (walk_ended L R X) c _ ρ (suc n) room spot fm met requires says (os _) k
 
     pub calls_handed : (c : Clauses 𝓤 (handed_ended L R X)) (g : (c (κ, tt) (x, (table, tt))).ghost) (n : ℕ) → nth 𝓛 n Γ ≡ ‵ (froom τ l 0) → spot_of 𝓤 H E i ≡ (τ, l, 0) → FmC 𝓤 H 𝓛.laws C → Triple 𝓤 (C f) (Stated 𝓛 (handed_ended L R X) c)
@@ -52,5 +52,5 @@ module _ {M : Type 1} {𝓤 : Ura M} (𝓛 : Logic 𝓤) (L : Element) (κ : Lft
         ((r : R.Denot) → φ r → Is R r (ρ.val r ∷ []) → Seq (Go {0}) 𝓛 (tokens 𝓛 (handed_ended L R X) c y ∷ lent L κ table ∷ put 𝓛 n (‵ (fat full_share τ l 0 (ρ.val r))) Γ) (runs C Λ E rest p))
         → Seq (Go {0}) 𝓛 (tokens 𝓛 (handed_ended L R X) c y ∷ lent L κ table ∷ Γ) (runs C Λ E (seq (call f xs (place i [])) rest) p)
     calls_handed c g n room spot fm met requires says is os k =
-        move ! (1 ∷ []) $ use1 𝓛 (lent L κ table ⊛ lent L κ table) ((shr_slice_copy 𝓛 (named 0) κ (element_row L)).twice table _) $ split ! $ nothing ! $ move ! (1 ∷ 0 ∷ []) $ fjoin ! $ use0 𝓛 (‵ (X.own_val x (ξ.val x ∷ []))) (ξ.makes 𝓛 x _ is) $ fjoin ! $ move ! (2 ∷ 0 ∷ []) $
+        move ! (1 ∷ []) $ use1 𝓛 (lent L κ table ⊛ lent L κ table) ((shr_slice_copy 𝓛 (named 0) κ (element_row L) (element_row_laws L)).twice table _) $ split ! $ nothing ! $ move ! (1 ∷ 0 ∷ []) $ fjoin ! $ use0 𝓛 (‵ (X.own_val x (ξ.val x ∷ []))) (ξ.makes 𝓛 x _ is) $ fjoin ! $ move ! (2 ∷ 0 ∷ []) $
         calls_into 𝓛 (handed_ended L R X) c _ ρ (suc n) room spot fm met requires says (os _) k

@@ -6,10 +6,9 @@
 --     Facts            what is to be shown of a walk, of lists and values alone: an invariant that holds at first, that a step keeps, and
 --                      that says at the end what the walk gives
 use Rattle.std.specs.Prelude.{◌≡◌, refl, Bool, true, false, List, [], ◌∷◌}
-use Rattle.walks.specs.ByHand.{Ura, Name, Operand, Ty, Fn, Body, RValue, named, imm, w64, ty_int, ty_bool, ty_ptr, ty_ref, deref, field, place, unsigned, copy, int, local, value_local, skip, seq, assign, block, loop, cond, exit, return, call, rv_opd, op2, add, mul, lt, offset, Val, SProp, ent, sep, emp, via, fst∗, id⊢, Env, sem, fact, fact_i, Item, Go, runs, Opd, Rv, SliceRefOf, yes, Last, left, Is, Copy, pointee, RattleType, now, plain, slice_ty, Clauses, Ended, needs}
+use Rattle.walks.specs.ByHand.{Ura, Callee, Operand, Ty, Fn, Body, RValue, named, imm, w64, ty_int, ty_bool, ty_ptr, ty_ref, deref, field, place, unsigned, copy, int, local, value_local, skip, seq, assign, block, loop, cond, exit, return, call, rv_opd, op2, add, mul, lt, offset, Val, SProp, ent, sep, emp, via, fst∗, id⊢, Env, sem, fact, fact_i, Item, Go, Opd, Rv, SliceRefOf, yes, Last, left, Is, Copy, pointee, RattleType, plain, slice_ty, Clauses, Ended, needs}
 use Rattle.walks.specs.Plain.{Plain}
 use Rattle.walks.specs.Element.{Element, Of, element_row, mir_of, element_bytes}
-use Rattle.walks.specs.Walks.{ends}
 use types.Logic.{Logic, sem}
 
 abbrev pub word_ty : Ty
@@ -24,7 +23,7 @@ abbrev pub operands : Bool → List Operand
 operands true = copy (place 3 []) ∷ copy (place 8 []) ∷ copy (place 2 []) ∷ []
 operands false = copy (place 3 []) ∷ copy (place 8 []) ∷ []
 
-abbrev pub turn : Element → Bool → Name → Body
+abbrev pub turn : Element → Bool → Callee → Body
 turn L p f =
     seq (assign (place 5 []) (rv_opd (copy (place 1 (field 1 ∷ [])))))
     (seq (assign (place 6 []) (op2 (lt unsigned) (copy (place 4 [])) (copy (place 5 []))))
@@ -38,10 +37,12 @@ turn L p f =
 abbrev pub rest : Body
 rest = seq (assign (place 0 []) (rv_opd (copy (place 3 [])))) return
 
-abbrev pub function : Element → Ty → Ty → RValue → Bool → Name → Fn
+abbrev pub function : Element → Ty → Ty → RValue → Bool → Callee → Fn
 function L τ σ rv p f = record {
   lifetimes = 1;
   outlives = [];
+  ty_params = [];
+  givens = 0;
   params = 2;
   locals = local τ value_local ∷ local (slice L) value_local ∷ local σ value_local ∷ local τ value_local ∷ local word_ty value_local ∷ local word_ty value_local ∷ local ty_bool value_local ∷ local ty_ptr value_local ∷ local (mir_of L) value_local ∷ [];
   body = seq (assign (place 3 []) rv) (seq (assign (place 4 []) (rv_opd (int w64 0))) (seq (block (loop (turn L p f))) rest));
@@ -94,7 +95,7 @@ module _ (L : Element) (R X : RattleType) where
   step_clauses false t S 𝓤 κs a = record { ghost = Unit {0}; requires = λ _. clause t 𝓤 (S.asks a.0 a.1.0 tt); ensures = λ _ r _. fact 𝓤 (S.gives a.0 a.1.0 tt r) }
 
   abbrev pub walk_clauses : (p t : Bool) → Says p t → {M : Type 1} (𝓤 : Ura M) → Clauses 𝓤 walk_ended
-  walk_clauses p t S 𝓤 κs a = record { ghost = Unit {0}; requires = λ _. clause t 𝓤 (S.needs (now a.0) a.1.0); ensures = λ _ r _. fact 𝓤 (S.ends (now a.0) a.1.0 r) }
+  walk_clauses p t S 𝓤 κs a = record { ghost = Unit {0}; requires = λ _. clause t 𝓤 (S.needs a.0.now a.1.0); ensures = λ _ r _. fact 𝓤 (S.ends a.0.now a.1.0 r) }
 
   -- Inv ms x rest r, where r is the running value and rest the members still to come
   pub record Facts (p t : Bool) (S : Says p t) (start : X.Denot → R.Denot) : Type 1 where
@@ -113,8 +114,8 @@ pub record Extra (X : RattleType) (σ : Ty) : Type 2 where
   pub silent : {M : Type 1} {𝓤 : Ura M} (𝓛 : Logic 𝓤) (x : X.Denot) → ent 𝓤 (emp 𝓤) (sem 𝓛 (left (X.exit yes) x (last x)))
 
 -- the running value at first, made of x
-pub record First (R X : RattleType) (x-val : X.Denot → Val) (rv : RValue) : Type 2 where
+pub record First (R X : RattleType) (x_val : X.Denot → Val) (rv : RValue) : Type 2 where
   pub start : X.Denot → R.Denot
   pub val : X.Denot → Val
-  pub is : (x : X.Denot) → Is X x (x-val x ∷ []) → Is R (start x) (val x ∷ [])
-  pub runs : {M : Type 1} {𝓤 : Ura M} (𝓛 : Logic 𝓤) (Γ : List (Item 𝓤)) (E : Env 𝓤 𝓛.H) (x : X.Denot) → Opd (Go {0}) 𝓛 Γ E (copy (place 2 [])) (x-val x) → Rv (Go {0}) 𝓛 Γ E rv (val x)
+  pub is : (x : X.Denot) → Is X x (x_val x ∷ []) → Is R (start x) (val x ∷ [])
+  pub runs : {M : Type 1} {𝓤 : Ura M} (𝓛 : Logic 𝓤) (Γ : List (Item 𝓤)) (E : Env 𝓤 𝓛.H) (x : X.Denot) → Opd (Go {0}) 𝓛 Γ E (copy (place 2 [])) (x_val x) → Rv (Go {0}) 𝓛 Γ E rv (val x)

@@ -14,7 +14,7 @@ use Rattle.std.proofs.Math.Dec.{ltb→lt}
 use Rattle.std.proofs.Math.ListN.{get_or, drop}
 use Rattle.std.proofs.Math.Seq.{drop-length}
 use lib.WfN.{lt-wf_rel}
-use Rattle.walks.specs.ByHand.{Ura, full_share, Name, Operand, Ty, Body, RValue, named, w64, ty_bool, ty_ptr, place, copy, skip, seq, cond, exit, call, Val, vbool, vint, ent, emp, id⊢, Lft, Share, fat, froom, fdies, flft, ftrue, Model, Routines, Closed, Env, Calls, Loops, WpFn, Tables, exits, after_seq, after_block, after_turn, Wp, at_return, sem, FmC, Fun, fact_i, Running, tables, tables_of, Item, Post, Seq, Go, ‵, ◌⊛◌, runs, lands, prop, post, at_ret, any_q, ◌$◌, ◌∵◌, !, qed, by, move, keep, drop as let_go, use0, use1, split, join, fsplit, fjoin, frame, done, whole, sub, look_in, Opd, look, init, store, forget, stop, fld, from, load, lit, of_opd, bin, and_then, no_more, assigns, assigns_last, land, first, blocks, branches, skips, jumps, exec, loops, again, Below, returns, enter, alloc1, alloc0, params1, pass1, pass0, free0, yes, left, Is, RattleType, RefT, now, slice_val, ShrSlice, slice-vals, shr_slice_Tells, shr_slice_Lawful, nothing, Clauses, Ended, lasts, Triple, entered, framed, needs}
+use Rattle.walks.specs.ByHand.{Ura, full_share, Callee, Operand, Ty, Body, RValue, named, w64, ty_bool, ty_ptr, place, copy, skip, seq, cond, exit, call, Val, vbool, vint, ent, emp, id⊢, Lft, Share, fat, froom, fdies, flft, ftrue, Model, Routines, Closed, Env, Calls, Loops, WpFn, Tables, exits, after_seq, after_block, after_turn, Wp, at_return, sem, FmC, Fun, fact_i, Running, tables, tables_of, Item, Post, Seq, Go, ‵, ◌⊛◌, runs, lands, prop, post, at_ret, any_q, ◌$◌, ◌∵◌, !, qed, by, move, keep, drop as let_go, use0, use1, split, join, fsplit, fjoin, frame, done, whole, sub, look_in, Opd, look, init, store, forget, stop, fld, from, load, lit, of_opd, bin, and_then, no_more, assigns, assigns_last, land, first, blocks, branches, skips, jumps, exec, loops, again, Below, returns, enter, alloc1, alloc0, params1, pass1, pass0, free0, yes, left, Is, RattleType, slice_val, ShrSlice, shr_slice_Tells, shr_slice_Lawful, nothing, Clauses, Ended, lasts, Triple, entered, framed}
 use Rattle.walks.specs.Element.{Element, Of, element_row, mir_of, element_bytes, value_of, borrowed, copies_element}
 use Rattle.walks.specs.FreedLocals.{frees_cell, frees_room}
 use Rattle.walks.specs.Walks.{Stated, tokens, passed, Walk, starts, calls_for, ends, cell}
@@ -30,7 +30,7 @@ module _ {M : Type 1} {𝓤 : Ura M} {𝓛 : Logic 𝓤} {K : Type 0} {Γ : List
 
 -- the call of a step, with x or without
 module _ {M : Type 1} {𝓤 : Ura M} (𝓛 : Logic 𝓤) {C : Calls 𝓤 𝓛.H} {Λ : Loops 𝓤 𝓛.H} (fm : FmC 𝓤 𝓛.H 𝓛.laws C) (L : Element) (R X : RattleType) (r : R.Denot) (w : Val) (m : Of L) (x : X.Denot) (u : Val)
-    {Γ : List (Item 𝓤)} {E : Env 𝓤 𝓛.H} {q : Post 𝓤 𝓛.H} {rest : Body} {f : Name} where
+    {Γ : List (Item 𝓤)} {E : Env 𝓤 𝓛.H} {q : Post 𝓤 𝓛.H} {rest : Body} {f : Callee} where
   calls_step : (p t : Bool) (S : Says L R X p t) → Triple 𝓤 (C f) (Stated 𝓛 (step_ended L R X p) (step_clauses L R X p t S 𝓤)) → S.asks r m (pass L R X p x)
       → ((i : Item 𝓤) → Opd (Go {0}) 𝓛 (i ∷ Γ) E (copy (place 3 [])) w) → ((i : Item 𝓤) → Opd (Go {0}) 𝓛 (i ∷ Γ) E (copy (place 8 [])) (value_of L m)) → ((i : Item 𝓤) → Opd (Go {0}) 𝓛 (i ∷ Γ) E (copy (place 2 [])) u)
       → ((w' : Val) (r' : R.Denot) → S.gives r m (pass L R X p x) r' → Is R r' (w' ∷ []) → Seq (Go {0}) 𝓛 (‵ (R.own_val r' (w' ∷ [])) ∷ Γ) (lands C Λ E (place 3 []) w' rest q))
@@ -72,7 +72,7 @@ pub next_in_lem : (n k : ℕ) → k < n → k + 1 ≤ n
 next_in_lem n k h = omega arith
 
 module _ {M : Type 1} {𝓤 : Ura M} (𝓛 : Logic 𝓤) (𝓣 : Tables 𝓤 𝓛.H) (fm : FmC 𝓤 𝓛.H 𝓛.laws 𝓣.C) (L : Element) (R X : RattleType) (τ σ : Ty) (rv : RValue) (ρ : Extra R τ) (ξ : Extra X σ) (F : First R X ξ.plain.val rv)
-    (p t : Bool) (S : Says L R X p t) (facts : Facts L R X p t S F.start) (f : Name) (met : Triple 𝓤 (𝓣.C f) (Stated 𝓛 (step_ended L R X p) (step_clauses L R X p t S 𝓤))) where
+    (p t : Bool) (S : Says L R X p t) (facts : Facts L R X p t S F.start) (f : Callee) (met : Triple 𝓤 (𝓣.C f) (Stated 𝓛 (step_ended L R X p) (step_clauses L R X p t S 𝓤))) where
   open 𝓛 use {H}
 
   abbrev T' : Ended
@@ -89,13 +89,13 @@ module _ {M : Type 1} {𝓤 : Ura M} (𝓛 : Logic 𝓤) (𝓣 : Tables 𝓤 �
     ms = members.now
 
     abbrev b : ℕ
-    b = members.ptr.0
+    b = members.ref_ptr.0
 
     abbrev o : ℕ
-    o = members.ptr.1
+    o = members.ref_ptr.1
 
     abbrev v : Val
-    v = slice_val members.ptr (length ms)
+    v = slice_val members.ref_ptr (length ms)
 
     abbrev u : Val
     u = ξ.plain.val x
@@ -142,7 +142,7 @@ module _ {M : Type 1} {𝓤 : Ura M} (𝓛 : Logic 𝓤) (𝓣 : Tables 𝓤 �
           let small = byte_fits (element_bytes L) (length ms) s.k inside gb in
           let next = next_fits (length ms) s.k inside g in
           let m = get_or ms s.k L.blank in
-          let to-come = drop (s.k + 1) ms in
+          let to_come = drop (s.k + 1) ms in
           let inv = subst (λ (l : List (Of L)). facts.Inv ms x l s.r) (next_element L.blank ms s.k inside) s.inv in
           -- [what the running value owns; the borrow; the token; what x owns; _3; _4; _5; _6; _7; _8; _1; _2; _0; …]
           assigns ! (bin ! (cell ! 5 refl) (lit ! L.sized) (record { fits = small })) (from ! (stop !)) (store ! 6 refl (tt, record { fits = small })) $
@@ -150,13 +150,13 @@ module _ {M : Type 1} {𝓤 : Ura M} (𝓛 : Logic 𝓤) (𝓣 : Tables 𝓤 �
           move ! (1 ∷ 2 ∷ []) $ copies_element ! L 6 7 ms s.k b o inside refl refl refl refl $
           -- [the token; what the element owns; the borrow; what the running value owns; what x owns; _3; _4; _5; _6; _7; _8; _1; _2; _0; …]: what the step is passed
           move ! (4 ∷ []) $ use1 𝓛 (‵ (X.own_val x (u ∷ [])) ⊛ ‵ (X.own_val x (u ∷ []))) ((ξ.copies 𝓛).twice x _) $ split ! $ move ! (5 ∷ 3 ∷ 0 ∷ []) $
-          calls_step 𝓛 fm L R X s.r s.w m x u p t S met (facts.asked ms x m to-come s.r inv)
+          calls_step 𝓛 fm L R X s.r s.w m x u p t S met (facts.asked ms x m to_come s.r inv)
           (λ i. cell ! 4 refl) (λ i. cell ! 9 refl) (λ i. cell ! 11 refl) (λ w r gave is.
           -- [what the new value owns; what x owns; the token; the borrow; _3; _4; _5; _6; _7; _8; _1; _2; _0; …]
           land ! (from ! (stop !)) (store ! 4 refl (ρ.plain.typed 𝓛 r w is)) $
           assigns_last ! (bin ! (cell ! 5 refl) (lit ! tt) (record { fits = next })) (from ! (stop !)) (store ! 5 refl (tt, record { fits = next })) $
           forget ! 6 refl $ forget ! 7 refl $ forget ! 8 refl $ forget ! 9 refl $ move ! (0 ∷ 3 ∷ 2 ∷ 1 ∷ []) $
-          again ! ≺ At s (record { k = s.k + 1; r = r; w = w; is = is; within = next_in_lem (length ms) s.k inside; inv = facts.more ms x m to-come s.r inv r gave }) (nearer (length ms) s.k inside)))
+          again ! ≺ At s (record { k = s.k + 1; r = r; w = w; is = is; within = next_in_lem (length ms) s.k inside; inv = facts.more ms x m to_come s.r inv r gave }) (nearer (length ms) s.k inside)))
           (λ no. exec ! 𝓣.C 𝓣.Λ En rest (at_ret En ((Stated 𝓛 T' c).post y)) $
           let done = ended (length ms) s.k s.within (nltb→le s.k (length ms) no) in
           assigns ! (of_opd ! (cell ! 4 refl)) (from ! (stop !)) (init ! 12 refl (ρ.plain.typed 𝓛 s.r s.w s.is)) $
@@ -177,7 +177,7 @@ module _ {M : Type 1} {𝓤 : Ura M} (𝓛 : Logic 𝓤) (𝓣 : Tables 𝓤 �
         -- [room for _8; …; _7; …; _6; …; _5; …; _4; …; _3; …; _2; …; _1; …; room for _0; …; the token; what the members and x own]
         assigns ! (F.runs 𝓛 _ _ x (cell ! 12 refl)) (from ! (stop !)) (init ! 10 refl (ρ.plain.typed 𝓛 (F.start x) (F.val x) zero)) $
         assigns ! (of_opd ! (lit ! tt)) (from ! (stop !)) (init ! 8 refl (tt, record { fits = lit< tt })) $ first ! $ blocks ! $
-        move ! (19 ∷ []) $ fsplit ! $ fsplit ! $ let_go ! $ fsplit ! $ let_go ! $ move ! (1 ∷ []) $ fsplit ! $ move ! (21 ∷ []) $
+        move ! (19 ∷ []) $ fsplit ! $ fsplit ! $ let_go ! $ move ! (1 ∷ []) $ fsplit ! $ move ! (21 ∷ []) $
         use1 𝓛 (‵ (flft κ q) ⊛ ‵ ftrue) (id⊢ 𝓤 _) $ split ! $
         use0 𝓛 (‵ (R.own_val (F.start x) (F.val x ∷ []))) (ρ.plain.makes 𝓛 (F.start x) (F.val x ∷ []) zero) $
         keep ! (0 ∷ 5 ∷ 1 ∷ 3 ∷ 16 ∷ 14 ∷ 12 ∷ 10 ∷ 8 ∷ 6 ∷ 20 ∷ 18 ∷ 22 ∷ 23 ∷ 21 ∷ 19 ∷ 17 ∷ 15 ∷ 13 ∷ 11 ∷ 9 ∷ 7 ∷ 2 ∷ []) $
@@ -185,13 +185,13 @@ module _ {M : Type 1} {𝓤 : Ura M} (𝓛 : Logic 𝓤) (𝓣 : Tables 𝓤 �
         (record { k = 0; r = F.start x; w = F.val x; is = zero; within = nothing_in (length ms); inv = facts.none ms x needed }))))))))))
 
   pub walks : Triple 𝓤 Run (Stated 𝓛 T' c)
-  walks y = clause_out t 𝓤 _ _ (λ e. facts.free e (now y.0.3.0) y.0.3.1.0) (λ needed.
+  walks y = clause_out t 𝓤 _ _ (λ e. facts.free e y.0.3.0.now y.0.3.1.0) (λ needed.
       starts 𝓛 T' c y (shr_slice_vals, ((λ x. ξ.plain.val x ∷ []), tt)) (shr_slice_Tells (named 0) y.0.0.0 (element_row L), (ξ.plain.tells, tt)) Run
       (λ are. walk y.0.0.0 y.0.1.0 y.0.3.0 y.0.3.1.0 are.0 are.1.0 needed))
 
 -- the same of a function's own routine: `name` and `env` are its key and what its calls mean
 pub meets : {M : Type 1} {𝓤 : Ura M} (𝓛 : Logic 𝓤) (𝓜 : Model 𝓤 𝓛.H) (𝓡 : Running 𝓤 𝓛.H 𝓜) (L : Element) (R X : RattleType) (τ σ : Ty) (rv : RValue) (ρ : Extra R τ) (ξ : Extra X σ) (F : First R X ξ.plain.val rv)
-    (p t : Bool) (S : Says L R X p t) (facts : Facts L R X p t S F.start) (env : Routines) (name step : Name)
+    (p t : Bool) (S : Says L R X p t) (facts : Facts L R X p t S F.start) (env : Routines) (name step : Callee)
     → Closed 𝓤 𝓛.H (tables 𝓤 𝓛.H 𝓜 𝓡 env).C (tables 𝓤 𝓛.H 𝓜 𝓡 env).Λ name (function L τ σ rv p step)
     → Triple 𝓤 (𝓡.run (env step)) (Stated 𝓛 (step_ended L R X p) (step_clauses L R X p t S 𝓤)) → Triple 𝓤 (𝓡.run (env name)) (Stated 𝓛 (walk_ended L R X) (walk_clauses L R X p t S 𝓤))
 unfolding tables_of

@@ -8,7 +8,7 @@
 --     cell             a local's value, from entry n of the context, which is its cell
 use Rattle.std.specs.Prelude.{◌≡◌, ℕ, List, [], ◌∷◌}
 use Rattle.std.proofs.Common.{sym, subst}
-use Rattle.walks.specs.ByHand.{Ura, Name, Place, PStep, Operand, Body, place, copy, seq, call, Val, ent, sep, emp, id⊢, Share, fat, Env, Spot, Calls, Loops, spot_of, sem, Fun, fact, Item, Post, Seq, ‵, nth, raw, ◌⊛◌, ⋆, some, later, runs, lands, ◌$◌, ◌∵◌, !, qed, move, drop as let_go, use0, use1, split, join, pick, show, frame, await, updating, at_once, done, Walks, Opd, Opds, look, stop, from, load, FmC, RattleType, flat, owns, Is, Are, Ises, Spells, Tellss, valss, shows, type_at, types_at, said, heard, peeks, calls_at, Ended, Clauses, ClausesAt, Lasts, AtExit, at_exit, ensured, lasts, closing, alive, on_entry, Back, triple_of, Contract, Triple}
+use Rattle.walks.specs.ByHand.{Ura, Callee, Place, PStep, Operand, Body, place, copy, seq, call, Val, ent, sep, emp, id⊢, Share, fat, Env, Spot, Calls, Loops, spot_of, sem, Fun, fact, Item, Post, Seq, ‵, nth, raw, ◌⊛◌, ⋆, some, later, runs, lands, ◌$◌, ◌∵◌, !, qed, move, drop as let_go, use0, use1, split, join, pick, show, frame, await, updating, at_once, done, Walks, Opd, Opds, look, stop, from, load, FmC, RattleType, flat, owns, Is, Are, Ises, Spells, Tellss, valss, shows, type_at, types_at, said, heard, peeks, calls_at, Ended, Clauses, ClausesAt, Lasts, AtExit, at_exit, ensured, lasts, closing, alive, on_entry, Back, triple_of, Contract, Triple}
 use types.Logic.{Logic, sem}
 
 module _ {M : Type 1} {𝓤 : Ura M} (𝓛 : Logic 𝓤) (T : Ended) (c : Clauses 𝓤 T) where
@@ -47,7 +47,7 @@ module _ {M : Type 1} {𝓤 : Ura M} (𝓛 : Logic 𝓤) (T : Ended) (c : Clause
         show ! (λ (us : Lasts T y.0.0 y.0.3). sep 𝓤 (sem 𝓛 (lasts T y.0.0 y.0.3 us)) (At.ensures y.1 r (at_exit T y.0.0 y.0.3 us))) ws $
         use0 𝓛 (raw (At.ensures y.1 r (at_exit T y.0.0 y.0.3 ws))) ensures $ use0 𝓛 (‵ (lasts T y.0.0 y.0.3 ws)) none $ frame ! $ done !
 
-    module _ {K : Type 0} {Γ : List (Item 𝓤)} {E : Env 𝓤 H} {C : Calls 𝓤 H} {f : Name} {xs : List Operand} {Λ : Loops 𝓤 H} {q : Post 𝓤 H} {d : Place} {rest : Body} where
+    module _ {K : Type 0} {Γ : List (Item 𝓤)} {E : Env 𝓤 H} {C : Calls 𝓤 H} {f : Callee} {xs : List Operand} {Λ : Loops 𝓤 H} {q : Post 𝓤 H} {d : Place} {rest : Body} where
       pub calls_leaving : K → FmC 𝓤 H 𝓛.laws C → (met : Triple 𝓤 (C f) Stated) (requires : ent 𝓤 (emp 𝓤) (At.requires y.1))
           → (φ : Result.Denot → Lasts T y.0.0 y.0.3 → Type 0) → ((r : Result.Denot) (ws : Lasts T y.0.0 y.0.3) → ent 𝓤 (At.ensures y.1 r (at_exit T y.0.0 y.0.3 ws)) (fact 𝓤 (φ r ws)))
           → Opds K 𝓛 (raw (Stated.pre y) ∷ Γ) E xs (Stated.args y)
