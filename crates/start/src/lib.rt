@@ -1,4 +1,6 @@
 // The sums that the start of METHOD 6's recursion is made of: the alternating sum of t(n), and the sum of its bounds c(n).
+#![tactic(auto)]
+
 ghost use Rattle.std.specs.Prelude.{◌≡◌, ◌*◌, ◌^◌, ◌<◌, ◌≤◌};
 ghost use Rattle.fund.specs.Limits.{most_load};
 ghost use Rattle.rounding.specs.Rounding.{near};
