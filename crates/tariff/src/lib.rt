@@ -1,4 +1,6 @@
 // The pool's tariff of METHOD 7 (§3): a premium and its bound, loaded by the deductible, in whole centimes.
+#![tactic(auto)]
+
 ghost use Rattle.std.specs.Prelude.{◌≡◌, ◌+◌, ◌*◌, ◌^◌, ◌<◌, ◌≤◌};
 ghost use Rattle.rounding.specs.Rounding.{up};
 ghost use Rattle.fund.specs.Tariff.{loading};
