@@ -1,4 +1,6 @@
 // The limits of the recursion, tested in their order: X, the lengths of the slices, each H(k), then the sum of |D(k)| and the start.
+#![tactic(auto)]
+
 ghost use Rattle.std.specs.Prelude.{◌≡◌, ◌&&◌, [], ◌∷◌, ◌<◌, leb, nat_abs, length};
 ghost use Rattle.fund.specs.Limits.{most_bound};
 ghost use Rattle.fund.specs.Refusals.{any_short};
