@@ -12,7 +12,7 @@ use fund::Fund;
 // What the recursion answers: all cells up to the horizon stand, a slice has fewer than X + 1 cells, a limit of the transform or of
 // the start is broken (at k for an H(k), else at 0), or the first x whose bound or whose |f| is above its limit. The tests here answer
 // one of the first three.
-#[derive(Drop)]
+#[derive(Clone, Copy)]
 pub enum Recursed {
     Done,
     Short,

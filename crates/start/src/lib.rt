@@ -10,7 +10,7 @@ use fund::Fund;
 use rounding::UNIT;
 
 // The sum that f(0) starts from, and the sum that R(0) starts from.
-#[derive(Drop)]
+#[derive(Clone, Copy)]
 pub struct StartSum {
     pub negative: bool,
     pub size: u64,
