@@ -1,42 +1,24 @@
--- What a read of a file in memory puts behind the bytes that stand there (one_more), and that where the loop stops or goes on behind it, the file is read so.
-use mathlib.Core.Path.{◌≡◌, refl, sym, ◌∙◌, ap}
-use mathlib.Core.Bool.{Bool, true, false, true≢false}
-use mathlib.Core.List.{List, [], ◌∷◌, ◌++◌}
-use Prim.Native.Nat.{ℕ, suc, ◌+◌, ◌-◌, ◌<◌}
-use native.Mathlib.Omega.{arith}
-use lib.IntN.{ℤ, pos}
-use lib.ListN.{length, take, drop, get_or, set, length-take, length-drop}
-use lib.Seq.{take-take, take-suc, take-suc-set, drop-cons}
-use lib.Signed.{lt_z}
-use borrow.Author.Tests.{ltb-true}
-use Rattle.io.specs.Counts.{clamp_len}
+-- What a read of a file in memory leaves behind (extends, inside), and that where the loop stops or goes on behind it, the file is read so.
+use Rattle.std.specs.Prelude.{Option, None, Some, IfSome}
+use Rattle.std.proofs.Common.{◌≡◌, refl, sym, ◌∙◌, ap, Bool, true, false, List, ℕ, ◌+◌, ◌≤◌, ◌<◌, length, take, arith}
+use Rattle.std.proofs.lemmas.List.{take-take}
 use Rattle.input.specs.declared.source.Source.{Source}
-use Rattle.input.specs.declared.FileBytes.{FileBytes}
 use Rattle.input.specs.Reads.{Reads, fails, ends, more}
-use Rattle.input.specs.Input.{descriptor, Closed, Extends, Stands, Given, Gives, counted, none, ReadMemory, ReadDescriptor}
+use Rattle.input.specs.Input.{InMemory, Closed, SameSource, Extends, Stands, Given, Gives, counted, none, ReadMemory}
 
-pub closed_below : {s : Source} {z fd : ℤ} → s ≡ descriptor z → z ≡ fd → lt_z fd (pos 0) ≡ true → Closed s
-closed_below e same t = (ap (λ (x : Source). x.memory) e, ap (λ (x : Source). lt_z x.fd (pos 0)) e ∙ ap (λ (y : ℤ). lt_z y (pos 0)) same ∙ t)
+module _ {R : Type 0} {before after : Source R} where
+  pub still_memory : SameSource before after → InMemory before → InMemory after
+  still_memory s e = s.memory ∙ e
 
-pub of_descriptor : {z fd : ℤ} {before after : List ℕ} {r : FileBytes} → z ≡ fd → ReadDescriptor z before after r → ReadDescriptor fd before after r
-of_descriptor same d = record { read = d.read; closed = λ t. d.closed (ap (λ (y : ℤ). lt_z y (pos 0)) same ∙ t) }
+  pub still_closed : SameSource before after → Closed before → Closed after
+  still_closed s e = (s.memory ∙ e.0, s.closed e.1)
+
+  pub still_same : {first : Source R} → SameSource first before → SameSource before after → SameSource first after
+  still_same f s = record { memory = s.memory ∙ f.memory; closed = λ e. s.closed (f.closed e) }
 
 -- ---- one read
-pub any_default : (l : List ℕ) (i d e : ℕ) → i < length l → get_or l i d ≡ get_or l i e
-any_default l i d e h = cc (drop-cons l i d h, drop-cons l i e h)
-
-pub one_more : (b f : List ℕ) (size from n : ℕ) → from ≡ size → take (size + n) b ≡ take (size + n) f → size + n < length b → from + n < length f →
-    take (size + (n + 1)) (set b (size + n) (get_or f (from + n) 0)) ≡ take (size + (n + 1)) f
-one_more b f size from n e h k l =
-    let e' : size + (n + 1) ≡ suc (size + n) = omega arith in
-    let l' : size + n < length f = omega arith in
-    rw (e, e') (take-suc-set b (size + n) (get_or f (size + n) 0) k ∙ ap (λ (x : List ℕ). x ++ (get_or f (size + n) 0 ∷ [])) h ∙ sym (take-suc f (size + n) 0 l'))
-
 module _ {file pieces before after : List ℕ} {size given : ℕ} where
-  pub gives : {n : ℕ} {z : ℤ} → z ≡ pos n → Given file pieces before size given after n → Gives file pieces before size given after z
-  gives e g = rw e (counted g)
-
-  pub extends : {z : ℤ} → Gives file pieces before size given after z → take size before ≡ take size file → Extends before size after
+  pub extends : {r : Option ℕ} → Gives file pieces before size given after r → take size before ≡ take size file → Extends before size after
   extends (counted {n} g) h =
       record {
         long = g.long;
@@ -44,25 +26,19 @@ module _ {file pieces before after : List ℕ} {size given : ℕ} where
       }
   extends (none g) h = record { long = g.long; kept = g.bytes ∙ sym h }
 
+  pub inside : {r : Option ℕ} → Gives file pieces before size given after r → size ≤ length before → IfSome r (λ n. size + n ≤ length after)
+  inside (counted g) h = omega (arith, g.long, g.count)
+  inside (none g) h = tt
+
   -- ---- behind it the loop stops, or goes on
-  pub stops_failed : {z : ℤ} → Gives file pieces before size given after z → lt_z z (pos 0) ≡ true → size < length before →
-      Reads file pieces (length before) size size true
-  stops_failed (counted {n} g) t h = absurd (omega (arith, ltb-true n 0 t))
-  stops_failed (none g) t h = fails h g.fails
+  pub stops_failed : Gives file pieces before size given after None → size < length before → Reads file pieces (length before) size size true
+  stops_failed (none g) h = fails h g.fails
 
-  pub stops_ended : {z : ℤ} → Gives file pieces before size given after z → lt_z z (pos 0) ≡ false → 0 ≡ clamp_len z (length before - size) → size < length before →
-      Reads file pieces (length before) size size false
-  stops_ended (counted g) t c h = ends h g.some (omega (arith, g.count, g.some))
-  stops_ended (none g) t c h = absurd (true≢false t)
+  pub stops_ended : {n : ℕ} → Gives file pieces before size given after (Some n) → n ≡ 0 → size < length before → Reads file pieces (length before) size size false
+  stops_ended (counted g) e h = ends h g.some (omega (arith, g.count, g.some, e))
 
-  pub counts : {z : ℤ} {count : ℕ} → Gives file pieces before size given after z → lt_z z (pos 0) ≡ false → count ≡ clamp_len z (length before - size) →
-      Given file pieces before size given after count
-  counts {count = k} (counted {n} g) t c = let e : k ≡ n = omega (arith, g.count) in rw e g
-  counts (none g) t c = absurd (true≢false t)
-
--- the part that is lent to a read
-pub part_length : (before after : List ℕ) (size : ℕ) → length after ≡ length before → length (take (length after - size) (drop size after)) ≡ length before - size
-part_length before after size e = simp (length-take, length-drop) (omega arith)
+  pub counts : {n : ℕ} → Gives file pieces before size given after (Some n) → Given file pieces before size given after n
+  counts (counted g) = g
 
 -- ---- all of them
 -- The first `size` bytes are read: how it goes on from there is how the file is read from the start.

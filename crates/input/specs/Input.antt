@@ -1,20 +1,29 @@
--- What is read into a buffer. The assumed contract of `read` says how many bytes it counts, not which they are, nor that 0 is the end: so of a descriptor
+-- What is read into a buffer. The contract of `read` says how many bytes it counts, not which they are, nor that 0 is the end: so of a descriptor
 -- no contract says that the buffer holds the file's own bytes, all of them. Of a file in memory, which the same loop reads, it does.
-use Rattle.std.specs.Prelude.{◌≡◌, true, false, List, ℕ, ◌+◌, ◌≤◌, ◌<◌, ℤ, pos, negsuc, length, take}
-use Rattle.std.specs.Int.Signed.{lt_z}
+use Rattle.std.specs.Prelude.{◌≡◌, true, false, List, ℕ, ◌+◌, ◌≤◌, ◌<◌, Option, None, Some, Result, Ok, Err, IsNone, IfSome, length, take}
 use Rattle.input.specs.declared.source.Source.{Source}
 use Rattle.input.specs.declared.FileBytes.{FileBytes}
 use Rattle.input.specs.Reads.{piece_at, given_at, Reads}
 
-abbrev pub descriptor : ℤ → Source
-descriptor fd = record { fd = fd; memory = false }
+abbrev pub descriptor : {R : Type 0} → Option R → Source R
+descriptor reader = record { reader = reader; memory = false }
 
-abbrev pub InMemory : Source → Type 0
+abbrev pub InMemory : {R : Type 0} → Source R → Type 0
 InMemory source = source.memory ≡ true
 
--- A descriptor below 0: no file is open.
-abbrev pub Closed : Source → Type 0
-Closed source = (source.memory ≡ false) × (lt_z source.fd (pos 0) ≡ true)
+-- A descriptor with no reader: no file is open.
+abbrev pub Closed : {R : Type 0} → Source R → Type 0
+Closed source = (source.memory ≡ false) × IsNone source.reader
+
+-- A read leaves a file in memory one, and a file that is not open not open.
+pub record SameSource {R : Type 0} (before after : Source R) : Type 0 where
+  pub memory : after.memory ≡ before.memory
+  pub closed : IsNone before.reader → IsNone after.reader
+
+-- What stands behind a file that was opened.
+abbrev pub opened_reader : {R E : Type 0} → Result R E → Option R
+opened_reader (Ok reader) = Some reader
+opened_reader (Err error) = None
 
 -- ---- one read
 -- The buffer is as long as it was, and its first `size` bytes stay.
@@ -40,14 +49,15 @@ pub record GivesNone (file pieces before : List ℕ) (size : ℕ) (after : List 
   pub fails : piece_at pieces size ≡ 0
   pub bytes : take size after ≡ take size file
 
-pub data Gives (file pieces before : List ℕ) (size given : ℕ) (after : List ℕ) : ℤ → Type 0 where
-  counted : {n : ℕ} → Given file pieces before size given after n → Gives file pieces before size given after (pos n)
-  none : {n : ℕ} → GivesNone file pieces before size after → Gives file pieces before size given after (negsuc n)
+pub data Gives (file pieces before : List ℕ) (size given : ℕ) (after : List ℕ) : Option ℕ → Type 0 where
+  counted : {n : ℕ} → Given file pieces before size given after n → Gives file pieces before size given after (Some n)
+  none : GivesNone file pieces before size after → Gives file pieces before size given after None
 
-pub record ReadsMore (source : Source) (file pieces before : List ℕ) (size given : ℕ) (after : List ℕ) (r : ℤ) : Type 0 where
+pub record ReadsMore {R : Type 0} (source : Source R) (file pieces before : List ℕ) (size given : ℕ) (after : List ℕ) (r : Option ℕ) : Type 0 where
   pub extends : Extends before size after
+  pub inside : IfSome r (λ n. size + n ≤ length after)
   pub gives : InMemory source → Gives file pieces before size given after r
-  pub closed : Closed source → lt_z r (pos 0) ≡ true
+  pub closed : Closed source → IsNone r
 
 -- ---- all of them
 -- The buffer is as long as it was, and what was read lies in it.
@@ -65,11 +75,11 @@ pub record ReadMemory (file pieces after : List ℕ) (r : FileBytes) : Type 0 wh
   pub reads : Reads file pieces (length after) 0 r.size r.failed
   pub bytes : take r.size after ≡ take r.size file
 
-pub record ReadSource (source : Source) (file pieces before after : List ℕ) (r : FileBytes) : Type 0 where
+pub record ReadSource {R : Type 0} (source : Source R) (file pieces before after : List ℕ) (r : FileBytes) : Type 0 where
   pub read : ReadBytes before after r
   pub memory : InMemory source → ReadMemory file pieces after r
   pub closed : Closed source → 0 < length after → FailsAtOnce r
 
-pub record ReadDescriptor (fd : ℤ) (before after : List ℕ) (r : FileBytes) : Type 0 where
+pub record ReadDescriptor {R : Type 0} (reader : Option R) (before after : List ℕ) (r : FileBytes) : Type 0 where
   pub read : ReadBytes before after r
-  pub closed : lt_z fd (pos 0) ≡ true → 0 < length after → FailsAtOnce r
+  pub closed : IsNone reader → 0 < length after → FailsAtOnce r

@@ -1,28 +1,77 @@
 // Files that a program's arguments name.
-ghost use Rattle.input.specs.Input.{ReadBytes, ReadDescriptor};
+ghost use Rattle.input.specs.Input.{ReadBytes, ReadDescriptor, opened_reader};
 
-use crate::{FileBytes, read_bytes};
+use crate::{FileBytes, Noted, read_bytes, say};
+use std::env::{Env, FillError};
+use std::io::{Eprint, Error, Read};
+use std::rt::Files;
+use std::{fs, io};
+
+// How many arguments the program was started with, its own name among them.
+pub fn argument_count(rt: &impl Env) -> usize {
+    for i in 0..usize::MAX {
+        if let Err(FillError::NotPresent) = rt.arg(i, &mut []) {
+            return i;
+        }
+    }
+    usize::MAX
+}
 
 // Reads an open file and closes it; of one that cannot be opened or read, standard error says why.
-fn read_named(fd: i32, name: &[u8], buffer: &mut [u8]) -> FileBytes
-    ensures { ReadDescriptor fd buffer.old buffer.new result }
+fn read_named<F: Read + Drop>(
+    rt: &impl Eprint,
+    opened: io::Result<F>,
+    name: &str,
+    buffer: &mut [u8],
+) -> FileBytes
+    ensures { ReadDescriptor (opened_reader opened) buffer.old buffer.new result }
 {
-    let read = read_bytes(fd, buffer);
-    if read.failed {
-        os::fail(name);
+    match opened {
+        Ok(file) => {
+            let mut file = Noted::new(file);
+            let read = read_bytes(Some(&mut file), buffer);
+            if read.failed {
+                say(rt, name, file.error());
+            }
+            read
+        }
+        Err(error) => {
+            let read = read_bytes::<F>(None, buffer);
+            if read.failed {
+                say(rt, name, error);
+            }
+            read
+        }
     }
-    libc::close(fd);
-    read
+}
+
+// The system's numbers of the errors of an argument that is missing, of one that is too long, and of one that is no text.
+const INVALID: i32 = 22;
+
+const TOO_LONG: i32 = 36;
+
+const NOT_TEXT: i32 = 84;
+
+// The path that the argument i is.
+fn path_of<'a>(rt: &impl Env, i: usize, path: &'a mut [u8]) -> io::Result<&'a str> {
+    let length = match rt.arg(i, path) {
+        Ok(length) => length,
+        Err(FillError::NotPresent) => return Err(Error::from_raw_os_error(INVALID)),
+        Err(FillError::TooLong) => return Err(Error::from_raw_os_error(TOO_LONG)),
+    };
+    match std::str::from_utf8(&path[..length]) {
+        Ok(path) => Ok(path),
+        Err(_) => Err(Error::from_raw_os_error(NOT_TEXT)),
+    }
 }
 
 // Reads the file that the argument i names, as many bytes as the buffer has room for.
-pub fn read_argument(i: usize, buffer: &mut [u8]) -> FileBytes
+pub fn read_argument<R: Env + Files + Eprint>(rt: &R, i: usize, buffer: &mut [u8]) -> FileBytes
     ensures { ReadBytes buffer.old buffer.new result }
 {
-    let mut path = io::buffer();
-    let length = os::arg(i, &mut path);
-    if os::errno() != 0 {
-        return read_named(-1, b"path", buffer);
+    let mut path = [0u8; 4096];
+    match path_of(rt, i, &mut path) {
+        Ok(path) => read_named(rt, fs::open(rt, path), path, buffer),
+        Err(error) => read_named::<R::File>(rt, Err(error), "path", buffer),
     }
-    read_named(os::open_read(&path[..length]), &path[..length], buffer)
 }

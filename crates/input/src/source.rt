@@ -1,28 +1,33 @@
-// What is read, and one read of it. The fields are private: only the functions of this file can tell a descriptor from a file in memory.
+// What is read, and one read of it. The fields are private: only the functions of this file can tell a reader from a file in memory.
 ghost use Rattle.std.specs.Prelude.{◌≡◌, ◌≤◌, ◌<◌, ◌^◌, length};
 ghost use Rattle.input.specs.Reads.{piece_at};
-ghost use Rattle.input.specs.Input.{descriptor, InMemory, Stands, Gives, ReadsMore};
+ghost use Rattle.input.specs.Input.{descriptor, InMemory, SameSource, Stands, Gives, ReadsMore};
 
-// A descriptor, below 0 that of a file that could not be opened; or a file in memory, whose every read is specified. The same loop reads
-// both, and of the second its contract can say which bytes it reads.
+use std::io::Read;
+
+// What stands behind a descriptor, of a file that could not be opened none; or a file in memory, whose every read is specified. The same
+// loop reads both, and of the second its contract can say which bytes it reads.
 #[derive(Drop)]
-pub struct Source {
-    fd: i32,
+pub struct Source<R> {
+    reader: Option<R>,
     memory: bool,
 }
 
-impl Source {
-    pub fn descriptor(fd: i32) -> Source
-        ensures { result ≡ descriptor fd }
+impl<R> Source<R> {
+    pub fn descriptor(reader: Option<R>) -> Source<R>
+        ensures { result ≡ descriptor reader }
     {
-        Source { fd, memory: false }
+        Source {
+            reader,
+            memory: false,
+        }
     }
 
-    pub fn memory() -> Source
+    pub fn memory() -> Source<R>
         ensures { InMemory result }
     {
         Source {
-            fd: -1,
+            reader: None,
             memory: true,
         }
     }
@@ -39,7 +44,13 @@ fn piece(pieces: &[u32], at: usize) -> usize
 }
 
 // One read of a file in memory, of which the first `given` bytes were given, and stand in the buffer.
-fn give(file: &[u8], pieces: &[u32], given: &mut usize, buffer: &mut [u8], size: usize) -> isize
+fn give(
+    file: &[u8],
+    pieces: &[u32],
+    given: &mut usize,
+    buffer: &mut [u8],
+    size: usize,
+) -> Option<usize>
     requires size_in_bounds { size ≤ length buffer.old }
     requires stands { Stands file.now given.old buffer.old size }
     ensures { Gives file.now pieces.now buffer.old size given.new buffer.new result }
@@ -47,7 +58,7 @@ fn give(file: &[u8], pieces: &[u32], given: &mut usize, buffer: &mut [u8], size:
     let from = *given;
     let most = piece(pieces, from);
     if most == 0 {
-        return -1;
+        return None;
     }
     let mut n = 0;
     while n < most {
@@ -60,28 +71,29 @@ fn give(file: &[u8], pieces: &[u32], given: &mut usize, buffer: &mut [u8], size:
         n += 1;
     }
     *given = from + n;
-    n as isize
+    Some(n)
 }
 
-// One read behind the first `size` bytes, which stay as they are. Which bytes of a descriptor it puts there, the assumed contract of
-// `read` does not say.
-pub(crate) fn read_more(
-    source: Source,
+// One read behind the first `size` bytes, which stay as they are. Which bytes of a descriptor it puts there, the contract of `read` does
+// not say.
+pub(crate) fn read_more<R: Read>(
+    source: &mut Source<R>,
     file: &[u8],
     pieces: &[u32],
     given: &mut usize,
     buffer: &mut [u8],
     size: usize,
-) -> isize
+) -> Option<usize>
     requires size_in_bounds { size ≤ length buffer.old }
-    requires stands { InMemory source → Stands file.now given.old buffer.old size }
-    ensures { ReadsMore source file.now pieces.now buffer.old size given.new buffer.new result }
+    requires stands { InMemory source.old → Stands file.now given.old buffer.old size }
+    ensures same_source { SameSource source.old source.new }
+    ensures reads_more { ReadsMore source.old file.now pieces.now buffer.old size given.new buffer.new result }
 {
     if source.memory {
         return give(file, pieces, given, buffer, size);
     }
-    if source.fd < 0 {
-        return -1;
+    match &mut source.reader {
+        Some(reader) => reader.read(&mut buffer[size..]).ok(),
+        None => None,
     }
-    libc::read(source.fd, &mut buffer[size..])
 }
