@@ -4,7 +4,6 @@ use mathlib.Core.List.{List}
 use Prim.Native.Nat.{ℕ}
 use lib.ListN.{length, take, drop}
 use native.Mathlib.Omega.{arith}
-use borrow.Author.Rules.{rules}
 use borrow.Author.Tests.{eq-eqb, ne_eqb}
 use Rattle.fund.specs.declared.SheetCell.{SheetCell}
 use Rattle.fund.specs.declared.Taken.{Taken}
@@ -14,8 +13,7 @@ use Rattle.fund.specs.declared.RateFloats.{RateFloats}
 use Rattle.fund.specs.Limits.{most_age}
 use Rattle.fund.specs.SheetCells.{least_first, cell_of, whole_in, rate_in, rate_joined, rate_taken, rate_floats, rate_width, rate_row_of}
 use Rattle.sheet_cells.specs.Plain.{rates_of}
-use Rattle.sheet_cells.proofs.rate_row.Statement.{statement}
-use Rattle.sheet_cells.proofs.rate_row.Tie as tie
+use Rattle.sheet_cells.proofs.rate_row.Goals as goal
 
 cut_short : (row : List ℕ) → (length row ≡ rate_width → ⊥) → NotTaken ≡ rate_row_of row
 unfolding rate_row_of
@@ -33,39 +31,28 @@ read : (row : List ℕ) {age q i : ℕ} {r : RateFloats} → r ≡ rates_of age 
     → i ≡ least_first (take 8 (drop 16 row)) → rate_taken r ≡ rate_taken (rate_floats row)
 read row r age q i = cc
 
-classed-requires : tie.Need-classed-requires
-classed-requires c κs = ap (λ (r : RateFloats). r.age) c.rate-floats.ensures
+pub classed-requires : goal.classed-requires
+classed-requires c = ap (λ (r : RateFloats). r.age) c.rate_floats-r.ensures
 
-classed-requires-2 : tie.Need-classed-requires-2
-classed-requires-2 c κs = ap (λ (r : RateFloats). r.q) c.before.before.rate-floats.ensures
+pub classed-requires-2 : goal.classed-requires-2
+classed-requires-2 c = ap (λ (r : RateFloats). r.q) c.rate_floats-r.ensures
 
-classed-requires-3 : tie.Need-classed-requires-3
-classed-requires-3 c κs = ap (λ (r : RateFloats). r.i) c.before.before.before.before.rate-floats.ensures
+pub classed-requires-3 : goal.classed-requires-3
+classed-requires-3 c = ap (λ (r : RateFloats). r.i) c.rate_floats-r.ensures
 
-returns : tie.Need-returns
-returns c = cut_short c.before.before.args.row.now (λ e. omega arith)
+pub returns-then-row-ne-RATE_WIDTH : goal.returns-then-row-ne-RATE_WIDTH
+returns-then-row-ne-RATE_WIDTH c = cut_short c.args.row.now (λ e. omega arith)
 
-returns-2 : tie.Need-returns-2
-returns-2 c =
-    let i = c.before in
-    let q = i.before.before in
-    let age = q.before.before in
-    let floats = age.before.before in
-    let words = floats.before in
-    let row = words.before.before.before.before.before.args.row.now in
-    all floats.rate-floats.result
-    age.before.classed.ensures.0
-    age.number.ensures
-    q.before.classed2.ensures.0
-    q.rate-in.ensures
-    i.before.classed3.ensures.0
-    i.rate-in2.ensures
-    c.rate-joined.ensures
-    ∙ read row floats.rate-floats.ensures words.before.before.word.ensures words.before.word2.ensures words.word3.ensures
+pub returns : goal.returns
+returns c =
+    let row = c.args.row.now in
+    all c.rate_floats-r.result
+    c.classed.ensures.0
+    c.number.ensures
+    c.classed-2.ensures.0
+    c.rate_in.ensures
+    c.classed-3.ensures.0
+    c.rate_in-2.ensures
+    c.rate_joined.ensures
+    ∙ read row c.rate_floats-r.ensures c.word-age.ensures c.word-q.ensures c.word-i.ensures
     ∙ whole row (omega arith)
-
-pub rate-row-spec : {M : Type 1} → statement M
-rate-row-spec =
-    tie.close
-    (tie.spec returns (λ c κs. search rules) (λ c κs. search rules) (λ c κs. search rules) (λ c κs. search rules) classed-requires (λ c κs. search rules)
-    classed-requires-2 (λ c κs. search rules) classed-requires-3 (λ c κs. search rules) (λ c κs. search rules) returns-2)
