@@ -2,12 +2,12 @@
 use Rattle.std.specs.Prelude.{◌≡◌, ℕ, ◌<◌, ◌*◌ as ◌*ⁿ◌, ◌≤◌ as ◌≤ⁿ◌, ℤ, pos, nat_abs, ◌-ℤ◌, ◌*ℤ◌}
 use Rattle.std.proofs.Common.{sym, ◌∙◌, ap, ap₂}
 use Rattle.algebra.specs.Solver.{◌⊗◌, ◌⊝◌, ◌:=◌, ring3, ring4}
-use Rattle.algebra.specs.Q.{ℚ, ℚ_ring, zero_q, ◌-◌, ◌*◌, ◌≤◌, abs, ≤_trans, ≤_of_eq, ≤_mul_left, mul_nn, abs_scale}
+use Rattle.algebra.specs.Q.{ℚ, ℚ_ring, zero_q, ◌-ℚ◌, ◌*ℚ◌, ◌≤ℚ◌, abs, ≤_trans, ≤_of_eq, ≤_mul_left, mul_nn, abs_scale}
 use Rattle.algebra.specs.Embedding.{ofℤ, nat, ofℤ_sub, ofℤ_mul, nat_mul, nat_nn, nat_reflect, abs_ofℤ}
 use Rattle.algebra.specs.Quotient.{over, over_ok}
 
 pub clear_denominators : (a b : ℤ) (c N M K : ℕ) → 0 < N → 0 < M → 0 < K →
-    abs (over (ofℤ a) N - over (ofℤ b) M) ≤ over (nat c) K → nat_abs (a *ℤ pos M -ℤ b *ℤ pos N) *ⁿ K ≤ⁿ c *ⁿ (N *ⁿ M)
+    abs (over (ofℤ a) N -ℚ over (ofℤ b) M) ≤ℚ over (nat c) K → nat_abs (a *ℤ pos M -ℤ b *ℤ pos N) *ⁿ K ≤ⁿ c *ⁿ (N *ⁿ M)
 clear_denominators a b c N M K hN hM hK h = nat_reflect (nat_abs d *ⁿ K) (c *ⁿ (N *ⁿ M))
     (≤_trans (≤_of_eq left) (≤_trans (≤_mul_left (nat K) (nat_nn K) (≤_mul_left u u_nn h)) (≤_of_eq right)))
   where
@@ -15,7 +15,7 @@ clear_denominators a b c N M K hN hM hK h = nat_reflect (nat_abs d *ⁿ K) (c *�
     d = a *ℤ pos M -ℤ b *ℤ pos N
 
     u : ℚ
-    u = nat N * nat M
+    u = nat N *ℚ nat M
 
     x : ℚ
     x = over (ofℤ a) N
@@ -23,18 +23,18 @@ clear_denominators a b c N M K hN hM hK h = nat_reflect (nat_abs d *ⁿ K) (c *�
     y : ℚ
     y = over (ofℤ b) M
 
-    u_nn : zero_q ≤ u
+    u_nn : zero_q ≤ℚ u
     u_nn = mul_nn (nat_nn N) (nat_nn M)
 
-    difference : ofℤ d ≡ u * (x - y)
-    difference = ofℤ_sub (a *ℤ pos M) (b *ℤ pos N) ∙ ap₂ ◌-◌ (ofℤ_mul a (pos M)) (ofℤ_mul b (pos N))
-        ∙ ap₂ (λ s t. s * nat M - t * nat N) (sym (over_ok (ofℤ a) N hN)) (sym (over_ok (ofℤ b) M hM))
+    difference : ofℤ d ≡ u *ℚ (x -ℚ y)
+    difference = ofℤ_sub (a *ℤ pos M) (b *ℤ pos N) ∙ ap₂ ◌-ℚ◌ (ofℤ_mul a (pos M)) (ofℤ_mul b (pos N))
+        ∙ ap₂ (λ s t. s *ℚ nat M -ℚ t *ℚ nat N) (sym (over_ok (ofℤ a) N hN)) (sym (over_ok (ofℤ b) M hM))
         ∙ ring4 ℚ_ring (λ n m x y. n ⊗ x ⊗ m ⊝ m ⊗ y ⊗ n := n ⊗ m ⊗ (x ⊝ y)) tt (nat N) (nat M) x y
 
-    left : nat (nat_abs d *ⁿ K) ≡ nat K * (u * abs (x - y))
-    left = nat_mul (nat_abs d) K ∙ ap (λ s. s * nat K) (sym (abs_ofℤ d) ∙ ap abs difference ∙ abs_scale u (x - y) u_nn)
-        ∙ ℚ_ring.mul_comm (u * abs (x - y)) (nat K)
+    left : nat (nat_abs d *ⁿ K) ≡ nat K *ℚ (u *ℚ abs (x -ℚ y))
+    left = nat_mul (nat_abs d) K ∙ ap (λ s. s *ℚ nat K) (sym (abs_ofℤ d) ∙ ap abs difference ∙ abs_scale u (x -ℚ y) u_nn)
+        ∙ ℚ_ring.mul_comm (u *ℚ abs (x -ℚ y)) (nat K)
 
-    right : nat K * (u * over (nat c) K) ≡ nat (c *ⁿ (N *ⁿ M))
+    right : nat K *ℚ (u *ℚ over (nat c) K) ≡ nat (c *ⁿ (N *ⁿ M))
     right = ring3 ℚ_ring (λ k u o. k ⊗ (u ⊗ o) := (k ⊗ o) ⊗ u) tt (nat K) u (over (nat c) K)
-        ∙ ap₂ ◌*◌ (over_ok (nat c) K hK) (sym (nat_mul N M)) ∙ sym (nat_mul c (N *ⁿ M))
+        ∙ ap₂ ◌*ℚ◌ (over_ok (nat c) K hK) (sym (nat_mul N M)) ∙ sym (nat_mul c (N *ⁿ M))

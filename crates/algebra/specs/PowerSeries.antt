@@ -9,7 +9,7 @@ use Rattle.algebra.specs.Series as S
 use Rattle.algebra.specs.SeriesRing as SR
 use Rattle.algebra.specs.Solver as R
 use Rattle.algebra.specs.Solver.{𝟎, 𝟏, ◌⊕◌, ◌⊗◌, ◌:=◌, ring2, ring3}
-use Rattle.algebra.specs.Q.{ℚ, ℚ_ring, neg_q, zero_q, one_q, ◌+◌, ◌*◌}
+use Rattle.algebra.specs.Q.{ℚ, ℚ_ring, neg_q, zero_q, one_q, ◌+ℚ◌, ◌*ℚ◌}
 use Rattle.algebra.specs.Embedding.{nat, nat_zero}
 use Rattle.algebra.specs.RationalSum.{sum}
 
@@ -26,7 +26,7 @@ abbrev pub ◌⋆◌ : Ser → Ser → Ser
 P ⋆ Q = S.product ℚ_ring P Q
 
 abbrev pub ◌⊞◌ : Ser → Ser → Ser
-P ⊞ Q = λ n. P n + Q n
+P ⊞ Q = λ n. P n +ℚ Q n
 
 abbrev pub minus : Ser → Ser
 minus P = λ n. neg_q (P n)
@@ -49,29 +49,29 @@ pow G zero = one_s
 pow G (suc n) = G ⋆ pow G n
 
 -- ---- products
-pub product_sum : (n : ℕ) (P Q : Ser) → (P ⋆ Q) n ≡ sum (suc n) (λ k. P k * Q (n ∸ k))
+pub product_sum : (n : ℕ) (P Q : Ser) → (P ⋆ Q) n ≡ sum (suc n) (λ k. P k *ℚ Q (n ∸ k))
 product_sum n P Q = S.product_sum ℚ_ring n P Q
 
 pub product_ext : (n : ℕ) (P P' Q Q' : Ser) → ((k : ℕ) → k ≤ⁿ n → P k ≡ P' k) → ((k : ℕ) → k ≤ⁿ n → Q k ≡ Q' k) → (P ⋆ Q) n ≡ (P' ⋆ Q') n
 product_ext n P P' Q Q' h k = S.product_ext ℚ_ring n P P' Q Q' h k
 
-pub product_scale : (n : ℕ) (c : ℚ) (P Q : Ser) → ((λ k. c * P k) ⋆ Q) n ≡ c * (P ⋆ Q) n
+pub product_scale : (n : ℕ) (c : ℚ) (P Q : Ser) → ((λ k. c *ℚ P k) ⋆ Q) n ≡ c *ℚ (P ⋆ Q) n
 product_scale n c P Q = S.product_scale ℚ_ring n c P Q
 
-pub const_product : (c : ℚ) (P : Ser) (n : ℕ) → (const c ⋆ P) n ≡ c * P n
+pub const_product : (c : ℚ) (P : Ser) (n : ℕ) → (const c ⋆ P) n ≡ c *ℚ P n
 const_product c P zero = refl
-const_product c P (suc n) = ap (λ x. c * P (suc n) + x) (SR.product_zero ℚ_ring n P) ∙ ℚ_ring.add-zero (c * P (suc n))
+const_product c P (suc n) = ap (λ x. c *ℚ P (suc n) +ℚ x) (SR.product_zero ℚ_ring n P) ∙ ℚ_ring.add-zero (c *ℚ P (suc n))
 
-pub const_mul : (a b : ℚ) → const a ⋆ const b ≡ const (a * b)
+pub const_mul : (a b : ℚ) → const a ⋆ const b ≡ const (a *ℚ b)
 const_mul a b = fun_ext go
   where
-    go : (n : ℕ) → (const a ⋆ const b) n ≡ const (a * b) n
+    go : (n : ℕ) → (const a ⋆ const b) n ≡ const (a *ℚ b) n
     go zero = refl
     go (suc n) = const_product a (const b) (suc n) ∙ L.mul-zero ℚ_ring a
 
 -- ---- the derivation
 pub θ_zero : (P : Ser) → θ P 0 ≡ zero_q
-θ_zero P = ap (λ x. x * P 0) nat_zero ∙ L.zero-mul ℚ_ring (P 0)
+θ_zero P = ap (λ x. x *ℚ P 0) nat_zero ∙ L.zero-mul ℚ_ring (P 0)
 
 pub θ_add : (P Q : Ser) → θ (P ⊞ Q) ≡ θ P ⊞ θ Q
 θ_add P Q = fun_ext (λ n. ℚ_ring.distrib (nat n) (P n) (Q n))
@@ -113,7 +113,7 @@ pub upto_trans : {N : ℕ} {P Q T : Ser} → Upto N P Q → Upto N Q T → Upto 
 upto_trans h k x l = h x l ∙ k x l
 
 pub upto_add : {N : ℕ} {P P' Q Q' : Ser} → Upto N P P' → Upto N Q Q' → Upto N (P ⊞ Q) (P' ⊞ Q')
-upto_add h k x l = ap₂ ◌+◌ (h x l) (k x l)
+upto_add h k x l = ap₂ ◌+ℚ◌ (h x l) (k x l)
 
 pub upto_mul : (N : ℕ) (P P' Q Q' : Ser) → Upto N P P' → Upto N Q Q' → Upto N (P ⋆ Q) (P' ⋆ Q')
 upto_mul N P P' Q Q' h k x l = product_ext x P P' Q Q' (λ y m. h y (omega arith)) (λ y m. k y (omega arith))
@@ -123,9 +123,9 @@ abbrev pub Vanishes : ℕ → Ser → Type 0
 Vanishes n P = (x : ℕ) → x < n → P x ≡ zero_q
 
 pub vanishes_mul : (n : ℕ) (G P : Ser) → G 0 ≡ zero_q → Vanishes n P → Vanishes (suc n) (G ⋆ P)
-vanishes_mul n G P g h zero l = ap (λ x. x * P 0) g ∙ L.zero-mul ℚ_ring (P 0)
+vanishes_mul n G P g h zero l = ap (λ x. x *ℚ P 0) g ∙ L.zero-mul ℚ_ring (P 0)
 vanishes_mul n G P g h (suc x) l =
-    ap₂ ◌+◌ (ap (λ y. y * P (suc x)) g ∙ L.zero-mul ℚ_ring (P (suc x)))
+    ap₂ ◌+ℚ◌ (ap (λ y. y *ℚ P (suc x)) g ∙ L.zero-mul ℚ_ring (P (suc x)))
     (product_ext x G' G' P zero_s (λ k m. refl) (λ k m. h k (omega arith)) ∙ S.product_comm ℚ_ring x G' zero_s ∙ SR.product_zero ℚ_ring x G')
     ∙ L.zero-add ℚ_ring zero_q
   where

@@ -7,7 +7,8 @@ use Rattle.std.proofs.Math.Dec.{T_prop}
 use Rattle.std.proofs.Math.IntN.{zero-*ℤ}
 use Rattle.std.specs.Int.Signed.{non_neg}
 use mathlib.Core.HLevel.{Π_prop}
-use std.Quotient.{◌/◌, cls, eq/, /_set, /_rec, /_rec₂, /_elim_prop, /_elim_prop₂, /_elim_prop₃}
+use std.Quotient as Quotient
+use std.Quotient.{cls, eq/, /_set, /_rec, /_rec₂, /_elim_prop, /_elim_prop₂, /_elim_prop₃}
 use Rattle.algebra.specs.Ring.{CRing}
 use Rattle.algebra.specs.Integer.{ℤ_ring}
 use Rattle.algebra.specs.IntegerOrder.{posb, non_neg_mul, nn_add, nn_mul, nn_total, nn_antisym}
@@ -17,7 +18,7 @@ use Rattle.algebra.specs.Order.{Ord}
 use Rattle.algebra.specs.Solver.{𝟎, 𝟏, ◌⊕◌, ◌⊗◌, ⊖◌, ◌:=◌, ring1, ring2, ring4, ring6}
 
 abbrev pub ℚ : Type 0
-ℚ = Frac / Same
+ℚ = Quotient.◌/◌ Frac Same
 
 pub add_q : ℚ → ℚ → ℚ
 add_q = /_rec₂ /_set (λ a b. cls (add_fraction a b)) (λ a a' b h. eq/ (add_fraction a b) (add_fraction a' b) (add_left a a' b h))

@@ -1,14 +1,14 @@
 -- With lambda 0 the exact premium is, in units, the average excess over M of all outcomes of the group 1 members
 -- (average_excess), multiplied out over METHOD 10's denominator. No weight is left in group 2, so the exact distribution is
 -- the convolution of group 1, and the outcomes' sums give the premium's.
-use Rattle.std.specs.Prelude.{◌≡◌, refl, Bool, true, false, List, [], ◌∷◌, ℤ, ◌+ℤ◌, ◌-ℤ◌, ◌*ℤ◌}
+use Rattle.std.specs.Prelude.{◌≡◌, refl, Bool, true, false, List, [], ◌∷◌, ℤ, ◌+ℤ◌, ◌-ℤ◌, ◌*ℤ◌, if◌then◌else◌}
 use Rattle.std.proofs.Math.Path.{sym, ap, ap₂, fun_ext}
 use Rattle.std.proofs.Common.{◌∙◌, mul_assoc, mul_comm, zero-mul, arith}
 use Prim.Native.Nat.{ℕ, suc, ◌≤◌ as ◌≤ⁿ◌, ◌+◌ as ◌+ⁿ◌, ◌*◌ as ◌*ⁿ◌, ◌-◌ as ◌∸◌, ◌^◌}
 use Rattle.std.proofs.Math.IntN.{pos}
 use Rattle.algebra.specs.Laws as L
 use Rattle.algebra.specs.SeriesRing as SR
-use Rattle.algebra.specs.Q.{ℚ_ring, neg_q, zero_q, one_q, ◌+◌, ◌-◌, ◌*◌}
+use Rattle.algebra.specs.Q.{ℚ_ring, neg_q, zero_q, one_q, ◌+ℚ◌, ◌-ℚ◌, ◌*ℚ◌}
 use Rattle.algebra.specs.Embedding.{ofℤ, ofℤ_add, ofℤ_mul, ofℤ_sub, ofℤ_injective, nat, nat_zero, nat_add, nat_mul}
 use Rattle.algebra.specs.Quotient.{over, over_zero}
 use Rattle.algebra.specs.RationalSum.{sum, sum_ext, sum_mul, sum_zero, sum_first, nat_sum, ofℤ_sum}
@@ -21,7 +21,7 @@ use Rattle.expansion.specs.Poisson.{poisson}
 use Rattle.expansion.specs.Exponential.{exp_sum}
 use Rattle.fund.specs.declared.Frequencies.{Frequencies}
 use Rattle.fund.specs.declared.Life.{Life}
-use Rattle.fund.specs.Base.{if◌then◌else◌, total, sumℤ}
+use Rattle.fund.specs.Base.{total, sumℤ}
 use Rattle.fund.specs.Folding.{single}
 use Rattle.fund.specs.Transform.{unit, death_weight, disability_weight, lambda, mean}
 use Rattle.fund.specs.Exact.{singles, denominator, single_part, weight_at, exact, exact_premium, outcomes, excess}
@@ -61,14 +61,14 @@ pow_none n x = SR.product_zero ℚ_ring x (pow zero_s n)
 
 poisson_none : (x : ℕ) → poisson zero_s x ≡ one_s x
 poisson_none x =
-    sum_first x (λ n. ifact n * pow zero_s n x)
-    ∙ ap₂ ◌+◌ (L.one-mul ℚ_ring (one_s x)) (sum_ext x (λ n. ifact (suc n) * pow zero_s (suc n) x) (λ n. zero_q) (λ n l. ap (λ y. ifact (suc n) * y) (pow_none n x) ∙ L.mul-zero ℚ_ring (ifact (suc n))) ∙ sum_zero x)
+    sum_first x (λ n. ifact n *ℚ pow zero_s n x)
+    ∙ ap₂ ◌+ℚ◌ (L.one-mul ℚ_ring (one_s x)) (sum_ext x (λ n. ifact (suc n) *ℚ pow zero_s (suc n) x) (λ n. zero_q) (λ n l. ap (λ y. ifact (suc n) *ℚ y) (pow_none n x) ∙ L.mul-zero ℚ_ring (ifact (suc n))) ∙ sum_zero x)
     ∙ ℚ_ring.add-zero (one_s x)
 
 exp_none : (K : ℕ) → exp_sum K zero_q ≡ one_q
 exp_none K =
-    sum_first K (λ n. ifact n * pow_q zero_q n)
-    ∙ ap₂ ◌+◌ (ℚ_ring.mul-one one_q) (sum_ext K (λ n. ifact (suc n) * pow_q zero_q (suc n)) (λ n. zero_q) (λ n l. ap (λ y. ifact (suc n) * y) (L.zero-mul ℚ_ring (pow_q zero_q n)) ∙ L.mul-zero ℚ_ring (ifact (suc n))) ∙ sum_zero K)
+    sum_first K (λ n. ifact n *ℚ pow_q zero_q n)
+    ∙ ap₂ ◌+ℚ◌ (ℚ_ring.mul-one one_q) (sum_ext K (λ n. ifact (suc n) *ℚ pow_q zero_q (suc n)) (λ n. zero_q) (λ n l. ap (λ y. ifact (suc n) *ℚ y) (L.zero-mul ℚ_ring (pow_q zero_q n)) ∙ L.mul-zero ℚ_ring (ifact (suc n))) ∙ sum_zero K)
     ∙ ℚ_ring.add-zero one_q
 
 module _ (X r : ℕ) (a : Frequencies) (ms : List Life) (limited : All Limited ms) (folded : All FoldedLife ms) (none : lambda a ms ≡ 0) where
@@ -83,7 +83,7 @@ module _ (X r : ℕ) (a : Frequencies) (ms : List Life) (limited : All Limited m
   P_is : (x : ℕ) → P r a ms x ≡ own_product (members r ms) x
   P_is x =
       const_product (exp_sum 63 (neg_q (rate a ms))) (poisson (W a ms) ⋆ own) x
-      ∙ ap₂ ◌*◌ (ap (exp_sum 63) no_rate ∙ exp_none 63) (ap (λ Q. (Q ⋆ own) x) (ap poisson no_weights ∙ fun_ext poisson_none) ∙ SR.one_product ℚ_ring x own)
+      ∙ ap₂ ◌*ℚ◌ (ap (exp_sum 63) no_rate ∙ exp_none 63) (ap (λ Q. (Q ⋆ own) x) (ap poisson no_weights ∙ fun_ext poisson_none) ∙ SR.one_product ℚ_ring x own)
       ∙ L.one-mul ℚ_ring (own x)
     where
       own : Ser
@@ -93,24 +93,24 @@ module _ (X r : ℕ) (a : Frequencies) (ms : List Life) (limited : All Limited m
   G = 10 ^ (6 *ⁿ singles ms)
 
   -- the exact value times 10^(6g) is the denominator times the convolution's cell
-  exact_single : (x : ℕ) → x ≤ⁿ X → ofℤ (exact X a ms x) * nat G ≡ nat (denominator X ms) * nat (single_part ms x)
+  exact_single : (x : ℕ) → x ≤ⁿ X → ofℤ (exact X a ms x) *ℚ nat G ≡ nat (denominator X ms) *ℚ nat (single_part ms x)
   exact_single x l =
-      ap₂ ◌*◌ (exact_is X r a ms limited folded x l ∙ ap (λ y. nat (denominator X ms) * y) (P_is x)) (nat_pow 10 (6 *ⁿ singles ms))
+      ap₂ ◌*ℚ◌ (exact_is X r a ms limited folded x l ∙ ap (λ y. nat (denominator X ms) *ℚ y) (P_is x)) (nat_pow 10 (6 *ⁿ singles ms))
       ∙ ring3 ℚ_ring (λ d o g. d ⊗ o ⊗ g := d ⊗ (g ⊗ o)) tt (nat (denominator X ms)) (own_product (members r ms) x) (sixes ms)
-      ∙ ap (λ y. nat (denominator X ms) * y) (sym (single_is r ms limited folded x))
+      ∙ ap (λ y. nat (denominator X ms) *ℚ y) (sym (single_is r ms limited folded x))
 
   -- the premium's sum, times 10^(6g)
-  sum_single : (M : ℕ) → M ≤ⁿ suc X → ofℤ (sumℤ M (λ x. pos ((M ∸ x) *ⁿ 10 ^ 12) *ℤ exact X a ms x)) * nat G ≡ nat (denominator X ms) * (U * nat (below (single_part ms) M))
+  sum_single : (M : ℕ) → M ≤ⁿ suc X → ofℤ (sumℤ M (λ x. pos ((M ∸ x) *ⁿ 10 ^ 12) *ℤ exact X a ms x)) *ℚ nat G ≡ nat (denominator X ms) *ℚ (U *ℚ nat (below (single_part ms) M))
   sum_single M l =
-      ap (λ y. y * nat G) (ap ofℤ (sumℤ_is M g) ∙ ofℤ_sum M g) ∙ ℚ_ring.mul_comm (sum M (λ x. ofℤ (g x))) (nat G) ∙ sym (sum_mul M (nat G) (λ x. ofℤ (g x)))
-      ∙ sum_ext M (λ x. nat G * ofℤ (g x)) (λ x. nat Δ * U * nat ((M ∸ x) *ⁿ single_part ms x))
-      (λ x h. ap (λ y. nat G * y) (ofℤ_mul (pos ((M ∸ x) *ⁿ 10 ^ 12)) (exact X a ms x) ∙ ap (λ y. y * ofℤ (exact X a ms x)) (nat_units (M ∸ x)))
+      ap (λ y. y *ℚ nat G) (ap ofℤ (sumℤ_is M g) ∙ ofℤ_sum M g) ∙ ℚ_ring.mul_comm (sum M (λ x. ofℤ (g x))) (nat G) ∙ sym (sum_mul M (nat G) (λ x. ofℤ (g x)))
+      ∙ sum_ext M (λ x. nat G *ℚ ofℤ (g x)) (λ x. nat Δ *ℚ U *ℚ nat ((M ∸ x) *ⁿ single_part ms x))
+      (λ x h. ap (λ y. nat G *ℚ y) (ofℤ_mul (pos ((M ∸ x) *ⁿ 10 ^ 12)) (exact X a ms x) ∙ ap (λ y. y *ℚ ofℤ (exact X a ms x)) (nat_units (M ∸ x)))
       ∙ ring4 ℚ_ring (λ g m u e. g ⊗ (m ⊗ u ⊗ e) := m ⊗ u ⊗ (e ⊗ g)) tt (nat G) (nat (M ∸ x)) U (ofℤ (exact X a ms x))
-      ∙ ap (λ y. nat (M ∸ x) * U * y) (exact_single x (omega arith))
+      ∙ ap (λ y. nat (M ∸ x) *ℚ U *ℚ y) (exact_single x (omega arith))
       ∙ ring4 ℚ_ring (λ m u d s. m ⊗ u ⊗ (d ⊗ s) := d ⊗ u ⊗ (m ⊗ s)) tt (nat (M ∸ x)) U (nat Δ) (nat (single_part ms x))
-      ∙ ap (λ y. nat Δ * U * y) (sym (nat_mul (M ∸ x) (single_part ms x))))
-      ∙ sum_mul M (nat Δ * U) (λ x. nat ((M ∸ x) *ⁿ single_part ms x))
-      ∙ ap (λ y. nat Δ * U * y) (sym (nat_sum M (λ x. (M ∸ x) *ⁿ single_part ms x)))
+      ∙ ap (λ y. nat Δ *ℚ U *ℚ y) (sym (nat_mul (M ∸ x) (single_part ms x))))
+      ∙ sum_mul M (nat Δ *ℚ U) (λ x. nat ((M ∸ x) *ⁿ single_part ms x))
+      ∙ ap (λ y. nat Δ *ℚ U *ℚ y) (sym (nat_sum M (λ x. (M ∸ x) *ⁿ single_part ms x)))
       ∙ ℚ_ring.mul_assoc (nat Δ) U (nat (below (single_part ms) M))
     where
       Δ : ℕ
@@ -120,7 +120,7 @@ module _ (X r : ℕ) (a : Frequencies) (ms : List Life) (limited : All Limited m
       g x = pos ((M ∸ x) *ⁿ 10 ^ 12) *ℤ exact X a ms x
 
   -- mean × 10^(6g) is 10^12 times the weighted totals
-  mean_single : nat (mean a ms) * nat G ≡ U * nat (expect (λ c. c) (outcomes ms))
+  mean_single : nat (mean a ms) *ℚ nat G ≡ U *ℚ nat (expect (λ c. c) (outcomes ms))
   mean_single =
       sym (nat_mul (mean a ms) G)
       ∙ ap nat (ap (λ y. y *ⁿ G) (mean_claims a ms none) ∙ mul_assoc 1000000 (claims ms) G ∙ ap (λ y. 1000000 *ⁿ y) (sym (claims_are ms limited)) ∙ (let e : 1000000 *ⁿ (1000000 *ⁿ C) ≡ C *ⁿ 10 ^ 12 = omega arith in e))
@@ -132,13 +132,13 @@ module _ (X r : ℕ) (a : Frequencies) (ms : List Life) (limited : All Limited m
   pub average_excess : (M : ℕ) → M ≤ⁿ suc X → exact_premium X M (mean a ms) a ms *ℤ pos G ≡ pos (10 ^ 12 *ⁿ excess M (outcomes ms) *ⁿ denominator X ms)
   unfolding exact_premium
   average_excess M l = ofℤ_injective (exact_premium X M (mean a ms) a ms *ℤ pos G) (pos (10 ^ 12 *ⁿ E *ⁿ Δ))
-      (ofℤ_mul (first *ℤ pos Δ +ℤ rest) (pos G) ∙ ap (λ y. y * nat G) (ofℤ_add (first *ℤ pos Δ) rest ∙ ap (λ y. y + ofℤ rest) (ofℤ_mul first (pos Δ) ∙ ap (λ y. y * nat Δ) (ofℤ_sub (pos (mean a ms)) (pos (M *ⁿ 10 ^ 12)) ∙ ap (λ y. nat (mean a ms) - y) (nat_units M))))
+      (ofℤ_mul (first *ℤ pos Δ +ℤ rest) (pos G) ∙ ap (λ y. y *ℚ nat G) (ofℤ_add (first *ℤ pos Δ) rest ∙ ap (λ y. y +ℚ ofℤ rest) (ofℤ_mul first (pos Δ) ∙ ap (λ y. y *ℚ nat Δ) (ofℤ_sub (pos (mean a ms)) (pos (M *ⁿ 10 ^ 12)) ∙ ap (λ y. nat (mean a ms) -ℚ y) (nat_units M))))
       ∙ ring6 ℚ_ring (λ m k u d s g. ((m ⊝ k ⊗ u) ⊗ d ⊕ s) ⊗ g := d ⊗ (m ⊗ g ⊝ u ⊗ (k ⊗ g)) ⊕ s ⊗ g) tt (nat (mean a ms)) (nat M) U (nat Δ) (ofℤ rest) (nat G)
-      ∙ ap₂ (λ x y. nat Δ * (x - U * (nat M * nat G)) + y) mean_single (sum_single M l)
-      ∙ ring5 ℚ_ring (λ d u c k b. d ⊗ (u ⊗ c ⊝ u ⊗ k) ⊕ d ⊗ (u ⊗ b) := d ⊗ (u ⊗ ((c ⊕ b) ⊝ k))) tt (nat Δ) U (nat C) (nat M * nat G) (nat B)
-      ∙ ap (λ y. nat Δ * (U * y)) whole
+      ∙ ap₂ (λ x y. nat Δ *ℚ (x -ℚ U *ℚ (nat M *ℚ nat G)) +ℚ y) mean_single (sum_single M l)
+      ∙ ring5 ℚ_ring (λ d u c k b. d ⊗ (u ⊗ c ⊝ u ⊗ k) ⊕ d ⊗ (u ⊗ b) := d ⊗ (u ⊗ ((c ⊕ b) ⊝ k))) tt (nat Δ) U (nat C) (nat M *ℚ nat G) (nat B)
+      ∙ ap (λ y. nat Δ *ℚ (U *ℚ y)) whole
       ∙ ring3 ℚ_ring (λ d u e. d ⊗ (u ⊗ e) := e ⊗ u ⊗ d) tt (nat Δ) U (nat E)
-      ∙ ap (λ y. y * nat Δ) (sym (nat_units E) ∙ ap nat (mul_comm E (10 ^ 12))) ∙ sym (nat_mul (10 ^ 12 *ⁿ E) Δ))
+      ∙ ap (λ y. y *ℚ nat Δ) (sym (nat_units E) ∙ ap nat (mul_comm E (10 ^ 12))) ∙ sym (nat_mul (10 ^ 12 *ⁿ E) Δ))
     where
       Δ : ℕ
       Δ = denominator X ms
@@ -158,5 +158,5 @@ module _ (X r : ℕ) (a : Frequencies) (ms : List Life) (limited : All Limited m
       E : ℕ
       E = excess M (outcomes ms)
 
-      whole : nat C + nat B - nat M * nat G ≡ nat E
-      whole = ap₂ ◌-◌ (sym (nat_add C B) ∙ ap nat (sym (excess_whole M ms limited)) ∙ nat_add E (M *ⁿ G)) (sym (nat_mul M G)) ∙ ring2 ℚ_ring (λ e k. (e ⊕ k) ⊝ k := e) tt (nat E) (nat (M *ⁿ G))
+      whole : nat C +ℚ nat B -ℚ nat M *ℚ nat G ≡ nat E
+      whole = ap₂ ◌-ℚ◌ (sym (nat_add C B) ∙ ap nat (sym (excess_whole M ms limited)) ∙ nat_add E (M *ⁿ G)) (sym (nat_mul M G)) ∙ ring2 ℚ_ring (λ e k. (e ⊕ k) ⊝ k := e) tt (nat E) (nat (M *ⁿ G))

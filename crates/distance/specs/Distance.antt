@@ -19,7 +19,7 @@ use Rattle.fund.specs.Folding.{lives}
 use Rattle.fund.specs.Transform.{unit}
 use Rattle.fund.specs.Recursion.{Cell}
 use Rattle.fund.specs.Premium.{premium, within, printed_bound}
-use Rattle.fund.specs.Refusals.{Lengths, verdict}
+use Rattle.fund.specs.Refusals.{Lengths}
 use Rattle.fund.specs.Quantile.{reaches, quantile_of, QuantileSays}
 use Rattle.fund.specs.Distribution.{distribution_bound}
 use Rattle.fund.specs.Answer.{fund_terms, fund_start, fund_cells, fund_truncation, fund_mean, fund_premium, fund_within, fund_figures, Answer, accepted, answer_to}

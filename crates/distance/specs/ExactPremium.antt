@@ -4,7 +4,7 @@ use Rattle.std.specs.Prelude.{◌≡◌, List, ℕ, suc, ◌<◌, ◌≤◌ as �
 use Rattle.std.proofs.Common.{sym, ◌∙◌, ap, ap₂, arith}
 use Rattle.algebra.specs.Solver.{ring1, ring3, ring4, ring5, con, 𝟎, 𝟏, ⊖◌, ◌⊕◌, ◌⊗◌, ◌⊝◌, ◌:=◌}
 use Rattle.algebra.specs.Linear.{lin2, lin3, lin4, ◌≼◌, ◌⋅◌, rest, ◌∣◌, ◌⊢◌}
-use Rattle.algebra.specs.Q.{ℚ, ℚ_ring, ℚ_ord, neg_q, zero_q, one_q, ◌+◌, ◌-◌, ◌*◌, ◌≤◌, ≤_trans, ≤_of_eq, ≤_total, ≤_mul_left, mul_nn, ≤_neg, sub_nn}
+use Rattle.algebra.specs.Q.{ℚ, ℚ_ring, ℚ_ord, neg_q, zero_q, one_q, ◌+ℚ◌, ◌-ℚ◌, ◌*ℚ◌, ◌≤ℚ◌, ≤_trans, ≤_of_eq, ≤_total, ≤_mul_left, mul_nn, ≤_neg, sub_nn}
 use Rattle.algebra.specs.Embedding.{ofℤ, nat, nat_add, nat_mul, nat_nn, nat_le}
 use Rattle.algebra.specs.Quotient.{over, over_ok, over_nn, cancel}
 use Rattle.algebra.specs.RationalSum.{sum, sum_ext, sum_mul}
@@ -37,28 +37,28 @@ unfolding unit
 small_unit = omega arith
 
 -- e s ≥ 1 - 10^-20, S ≥ t s and t at most the largest deductible: 10^12 (e S - t) ≥ -1/2
-above : (e s S t : ℚ) → zero_q ≤ e → zero_q ≤ S → (zero_q ≤ t → t * s ≤ S) → nat 99999999999999999999 ≤ nat 100000000000000000000 * (e * s) → t ≤ nat most_deductible →
-    neg_q one_q ≤ nat 2 * (U * (e * S - t))
-above e s S t e_nn S_nn low near few = ≤_total zero_q t (neg_q one_q ≤ nat 2 * (U * (e * S - t))) above_mean not_above
+above : (e s S t : ℚ) → zero_q ≤ℚ e → zero_q ≤ℚ S → (zero_q ≤ℚ t → t *ℚ s ≤ℚ S) → nat 99999999999999999999 ≤ℚ nat 100000000000000000000 *ℚ (e *ℚ s) → t ≤ℚ nat most_deductible →
+    neg_q one_q ≤ℚ nat 2 *ℚ (U *ℚ (e *ℚ S -ℚ t))
+above e s S t e_nn S_nn low near few = ≤_total zero_q t (neg_q one_q ≤ℚ nat 2 *ℚ (U *ℚ (e *ℚ S -ℚ t))) above_mean not_above
   where
     T : ℕ
     T = 100000000000000000000
 
     v : ℚ
-    v = e * S - t
+    v = e *ℚ S -ℚ t
 
-    far : zero_q ≤ t → neg_q (nat most_deductible) ≤ nat T * v
+    far : zero_q ≤ℚ t → neg_q (nat most_deductible) ≤ℚ nat T *ℚ v
     far h = ≤_trans (≤_neg few) (lin4 ℚ_ring ℚ_ord (λ e s S t. 100000000000000000000 ⋅ e ⊗ (t ⊗ s) ≼ e ⊗ S
         ∣ 1 ⋅ t ⊗ con (pos 99999999999999999999) ≼ t ⊗ (con (pos 100000000000000000000) ⊗ (e ⊗ s)) ∣ rest 0
         ⊢ ⊖ t ≼ con (pos 100000000000000000000) ⊗ (e ⊗ S ⊝ t)) tt
         e s S t (≤_mul_left e e_nn (low h), (≤_mul_left t h near, tt)))
 
-    above_mean : zero_q ≤ t → neg_q one_q ≤ nat 2 * (U * v)
+    above_mean : zero_q ≤ℚ t → neg_q one_q ≤ℚ nat 2 *ℚ (U *ℚ v)
     above_mean h = cancel T (omega arith) (lin3 ℚ_ring ℚ_ord (λ x u v. 2 ⋅ u ⊗ ⊖ con (pos most_deductible) ≼ u ⊗ (x ⊗ v) ∣ 1 ⋅ u ⊗ con (pos (2 *ⁿ most_deductible)) ≼ x ∣ rest 0
         ⊢ x ⊗ ⊖ 𝟏 ≼ x ⊗ (con (pos 2) ⊗ (u ⊗ v))) tt
         (nat T) U v (≤_mul_left U (nat_nn unit) (far h), (≤_trans (≤_of_eq (sym (nat_mul unit (2 *ⁿ most_deductible)))) (nat_le small_unit), tt)))
 
-    not_above : t ≤ zero_q → neg_q one_q ≤ nat 2 * (U * v)
+    not_above : t ≤ℚ zero_q → neg_q one_q ≤ℚ nat 2 *ℚ (U *ℚ v)
     not_above h = lin2 ℚ_ring ℚ_ord (λ u v. 2 ⋅ 𝟎 ≼ u ⊗ v ∣ rest 1 ⊢ ⊖ 𝟏 ≼ con (pos 2) ⊗ (u ⊗ v)) tt U v
         (mul_nn (nat_nn unit) (sub_nn (≤_trans h (mul_nn e_nn S_nn))), tt)
 
@@ -67,13 +67,13 @@ above e s S t e_nn S_nn low near few = ≤_total zero_q t (neg_q one_q ≤ nat 2
 abbrev rest_mean : Frequencies → List Life → ℚ
 rest_mean a ms = over (nat (replaced_mean a ms)) unit
 
-mean_is : (a : Frequencies) (ms : List Life) → nat (mean a ms) ≡ U * (own_mean ms + rest_mean a ms)
+mean_is : (a : Frequencies) (ms : List Life) → nat (mean a ms) ≡ U *ℚ (own_mean ms +ℚ rest_mean a ms)
 unfolding unit
 mean_is a ms =
     ap nat (mean_parts a ms) ∙ nat_add (1000000 *ⁿ claims ms) (replaced_mean a ms)
-    ∙ ap₂ ◌+◌ (nat_mul 1000000 (claims ms) ∙ ap (λ y. nat 1000000 * y) (sym (over_ok (nat (claims ms)) 1000000 (omega arith)))) (sym (over_ok (nat (replaced_mean a ms)) unit unit_pos))
+    ∙ ap₂ ◌+ℚ◌ (nat_mul 1000000 (claims ms) ∙ ap (λ y. nat 1000000 *ℚ y) (sym (over_ok (nat (claims ms)) 1000000 (omega arith)))) (sym (over_ok (nat (replaced_mean a ms)) unit unit_pos))
     ∙ ring4 ℚ_ring (λ k u v w. k ⊗ (k ⊗ u) ⊕ v ⊗ w := (k ⊗ k) ⊗ u ⊕ v ⊗ w) tt (nat 1000000) (own_mean ms) U (rest_mean a ms)
-    ∙ ap (λ y. y * own_mean ms + U * rest_mean a ms) (sym (nat_mul 1000000 1000000))
+    ∙ ap (λ y. y *ℚ own_mean ms +ℚ U *ℚ rest_mean a ms) (sym (nat_mul 1000000 1000000))
     ∙ sym (ℚ_ring.distrib U (own_mean ms) (rest_mean a ms))
 
 module _ (X r : ℕ) (a : Frequencies) (ms : List Life) (small : r ≤ⁿ 12) (p : Priceable r a ms) (M : ℕ) (below : M ≤ⁿ suc X) where
@@ -91,44 +91,44 @@ module _ (X r : ℕ) (a : Frequencies) (ms : List Life) (small : r ≤ⁿ 12) (p
 
   -- M less the mean, in whole
   abbrev t : ℚ
-  t = nat M - own_mean ms - rest_mean a ms
+  t = nat M -ℚ own_mean ms -ℚ rest_mean a ms
 
-  weighted : sum M (λ x. nat (M ∸ x) * (U * exact_series 63 (rate a ms) (W a ms) (members r ms) x)) ≡ U * (e * S)
+  weighted : sum M (λ x. nat (M ∸ x) *ℚ (U *ℚ exact_series 63 (rate a ms) (W a ms) (members r ms) x)) ≡ U *ℚ (e *ℚ S)
   weighted =
-      sum_ext M (λ x. nat (M ∸ x) * (U * exact_series 63 (rate a ms) (W a ms) (members r ms) x)) (λ x. U * e * (nat (M ∸ x) * (Q ⋆ own) x))
-      (λ x l. ap (λ y. nat (M ∸ x) * (U * y)) (const_product e (Q ⋆ own) x) ∙ ring4 ℚ_ring (λ k u e q. k ⊗ (u ⊗ (e ⊗ q)) := u ⊗ e ⊗ (k ⊗ q)) tt (nat (M ∸ x)) U e ((Q ⋆ own) x))
-      ∙ sum_mul M (U * e) (λ x. nat (M ∸ x) * (Q ⋆ own) x)
-      ∙ ap (λ y. U * e * y) (sym (shortfall_sum (Q ⋆ own) M))
+      sum_ext M (λ x. nat (M ∸ x) *ℚ (U *ℚ exact_series 63 (rate a ms) (W a ms) (members r ms) x)) (λ x. U *ℚ e *ℚ (nat (M ∸ x) *ℚ (Q ⋆ own) x))
+      (λ x l. ap (λ y. nat (M ∸ x) *ℚ (U *ℚ y)) (const_product e (Q ⋆ own) x) ∙ ring4 ℚ_ring (λ k u e q. k ⊗ (u ⊗ (e ⊗ q)) := u ⊗ e ⊗ (k ⊗ q)) tt (nat (M ∸ x)) U e ((Q ⋆ own) x))
+      ∙ sum_mul M (U *ℚ e) (λ x. nat (M ∸ x) *ℚ (Q ⋆ own) x)
+      ∙ ap (λ y. U *ℚ e *ℚ y) (sym (shortfall_sum (Q ⋆ own) M))
       ∙ ℚ_ring.mul_assoc U e S
 
-  premium_is : ofℤ (exact_premium X M (mean a ms) a ms) ≡ nat (denominator X ms) * (U * (e * S - t))
+  premium_is : ofℤ (exact_premium X M (mean a ms) a ms) ≡ nat (denominator X ms) *ℚ (U *ℚ (e *ℚ S -ℚ t))
   premium_is =
       exact_premium_is X r a ms small p M (mean a ms) below
-      ∙ ap₂ (λ x y. nat (denominator X ms) * (x - nat M * U + y)) (mean_is a ms) weighted
-      ∙ ap (λ y. nat (denominator X ms) * y) (ring5 ℚ_ring (λ u o r m s. u ⊗ (o ⊕ r) ⊝ m ⊗ u ⊕ u ⊗ s := u ⊗ (s ⊝ (m ⊝ o ⊝ r))) tt U (own_mean ms) (rest_mean a ms) (nat M) (e * S))
+      ∙ ap₂ (λ x y. nat (denominator X ms) *ℚ (x -ℚ nat M *ℚ U +ℚ y)) (mean_is a ms) weighted
+      ∙ ap (λ y. nat (denominator X ms) *ℚ y) (ring5 ℚ_ring (λ u o r m s. u ⊗ (o ⊕ r) ⊝ m ⊗ u ⊕ u ⊗ s := u ⊗ (s ⊝ (m ⊝ o ⊝ r))) tt U (own_mean ms) (rest_mean a ms) (nat M) (e *ℚ S))
 
   -- amounts below B
   module _ (B : ℕ) (amounts : All (Below B) ms) (deep : M < B) (few : M ≤ⁿ most_deductible) where
     g : Group (W a ms) (rate a ms)
     g = group r a ms p
 
-    own_mean_nn : zero_q ≤ own_mean ms
+    own_mean_nn : zero_q ≤ℚ own_mean ms
     own_mean_nn = over_nn (nat (claims ms)) 1000000 (nat_nn (claims ms))
 
-    t_few : t ≤ nat most_deductible
+    t_few : t ≤ℚ nat most_deductible
     t_few = lin3 ℚ_ring ℚ_ord (λ m o r. 1 ⋅ m ≼ con (pos most_deductible) ∣ 1 ⋅ 𝟎 ≼ o ∣ 1 ⋅ 𝟎 ≼ r ∣ rest 0 ⊢ m ⊝ o ⊝ r ≼ con (pos most_deductible)) tt (nat M) (own_mean ms) (rest_mean a ms)
         (nat_le few, (own_mean_nn, (over_nn (nat (replaced_mean a ms)) unit (nat_nn (replaced_mean a ms)), tt)))
 
-    S_nn : zero_q ≤ S
+    S_nn : zero_q ≤ℚ S
     S_nn = product_nn M (Q ⋆ own) nat (λ x. product_nn x Q own (poisson_nn (W a ms) g.W_nn) (own_product_nn (members r ms) (members_share r ms p.limited p.folded))) nat_nn
 
-    S_low : zero_q ≤ t → t * exp_sum 63 (rate a ms) ≤ S
+    S_low : zero_q ≤ℚ t → t *ℚ exp_sum 63 (rate a ms) ≤ℚ S
     S_low = shortfall_low (W a ms) own (own_mean ms) (rest_mean a ms) g.W_zero g.W_nn (moment a ms p.folded) (own_shortfall r ms p.limited p.folded) own_mean_nn M
         (rate a ms) B 63 (g.W_sum 0) (reach a ms B p.folded amounts) deep
 
-    pub exact_premium_low : neg_q (nat (denominator X ms)) ≤ nat 2 * ofℤ (exact_premium X M (mean a ms) a ms)
+    pub exact_premium_low : neg_q (nat (denominator X ms)) ≤ℚ nat 2 *ℚ ofℤ (exact_premium X M (mean a ms) a ms)
     exact_premium_low =
         ≤_trans (≤_of_eq (ring1 ℚ_ring (λ d. ⊖ d := d ⊗ ⊖ 𝟏) tt (nat (denominator X ms))))
         (≤_trans (≤_mul_left (nat (denominator X ms)) (nat_nn (denominator X ms))
         (above e (exp_sum 63 (rate a ms)) S t (exp_63_nn (rate a ms) (g.W_sum 0) g.ƛ_le) S_nn S_low (exp_63_low (rate a ms) (g.W_sum 0) g.ƛ_le) t_few))
-        (≤_of_eq (ring3 ℚ_ring (λ d k v. d ⊗ (k ⊗ v) := k ⊗ (d ⊗ v)) tt (nat (denominator X ms)) (nat 2) (U * (e * S - t)) ∙ ap (λ y. nat 2 * y) (sym premium_is))))
+        (≤_of_eq (ring3 ℚ_ring (λ d k v. d ⊗ (k ⊗ v) := k ⊗ (d ⊗ v)) tt (nat (denominator X ms)) (nat 2) (U *ℚ (e *ℚ S -ℚ t)) ∙ ap (λ y. nat 2 *ℚ y) (sym premium_is))))

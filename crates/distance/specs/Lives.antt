@@ -1,5 +1,5 @@
 -- The lives of a fund in the terms of the expansion: group 1 as its members, group 2 as the weights of its compound Poisson part.
-use Rattle.std.specs.Prelude.{◌≡◌, refl, true, List, [], ◌∷◌, ℕ, suc, ◌-◌, ◌*◌, eqb}
+use Rattle.std.specs.Prelude.{◌≡◌, refl, true, List, [], ◌∷◌, ℕ, suc, ◌-◌, ◌*◌, eqb, if◌then◌else◌}
 use Rattle.std.proofs.Common.{ap, arith}
 use Rattle.std.proofs.Math.Option.{Option, none, some}
 use Rattle.algebra.specs.Q.{ℚ}
@@ -12,7 +12,6 @@ use Rattle.fund.specs.declared.Rate.{Rate}
 use Rattle.fund.specs.declared.Member.{Member as MemberRow}
 use Rattle.fund.specs.declared.Frequencies.{Frequencies}
 use Rattle.fund.specs.declared.Life.{Life}
-use Rattle.fund.specs.Base.{if◌then◌else◌}
 use Rattle.fund.specs.Reading.{FundFile}
 use Rattle.fund.specs.Folding.{rate_in_force, folded, life, lives, claim, stay, single}
 use Rattle.fund.specs.Transform.{unit, w, lambda}

@@ -1,12 +1,12 @@
 -- The lives of a fund that passes refusals 6 to 8 meet what the expansion asks: each group 1 life is a member whose share of the
 -- truncation figure is big enough (members_good, members_share), the shares add to the figure (errors_are), group 2's weights
 -- add to lambda, at most 8 (group), and the exact distribution starts where the method's start points (start_is).
-use Rattle.std.specs.Prelude.{◌≡◌, refl, Bool, true, false, List, [], ◌∷◌, ℕ, zero, suc, ◌<◌, ◌≤◌ as ◌≤ⁿ◌, ◌+◌ as ◌+ⁿ◌, ◌*◌ as ◌*ⁿ◌, ◌-◌ as ◌∸◌, eqb}
+use Rattle.std.specs.Prelude.{◌≡◌, refl, Bool, true, false, List, [], ◌∷◌, ℕ, zero, suc, ◌<◌, ◌≤◌ as ◌≤ⁿ◌, ◌+◌ as ◌+ⁿ◌, ◌*◌ as ◌*ⁿ◌, ◌-◌ as ◌∸◌, eqb, if◌then◌else◌}
 use Rattle.std.proofs.Common.{sym, ◌∙◌, ap, ap₂, mul_comm, arith}
 use Rattle.std.proofs.Math.Dec.{eqb-suc-zero, eqb-zero-suc, eqb-suc-suc}
 use Rattle.algebra.specs.Laws as L
 use Rattle.algebra.specs.Solver.{ring1, 𝟎, 𝟏, ◌⊕◌, ◌⊗◌, ◌:=◌}
-use Rattle.algebra.specs.Q.{ℚ_ring, neg_q, one_q, ◌+◌, ◌*◌, ≤_trans, ≤_of_eq}
+use Rattle.algebra.specs.Q.{ℚ_ring, neg_q, one_q, ◌+ℚ◌, ◌*ℚ◌, ≤_trans, ≤_of_eq}
 use Rattle.algebra.specs.Embedding.{nat, nat_zero, nat_add, nat_mul, nat_nn, nat_le}
 use Rattle.algebra.specs.Quotient.{over, over_ok, over_nn, over_zero, over_add, cancel}
 use Rattle.algebra.specs.NatSum.{sum_n, sum_n_ext, sum_n_first, sum_n_zero, sum_n_add_le}
@@ -22,7 +22,7 @@ use Rattle.expansion.specs.Total.{Group, exact_series}
 use Rattle.rounding.proofs.Laws.{up_low}
 use Rattle.fund.specs.declared.Frequencies.{Frequencies}
 use Rattle.fund.specs.declared.Life.{Life}
-use Rattle.fund.specs.Base.{if◌then◌else◌, total}
+use Rattle.fund.specs.Base.{total}
 use Rattle.fund.specs.Folding.{claim, stay, single}
 use Rattle.fund.specs.Limits.{most_load, most_truncation}
 use Rattle.fund.specs.Transform.{unit, death_weight, disability_weight, lambda, load, w, truncation}
@@ -85,7 +85,7 @@ errors_are r (m ∷ ms) = go (single m) (errors_are r ms)
     T = truncation r ms
 
     go : (b : Bool) → errors (members r ms) ≡ over (nat T) unit → errors (if b then member_of r m ∷ members r ms else members r ms) ≡ over (nat ((if b then share_of r m else 0) +ⁿ T)) unit
-    go true h = ap (λ x. over (nat (share_of r m)) unit + x) h ∙ sym (over_add (nat (share_of r m)) (nat T) unit) ∙ ap (λ x. over x unit) (sym (nat_add (share_of r m) T))
+    go true h = ap (λ x. over (nat (share_of r m)) unit +ℚ x) h ∙ sym (over_add (nat (share_of r m)) (nat T) unit) ∙ ap (λ x. over x unit) (sym (nat_add (share_of r m) T))
     go false h = h ∙ ap (λ x. over (nat x) unit) (let e : T ≡ 0 +ⁿ T = omega arith in e)
 
 -- ---- group 2
@@ -132,11 +132,11 @@ pub lambda_within : (r : ℕ) (a : Frequencies) (ms : List Life) → Priceable r
 unfolding load unit
 lambda_within r a ms p = let h = p.load_within in omega arith
 
-pub weights_units : (a : Frequencies) (ms : List Life) (n : ℕ) → U * sum n (W a ms) ≡ nat (sum_n n (weight_at a ms))
+pub weights_units : (a : Frequencies) (ms : List Life) (n : ℕ) → U *ℚ sum n (W a ms) ≡ nat (sum_n n (weight_at a ms))
 unfolding W
 weights_units a ms n =
     sym (sum_mul n U (W a ms))
-    ∙ sum_ext n (λ k. U * over (nat (weight_at a ms k)) unit) (λ k. nat (weight_at a ms k)) (λ k l. over_ok (nat (weight_at a ms k)) unit unit_pos)
+    ∙ sum_ext n (λ k. U *ℚ over (nat (weight_at a ms k)) unit) (λ k. nat (weight_at a ms k)) (λ k l. over_ok (nat (weight_at a ms k)) unit unit_pos)
     ∙ sym (nat_sum n (weight_at a ms))
 
 pub group : (r : ℕ) (a : Frequencies) (ms : List Life) → Priceable r a ms → Group (W a ms) (rate a ms)
@@ -156,9 +156,9 @@ own_start r [] c f = refl
 own_start r (m ∷ ms) c f = go (single m) refl (own_start r ms c.1 f.1)
   where
     go : (b : Bool) → single m ≡ b → own_product (members r ms) 0 ≡ stays ms →
-        own_product (if b then member_of r m ∷ members r ms else members r ms) 0 ≡ (if b then over (nat (stay m)) 1000000 * stays ms else stays ms)
-    go true s h = ap₂ ◌*◌ (ap (λ z. over (nat (stay m)) 1000000 * (one_q + z)) (life_good r m c.0 f.0 s).z_zero ∙ ring1 ℚ_ring (λ p. p ⊗ (𝟏 ⊕ 𝟎) := p) tt (over (nat (stay m)) 1000000)) h
+        own_product (if b then member_of r m ∷ members r ms else members r ms) 0 ≡ (if b then over (nat (stay m)) 1000000 *ℚ stays ms else stays ms)
+    go true s h = ap₂ ◌*ℚ◌ (ap (λ z. over (nat (stay m)) 1000000 *ℚ (one_q +ℚ z)) (life_good r m c.0 f.0 s).z_zero ∙ ring1 ℚ_ring (λ p. p ⊗ (𝟏 ⊕ 𝟎) := p) tt (over (nat (stay m)) 1000000)) h
     go false s h = h
 
-pub start_is : (r : ℕ) (a : Frequencies) (ms : List Life) → All Limited ms → All FoldedLife ms → exact_series 63 (rate a ms) (W a ms) (members r ms) 0 ≡ exp_sum 63 (neg_q (rate a ms)) * stays ms
-start_is r a ms c f = ap (λ x. exp_sum 63 (neg_q (rate a ms)) * x) (ap₂ ◌*◌ (ring1 ℚ_ring (λ x. 𝟎 ⊕ 𝟏 ⊗ x := x) tt one_q) (own_start r ms c f) ∙ L.one-mul ℚ_ring (stays ms))
+pub start_is : (r : ℕ) (a : Frequencies) (ms : List Life) → All Limited ms → All FoldedLife ms → exact_series 63 (rate a ms) (W a ms) (members r ms) 0 ≡ exp_sum 63 (neg_q (rate a ms)) *ℚ stays ms
+start_is r a ms c f = ap (λ x. exp_sum 63 (neg_q (rate a ms)) *ℚ x) (ap₂ ◌*ℚ◌ (ring1 ℚ_ring (λ x. 𝟎 ⊕ 𝟏 ⊗ x := x) tt one_q) (own_start r ms c f) ∙ L.one-mul ℚ_ring (stays ms))

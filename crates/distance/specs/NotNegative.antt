@@ -5,7 +5,7 @@ use Rattle.std.proofs.Common.{sym, ◌∙◌, ap, arith, le→leb}
 use Rattle.algebra.specs.Order as O
 use Rattle.algebra.specs.Solver.{con, 𝟏, ⊖◌, ◌⊕◌, ◌⊗◌, ◌⊝◌}
 use Rattle.algebra.specs.Linear.{lin1, lin4, ◌≼◌, ◌⋅◌, rest, ◌∣◌, ◌⊢◌}
-use Rattle.algebra.specs.Q.{ℚ_ring, ℚ_ord, neg_q, one_q, ◌-◌, ◌*◌, ◌≤◌, ≤_trans, ≤_of_eq}
+use Rattle.algebra.specs.Q.{ℚ_ring, ℚ_ord, neg_q, one_q, ◌-ℚ◌, ◌*ℚ◌, ◌≤ℚ◌, ≤_trans, ≤_of_eq}
 use Rattle.algebra.specs.Embedding.{ofℤ, nat, ofℤ_add, ofℤ_neg, ofℤ_sub, ofℤ_mul, nat_mul, nat_le, nat_reflect, abs_ofℤ}
 use Rattle.algebra.specs.Quotient.{cancel}
 use Rattle.fund.specs.declared.Verdict.TheVariants.{Accepted}
@@ -24,33 +24,33 @@ use Rattle.distance.specs.Distance.{priceable, denominator_pos, distance}
 
 -- ---- whole numbers
 -- a whole number that is not below -1/2
-half_whole : (z : ℤ) → neg_q one_q ≤ nat 2 * ofℤ z → pos 0 ≤ℤ z
+half_whole : (z : ℤ) → neg_q one_q ≤ℚ nat 2 *ℚ ofℤ z → pos 0 ≤ℤ z
 half_whole (pos n) h = record { le = le→leb 0 n (omega arith) }
 half_whole (negsuc n) h = absurd (none (nat_reflect (2 *ⁿ suc n) 1 (≤_trans (≤_of_eq (nat_mul 2 (suc n)))
     (lin1 ℚ_ring ℚ_ord (λ y. 1 ⋅ ⊖ 𝟏 ≼ con (pos 2) ⊗ ⊖ y ∣ rest 0 ⊢ con (pos 2) ⊗ y ≼ con (pos 1)) tt (nat (suc n))
-    (≤_trans h (≤_of_eq (ap (λ x. nat 2 * x) (ofℤ_neg (pos (suc n))))), tt)))))
+    (≤_trans h (≤_of_eq (ap (λ x. nat 2 *ℚ x) (ofℤ_neg (pos (suc n))))), tt)))))
   where
     none : 2 *ⁿ suc n ≤ⁿ 1 → ⊥
     none l = omega arith
 
 -- D is a denominator: `exact` stands for a premium times D, and is not below -D/2
-above_half : (D within : ℕ) (premium exact : ℤ) → 0 < D → nat_abs (pos D *ℤ premium -ℤ exact) ≤ⁿ D *ⁿ within → neg_q (nat D) ≤ nat 2 * ofℤ exact →
+above_half : (D within : ℕ) (premium exact : ℤ) → 0 < D → nat_abs (pos D *ℤ premium -ℤ exact) ≤ⁿ D *ⁿ within → neg_q (nat D) ≤ℚ nat 2 *ℚ ofℤ exact →
     pos 0 ≤ℤ (premium +ℤ pos within)
 above_half D within premium exact d h k = half_whole (premium +ℤ pos within) (cancel D d (≤_trans
     (lin4 ℚ_ring ℚ_ord (λ d p e w. 2 ⋅ ⊖ (d ⊗ p ⊝ e) ≼ d ⊗ w ∣ 1 ⋅ ⊖ d ≼ con (pos 2) ⊗ e ∣ rest 0 ⊢ d ⊗ ⊖ 𝟏 ≼ d ⊗ (con (pos 2) ⊗ (p ⊕ w))) tt
     (nat D) (ofℤ premium) (ofℤ exact) (nat within) (near, (k, tt)))
-    (≤_of_eq (ap (λ x. nat D * (nat 2 * x)) (sym (ofℤ_add premium (pos within)))))))
+    (≤_of_eq (ap (λ x. nat D *ℚ (nat 2 *ℚ x)) (sym (ofℤ_add premium (pos within)))))))
   where
     gap : ℤ
     gap = pos D *ℤ premium -ℤ exact
 
-    near : neg_q (nat D * ofℤ premium - ofℤ exact) ≤ nat D * nat within
-    near = ≤_trans (≤_of_eq (ap neg_q (ap (λ x. x - ofℤ exact) (sym (ofℤ_mul (pos D) premium)) ∙ sym (ofℤ_sub (pos D *ℤ premium) exact))))
+    near : neg_q (nat D *ℚ ofℤ premium -ℚ ofℤ exact) ≤ℚ nat D *ℚ nat within
+    near = ≤_trans (≤_of_eq (ap neg_q (ap (λ x. x -ℚ ofℤ exact) (sym (ofℤ_mul (pos D) premium)) ∙ sym (ofℤ_sub (pos D *ℤ premium) exact))))
         (≤_trans (O.abs_ge_neg ℚ_ring ℚ_ord (ofℤ gap)) (≤_trans (≤_of_eq (abs_ofℤ gap)) (≤_trans (nat_le h) (≤_of_eq (nat_mul D within)))))
 
 -- ---- an accepted fund
 exact_low : (fund : FundFile) (n : Lengths) → FundOk fund → Accepts fund n (fund_cells fund.header (lives fund)) →
-    neg_q (nat (file_denominator fund)) ≤ nat 2 * ofℤ (exact_premium_of fund)
+    neg_q (nat (file_denominator fund)) ≤ℚ nat 2 *ℚ ofℤ (exact_premium_of fund)
 unfolding exact_premium_of file_denominator fund_mean
 exact_low fund n ok a =
     let few : fund.header.deductible ≤ⁿ most_deductible = ok.header.deductible in

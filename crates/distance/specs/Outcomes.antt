@@ -1,13 +1,13 @@
 -- All outcomes of the group 1 members: their weights add to 10^(6g) (weights_are), their weighted totals to the mean
 -- (claims_are), and what they fall short of M by is the sum over x below M of the convolution's cells (shortfall_is). So the
 -- excess over M is the totals less M, plus the shortfall (excess_is, excess_whole).
-use Rattle.std.specs.Prelude.{◌≡◌, refl, Bool, true, false, List, [], ◌∷◌, ◌++◌, ℕ, zero, suc, ◌+◌, ◌-◌, ◌*◌, ◌^◌, leb}
+use Rattle.std.specs.Prelude.{◌≡◌, refl, Bool, true, false, List, [], ◌∷◌, ◌++◌, ℕ, zero, suc, ◌+◌, ◌-◌, ◌*◌, ◌^◌, leb, if◌then◌else◌}
 use Rattle.std.proofs.Common.{sym, ◌∙◌, ap, ap₂, mul-add, add-mul, mul_assoc, mul_comm, mul_left_comm, mul-zero, zero-add, add_assoc, arith}
 use Rattle.std.proofs.Math.Nat.{pow-succ'}
 use Rattle.std.proofs.Math.Dec.{leb-zero, leb-suc-zero, leb-suc-suc}
 use Rattle.algebra.specs.NatSum.{sum_n, sum_n_ext, sum_n_first, sum_n_zero}
 use Rattle.fund.specs.declared.Life.{Life}
-use Rattle.fund.specs.Base.{if◌then◌else◌, total}
+use Rattle.fund.specs.Base.{total}
 use Rattle.fund.specs.Folding.{stay, single}
 use Rattle.fund.specs.Exact.{singles, shifted, one, single_part, Outcome, after, outcomes, excess}
 use Rattle.laws.specs.Accepted.{All, Limited}

@@ -8,7 +8,7 @@ use Rattle.algebra.specs.Laws as L
 use Rattle.algebra.specs.Sum as S
 use Rattle.algebra.specs.Integer.{ℤ_ring}
 use Rattle.algebra.specs.Solver.{◌⊗◌, ◌⊝◌, ◌:=◌, ring3, ring4}
-use Rattle.algebra.specs.Q.{ℚ, ℚ_ring, ◌-◌, ◌*◌, ◌≤◌, abs, ≤_trans, ≤_of_eq, ≤_mul_left, abs_scale}
+use Rattle.algebra.specs.Q.{ℚ, ℚ_ring, ◌-ℚ◌, ◌*ℚ◌, ◌≤ℚ◌, abs, ≤_trans, ≤_of_eq, ≤_mul_left, abs_scale}
 use Rattle.algebra.specs.Embedding.{ofℤ, nat, ofℤ_sub, ofℤ_mul, nat_mul, nat_nn, nat_le, nat_reflect, abs_ofℤ}
 use Rattle.algebra.specs.Quotient.{over, over_ok, cancel, cancel_eq}
 use Rattle.algebra.specs.RationalSum.{sum, sum_z, sum_ext, sum_mul, ofℤ_sum}
@@ -96,18 +96,18 @@ unrounded (suc X) Q h T s = one_more X Q h T s (unrounded X Q h T s)
 
 -- ---- its distance
 -- a whole number against U t / Q, multiplied out
-scaled_distance : (a t : ℤ) (Q : ℕ) → 0 < Q → nat Q * abs (ofℤ a - U * over (ofℤ t) Q) ≡ nat (nat_abs (pos Q *ℤ a -ℤ pos unit *ℤ t))
+scaled_distance : (a t : ℤ) (Q : ℕ) → 0 < Q → nat Q *ℚ abs (ofℤ a -ℚ U *ℚ over (ofℤ t) Q) ≡ nat (nat_abs (pos Q *ℤ a -ℤ pos unit *ℤ t))
 scaled_distance a t Q h =
-    sym (abs_scale (nat Q) (ofℤ a - U * over (ofℤ t) Q) (nat_nn Q))
+    sym (abs_scale (nat Q) (ofℤ a -ℚ U *ℚ over (ofℤ t) Q) (nat_nn Q))
     ∙ ap abs (ring4 ℚ_ring (λ q a u o. q ⊗ (a ⊝ u ⊗ o) := q ⊗ a ⊝ u ⊗ (q ⊗ o)) tt (nat Q) (ofℤ a) U (over (ofℤ t) Q)
-    ∙ ap (λ x. nat Q * ofℤ a - U * x) (over_ok (ofℤ t) Q h)
-    ∙ ap₂ ◌-◌ (sym (ofℤ_mul (pos Q) a)) (sym (ofℤ_mul (pos unit) t)) ∙ sym (ofℤ_sub (pos Q *ℤ a) (pos unit *ℤ t)))
+    ∙ ap (λ x. nat Q *ℚ ofℤ a -ℚ U *ℚ x) (over_ok (ofℤ t) Q h)
+    ∙ ap₂ ◌-ℚ◌ (sym (ofℤ_mul (pos Q) a)) (sym (ofℤ_mul (pos unit) t)) ∙ sym (ofℤ_sub (pos Q *ℤ a) (pos unit *ℤ t)))
     ∙ abs_ofℤ (pos Q *ℤ a -ℤ pos unit *ℤ t)
 
-whole_close : (a t : ℤ) (Q h : ℕ) → 0 < Q → nat_abs (pos Q *ℤ a -ℤ pos unit *ℤ t) ≤ⁿ Q *ⁿ h → abs (ofℤ a - U * over (ofℤ t) Q) ≤ nat h
+whole_close : (a t : ℤ) (Q h : ℕ) → 0 < Q → nat_abs (pos Q *ℤ a -ℤ pos unit *ℤ t) ≤ⁿ Q *ⁿ h → abs (ofℤ a -ℚ U *ℚ over (ofℤ t) Q) ≤ℚ nat h
 whole_close a t Q h Q-pos l = cancel Q Q-pos (≤_trans (≤_of_eq (scaled_distance a t Q Q-pos)) (≤_trans (nat_le l) (≤_of_eq (nat_mul Q h))))
 
-close_whole : (a t : ℤ) (Q h : ℕ) → 0 < Q → abs (ofℤ a - U * over (ofℤ t) Q) ≤ nat h → nat_abs (pos Q *ℤ a -ℤ pos unit *ℤ t) ≤ⁿ Q *ⁿ h
+close_whole : (a t : ℤ) (Q h : ℕ) → 0 < Q → abs (ofℤ a -ℚ U *ℚ over (ofℤ t) Q) ≤ℚ nat h → nat_abs (pos Q *ℤ a -ℤ pos unit *ℤ t) ≤ⁿ Q *ⁿ h
 close_whole a t Q h Q-pos l = nat_reflect (nat_abs (pos Q *ℤ a -ℤ pos unit *ℤ t)) (Q *ⁿ h)
     (≤_trans (≤_of_eq (sym (scaled_distance a t Q Q-pos))) (≤_trans (≤_mul_left (nat Q) (nat_nn Q) l) (≤_of_eq (sym (nat_mul Q h)))))
 
@@ -117,7 +117,7 @@ pub unrounded_close : (X : ℕ) (D : ℕ → ℤ) (H : ℕ → ℕ) (f : ℕ →
 unrounded_close X D H f R steps Q Q-pos T s D_within f-within u x l =
     close_whole (f x) (u.F x) u.E (R x) u.E_pos
     (recursion_close X D H f R steps exact_t exact_f (λ k k-pos k-le. whole_close (D k) (T k) Q (H k) Q-pos (D_within k k-pos k-le))
-    (subst (λ y. abs (ofℤ (f 0) - U * y) ≤ nat (R 0)) (sym first) (whole_close (f 0) s Q (R 0) Q-pos f-within)) step x l)
+    (subst (λ y. abs (ofℤ (f 0) -ℚ U *ℚ y) ≤ℚ nat (R 0)) (sym first) (whole_close (f 0) s Q (R 0) Q-pos f-within)) step x l)
   where
     exact_t : ℕ → ℚ
     exact_t k = over (ofℤ (T k)) Q
@@ -128,24 +128,24 @@ unrounded_close X D H f R steps Q Q-pos T s D_within f-within u x l =
     first : exact_f 0 ≡ over (ofℤ s) Q
     first = cancel_eq Q Q-pos (cancel_eq u.E u.E_pos
         (ring3 ℚ_ring (λ e q o. e ⊗ (q ⊗ o) := q ⊗ (e ⊗ o)) tt (nat u.E) (nat Q) (exact_f 0)
-        ∙ ap (λ y. nat Q * y) (over_ok (ofℤ (u.F 0)) u.E u.E_pos)
+        ∙ ap (λ y. nat Q *ℚ y) (over_ok (ofℤ (u.F 0)) u.E u.E_pos)
         ∙ sym (ofℤ_mul (pos Q) (u.F 0)) ∙ ap ofℤ u.F_start ∙ ofℤ_mul (pos u.E) s
-        ∙ ap (λ y. nat u.E * y) (sym (over_ok (ofℤ s) Q Q-pos))))
+        ∙ ap (λ y. nat u.E *ℚ y) (sym (over_ok (ofℤ s) Q Q-pos))))
 
-    step : (x : ℕ) → x ≤ⁿ X → nat x * exact_f x ≡ sum x (λ k. exact_t (suc k) * exact_f (x ∸ suc k))
+    step : (x : ℕ) → x ≤ⁿ X → nat x *ℚ exact_f x ≡ sum x (λ k. exact_t (suc k) *ℚ exact_f (x ∸ suc k))
     step x l = cancel_eq Q Q-pos (cancel_eq u.E u.E_pos (left ∙ ap ofℤ (u.F_step x l) ∙ right))
       where
-        left : nat u.E * (nat Q * (nat x * exact_f x)) ≡ ofℤ (pos (x *ⁿ Q) *ℤ u.F x)
+        left : nat u.E *ℚ (nat Q *ℚ (nat x *ℚ exact_f x)) ≡ ofℤ (pos (x *ⁿ Q) *ℤ u.F x)
         left = ring4 ℚ_ring (λ e q x o. e ⊗ (q ⊗ (x ⊗ o)) := (x ⊗ q) ⊗ (e ⊗ o)) tt (nat u.E) (nat Q) (nat x) (exact_f x)
-            ∙ ap₂ ◌*◌ (sym (nat_mul x Q)) (over_ok (ofℤ (u.F x)) u.E u.E_pos) ∙ sym (ofℤ_mul (pos (x *ⁿ Q)) (u.F x))
+            ∙ ap₂ ◌*ℚ◌ (sym (nat_mul x Q)) (over_ok (ofℤ (u.F x)) u.E u.E_pos) ∙ sym (ofℤ_mul (pos (x *ⁿ Q)) (u.F x))
 
-        product : (k y : ℕ) → ofℤ (T k *ℤ u.F y) ≡ nat u.E * (nat Q * (exact_t k * exact_f y))
-        product k y = ofℤ_mul (T k) (u.F y) ∙ ap₂ ◌*◌ (sym (over_ok (ofℤ (T k)) Q Q-pos)) (sym (over_ok (ofℤ (u.F y)) u.E u.E_pos))
+        product : (k y : ℕ) → ofℤ (T k *ℤ u.F y) ≡ nat u.E *ℚ (nat Q *ℚ (exact_t k *ℚ exact_f y))
+        product k y = ofℤ_mul (T k) (u.F y) ∙ ap₂ ◌*ℚ◌ (sym (over_ok (ofℤ (T k)) Q Q-pos)) (sym (over_ok (ofℤ (u.F y)) u.E u.E_pos))
             ∙ ring4 ℚ_ring (λ q t e f. (q ⊗ t) ⊗ (e ⊗ f) := e ⊗ (q ⊗ (t ⊗ f))) tt (nat Q) (exact_t k) (nat u.E) (exact_f y)
 
-        right : ofℤ (sum_z x (λ k. T (suc k) *ℤ u.F (x ∸ suc k))) ≡ nat u.E * (nat Q * sum x (λ k. exact_t (suc k) * exact_f (x ∸ suc k)))
+        right : ofℤ (sum_z x (λ k. T (suc k) *ℤ u.F (x ∸ suc k))) ≡ nat u.E *ℚ (nat Q *ℚ sum x (λ k. exact_t (suc k) *ℚ exact_f (x ∸ suc k)))
         right = ofℤ_sum x (λ k. T (suc k) *ℤ u.F (x ∸ suc k))
-            ∙ sum_ext x (λ k. ofℤ (T (suc k) *ℤ u.F (x ∸ suc k))) (λ k. nat u.E * (nat Q * (exact_t (suc k) * exact_f (x ∸ suc k))))
+            ∙ sum_ext x (λ k. ofℤ (T (suc k) *ℤ u.F (x ∸ suc k))) (λ k. nat u.E *ℚ (nat Q *ℚ (exact_t (suc k) *ℚ exact_f (x ∸ suc k))))
             (λ k h. product (suc k) (x ∸ suc k))
-            ∙ sum_mul x (nat u.E) (λ k. nat Q * (exact_t (suc k) * exact_f (x ∸ suc k)))
-            ∙ ap (λ y. nat u.E * y) (sum_mul x (nat Q) (λ k. exact_t (suc k) * exact_f (x ∸ suc k)))
+            ∙ sum_mul x (nat u.E) (λ k. nat Q *ℚ (exact_t (suc k) *ℚ exact_f (x ∸ suc k)))
+            ∙ ap (λ y. nat u.E *ℚ y) (sum_mul x (nat Q) (λ k. exact_t (suc k) *ℚ exact_f (x ∸ suc k)))

@@ -1,14 +1,14 @@
 -- Group 2's weights: their first moment is at most group 2's part of the mean (moment_within), and with amounts below B they add to
 -- lambda below B (weights_reach); in ℚ: moment, reach. The amounts of a fund that is read are below 65536 (amounts_below). The mean is group
 -- 1's claims and group 2's part (mean_parts).
-use Rattle.std.specs.Prelude.{◌≡◌, Bool, List, [], ◌∷◌, eqb}
+use Rattle.std.specs.Prelude.{◌≡◌, Bool, List, [], ◌∷◌, eqb, if◌then◌else◌}
 use Rattle.std.proofs.Math.Path.{refl, ap}
 use Rattle.std.proofs.Common.{sym, ◌∙◌, mul_comm, mul-add, mul-zero, zero-add, arith, eqb-true, eq-eqb}
 use Rattle.std.proofs.Math.Bool.{true, false}
 use Rattle.std.proofs.Math.Option.{Option, none, some}
 use Prim.Native.Nat.{ℕ, zero, suc, ◌<◌, ◌≤◌ as ◌≤ⁿ◌, ◌+◌ as ◌+ⁿ◌, ◌*◌ as ◌*ⁿ◌, ◌^◌}
 use Rattle.algebra.specs.Solver.{ring3, ◌⊗◌, ◌:=◌}
-use Rattle.algebra.specs.Q.{ℚ_ring, ◌*◌, ◌≤◌, ≤_trans, ≤_of_eq}
+use Rattle.algebra.specs.Q.{ℚ_ring, ◌*ℚ◌, ◌≤ℚ◌, ≤_trans, ≤_of_eq}
 use Rattle.algebra.specs.Embedding.{nat, nat_mul, nat_le}
 use Rattle.algebra.specs.Quotient.{over, over_ok, cancel}
 use Rattle.algebra.specs.PowerSeries.{θ}
@@ -18,7 +18,7 @@ use Rattle.fund.specs.declared.Rate.{Rate}
 use Rattle.fund.specs.declared.Member.{Member as MemberRow}
 use Rattle.fund.specs.declared.Frequencies.{Frequencies}
 use Rattle.fund.specs.declared.Life.{Life}
-use Rattle.fund.specs.Base.{if◌then◌else◌, total}
+use Rattle.fund.specs.Base.{total}
 use Rattle.fund.specs.Limits.{most_amount}
 use Rattle.fund.specs.Reading.{FundFile}
 use Rattle.fund.specs.Folding.{rate_in_force, folded, life, lives, single}
@@ -153,19 +153,19 @@ weights_reach a (m ∷ ms) B f c = go (single m) refl (weights_reach a ms B f.1 
         )
 
 -- ---- in ℚ
-pub moment : (a : Frequencies) (ms : List Life) → All FoldedLife ms → (n : ℕ) → sum n (θ (W a ms)) ≤ over (nat (replaced_mean a ms)) unit
+pub moment : (a : Frequencies) (ms : List Life) → All FoldedLife ms → (n : ℕ) → sum n (θ (W a ms)) ≤ℚ over (nat (replaced_mean a ms)) unit
 unfolding W
 moment a ms f n = cancel unit unit_pos (≤_trans (≤_of_eq units) (≤_trans (nat_le (moment_within a ms n f)) (≤_of_eq (sym (over_ok (nat (replaced_mean a ms)) unit unit_pos)))))
   where
-    units : U * sum n (λ k. nat k * over (nat (weight_at a ms k)) unit) ≡ nat (sum_n n (λ k. k *ⁿ weight_at a ms k))
+    units : U *ℚ sum n (λ k. nat k *ℚ over (nat (weight_at a ms k)) unit) ≡ nat (sum_n n (λ k. k *ⁿ weight_at a ms k))
     units =
-        sym (sum_mul n U (λ k. nat k * over (nat (weight_at a ms k)) unit))
-        ∙ sum_ext n (λ k. U * (nat k * over (nat (weight_at a ms k)) unit)) (λ k. nat (k *ⁿ weight_at a ms k))
+        sym (sum_mul n U (λ k. nat k *ℚ over (nat (weight_at a ms k)) unit))
+        ∙ sum_ext n (λ k. U *ℚ (nat k *ℚ over (nat (weight_at a ms k)) unit)) (λ k. nat (k *ⁿ weight_at a ms k))
         (λ k l. ring3 ℚ_ring (λ u k w. u ⊗ (k ⊗ w) := k ⊗ (u ⊗ w)) tt U (nat k) (over (nat (weight_at a ms k)) unit)
-        ∙ ap (λ y. nat k * y) (over_ok (nat (weight_at a ms k)) unit unit_pos) ∙ sym (nat_mul k (weight_at a ms k)))
+        ∙ ap (λ y. nat k *ℚ y) (over_ok (nat (weight_at a ms k)) unit unit_pos) ∙ sym (nat_mul k (weight_at a ms k)))
         ∙ sym (nat_sum n (λ k. k *ⁿ weight_at a ms k))
 
-pub reach : (a : Frequencies) (ms : List Life) (B : ℕ) → All FoldedLife ms → All (Below B) ms → rate a ms ≤ sum B (W a ms)
+pub reach : (a : Frequencies) (ms : List Life) (B : ℕ) → All FoldedLife ms → All (Below B) ms → rate a ms ≤ℚ sum B (W a ms)
 unfolding rate
 reach a ms B f c = cancel unit unit_pos (≤_trans (≤_of_eq (over_ok (nat (lambda a ms)) unit unit_pos))
     (≤_trans (nat_le (weights_reach a ms B f c)) (≤_of_eq (sym (weights_units a ms B)))))

@@ -4,7 +4,7 @@
 use Rattle.std.specs.Prelude.{◌≡◌, List, ℕ, suc, ◌<◌, ◌≤◌ as ◌≤ⁿ◌, ◌+◌ as ◌+ⁿ◌, ◌*◌ as ◌*ⁿ◌, nat_abs}
 use Rattle.std.proofs.Common.{sym, ◌∙◌, ap, ap₂, arith}
 use Rattle.algebra.specs.Solver.{ring2, ring4, ◌⊕◌, ◌⊗◌, ◌⊝◌, ◌:=◌}
-use Rattle.algebra.specs.Q.{ℚ, ℚ_ring, ◌+◌, ◌-◌, ◌*◌, ◌≤◌, abs, ≤_refl, ≤_trans, ≤_of_eq, ≤_add, ≤_mul_left, abs_add, abs_scale}
+use Rattle.algebra.specs.Q.{ℚ, ℚ_ring, ◌+ℚ◌, ◌-ℚ◌, ◌*ℚ◌, ◌≤ℚ◌, abs, ≤_refl, ≤_trans, ≤_of_eq, ≤_add, ≤_mul_left, abs_add, abs_scale}
 use Rattle.algebra.specs.Embedding.{ofℤ, nat, nat_add, nat_mul, nat_nn, nat_reflect, abs_ofℤ}
 use Rattle.algebra.specs.Quotient.{over, over_ok}
 use Rattle.algebra.specs.NatSum.{sum_n, sum_n_bound, sum_n_term}
@@ -50,26 +50,26 @@ module _ (X r : ℕ) (a : Frequencies) (ms : List Life) (small : r ≤ⁿ 12) (p
       Q = P X r a ms small p
 
       off : ℕ → ℚ
-      off k = ofℤ (y k).f - U * Q k
+      off k = ofℤ (y k).f -ℚ U *ℚ Q k
 
       -- the mass, in units
-      mass : sum (suc x) (λ k. U * abs (Q k)) ≤ U * over (nat 8) 7
+      mass : sum (suc x) (λ k. U *ℚ abs (Q k)) ≤ℚ U *ℚ over (nat 8) 7
       mass = ≤_trans (≤_of_eq (sum_mul (suc x) U (λ k. abs (Q k))))
           (≤_mul_left U (nat_nn unit) (mass_63 (members r ms) (members_share r ms p.limited p.folded) (W a ms) (rate a ms) (group r a ms p) x))
 
-      one : (k : ℕ) → k < suc x → nat (nat_abs (y k).f) ≤ abs (off k) + U * abs (Q k)
-      one k h = ≤_trans (≤_of_eq (sym (abs_ofℤ (y k).f) ∙ ap abs (ring2 ℚ_ring (λ f q. f := (f ⊝ q) ⊕ q) tt (ofℤ (y k).f) (U * Q k))))
-          (≤_trans (abs_add (off k) (U * Q k)) (≤_add (≤_refl (abs (off k))) (≤_of_eq (abs_scale U (Q k) (nat_nn unit)))))
+      one : (k : ℕ) → k < suc x → nat (nat_abs (y k).f) ≤ℚ abs (off k) +ℚ U *ℚ abs (Q k)
+      one k h = ≤_trans (≤_of_eq (sym (abs_ofℤ (y k).f) ∙ ap abs (ring2 ℚ_ring (λ f q. f := (f ⊝ q) ⊕ q) tt (ofℤ (y k).f) (U *ℚ Q k))))
+          (≤_trans (abs_add (off k) (U *ℚ Q k)) (≤_add (≤_refl (abs (off k))) (≤_of_eq (abs_scale U (Q k) (nat_nn unit)))))
 
-      sums : nat S ≤ nat B + U * over (nat 8) 7
+      sums : nat S ≤ℚ nat B +ℚ U *ℚ over (nat 8) 7
       sums = ≤_trans (≤_of_eq (nat_sum (suc x) (λ k. nat_abs (y k).f)))
-          (≤_trans (sum_mono (suc x) (λ k. nat (nat_abs (y k).f)) (λ k. abs (off k) + U * abs (Q k)) one)
-          (≤_trans (≤_of_eq (sum_add (suc x) (λ k. abs (off k)) (λ k. U * abs (Q k)))) (≤_add (cells_near X r a ms small p x l) mass)))
+          (≤_trans (sum_mono (suc x) (λ k. nat (nat_abs (y k).f)) (λ k. abs (off k) +ℚ U *ℚ abs (Q k)) one)
+          (≤_trans (≤_of_eq (sum_add (suc x) (λ k. abs (off k)) (λ k. U *ℚ abs (Q k)))) (≤_add (cells_near X r a ms small p x l) mass)))
 
-      total : nat 7 * (nat B + U * over (nat 8) 7) ≡ nat (8 *ⁿ unit +ⁿ 7 *ⁿ B)
+      total : nat 7 *ℚ (nat B +ℚ U *ℚ over (nat 8) 7) ≡ nat (8 *ⁿ unit +ⁿ 7 *ⁿ B)
       total =
           ring4 ℚ_ring (λ s b u o. s ⊗ (b ⊕ u ⊗ o) := (s ⊗ o) ⊗ u ⊕ s ⊗ b) tt (nat 7) (nat B) U (over (nat 8) 7)
-          ∙ ap₂ ◌+◌ (ap (λ z. z * U) (over_ok (nat 8) 7 (omega arith)) ∙ sym (nat_mul 8 unit)) (sym (nat_mul 7 B))
+          ∙ ap₂ ◌+ℚ◌ (ap (λ z. z *ℚ U) (over_ok (nat 8) 7 (omega arith)) ∙ sym (nat_mul 8 unit)) (sym (nat_mul 7 B))
           ∙ sym (nat_add (8 *ⁿ unit) (7 *ⁿ B))
 
   module _ (few : X ≤ⁿ most_horizon) where

@@ -1,11 +1,10 @@
 -- The header decides by itself: its lines stop reading, whatever follows them, or what follows them is read with their figures (header_outcome).
-use Rattle.std.specs.Prelude.{◌≡◌, refl, ◌⊎◌, Bool, true, false, List, [], ◌∷◌, ◌++◌, ℕ, suc, ◌+◌, eqb, length}
+use Rattle.std.specs.Prelude.{◌≡◌, refl, ◌⊎◌, Bool, true, false, List, [], ◌∷◌, ◌++◌, ℕ, suc, ◌+◌, eqb, length, if◌then◌else◌}
 use Rattle.std.proofs.Common.{sym, ◌∙◌, ap, inl, inr, true≢false, arith}
 use Rattle.std.proofs.Math.Option.{Option, none, some}
 use Rattle.fund.specs.declared.Fund.{Fund}
 use Rattle.fund.specs.declared.Refusal.{Refusal}
 use Rattle.fund.specs.declared.Refusal.TheVariants.{Form, Range, Cell as CellRefusal}
-use Rattle.fund.specs.Base.{if◌then◌else◌}
 use Rattle.fund.specs.Lines.{Line, begun, lines_from}
 use Rattle.fund.specs.Spelling.{behind, numbers, spelled}
 use Rattle.fund.specs.Reading.{Reading, stopped, in_ranges, HeaderLine, header_of, read_header}

@@ -1,14 +1,13 @@
 -- METHOD 3 (§2): the new edition "leaves out ages whose rates equal those of the age before". A rate row that is equal, but for its age, to
 -- the row in force before it can be left out: at every age the rates in force are alike (still_alike), and the answer is the same but for
 -- places (row_left_out); the file without that line is such a file (line_left_out).
-use Rattle.std.specs.Prelude.{◌≡◌, Bool, true, false, List, [], ◌∷◌, ◌++◌, ℕ, ◌+◌, ◌≤◌, ◌<◌, leb, length}
+use Rattle.std.specs.Prelude.{◌≡◌, Bool, true, false, List, [], ◌∷◌, ◌++◌, ℕ, ◌+◌, ◌≤◌, ◌<◌, leb, length, if◌then◌else◌}
 use Rattle.std.proofs.Math.Path.{refl}
 use Rattle.std.proofs.Common.{sym, ◌∙◌, ap, append-nil, arith, leb-true, leb-false, length-append}
 use Rattle.std.proofs.Math.Option.{Option, none, some}
 use Rattle.fund.specs.declared.Fund.{Fund}
 use Rattle.fund.specs.declared.Rate.{Rate}
 use Rattle.fund.specs.declared.Member.{Member}
-use Rattle.fund.specs.Base.{if◌then◌else◌}
 use Rattle.fund.specs.Reading.{FundFile, header_lines, read, reading}
 use Rattle.fund.specs.Folding.{held_until, rate_in_force, lives}
 use Rattle.fund.specs.Refusals.{Lengths}

@@ -1,6 +1,6 @@
 -- METHOD 4 (§5): "A file with a = b gives the old figures." Where both frequencies are a, the answer is the one that the formulas for
 -- group 2 with one frequency give (as_before), and the exact values and the exact premium are those of its weights (exact_as_before, premium_as_before).
-use Rattle.std.specs.Prelude.{◌≡◌, Bool, true, false, eqb, ltb, ℤ, pos, neg_ℤ, ◌+ℤ◌, ◌-ℤ◌, ◌*ℤ◌}
+use Rattle.std.specs.Prelude.{◌≡◌, Bool, true, false, eqb, ltb, ℤ, pos, neg_ℤ, ◌+ℤ◌, ◌-ℤ◌, ◌*ℤ◌, if◌then◌else◌}
 use Rattle.std.proofs.Math.Path.{refl, ap, ap₂, fun_ext}
 use Rattle.std.proofs.Common.{sym, ◌∙◌, mul_assoc, mul_comm, arith}
 use mathlib.Core.List.{List, [], ◌∷◌, ◌++◌, map, reverse}
@@ -14,7 +14,7 @@ use Rattle.fund.specs.declared.Figures.{Figures}
 use Rattle.fund.specs.declared.Refusal.TheVariants.{Load, Order, Short, Wide}
 use Rattle.fund.specs.declared.Verdict.{Verdict}
 use Rattle.fund.specs.declared.Verdict.TheVariants.{Accepted, Refused}
-use Rattle.fund.specs.Base.{if◌then◌else◌, total, table, sumℤ}
+use Rattle.fund.specs.Base.{total, table, sumℤ}
 use Rattle.fund.specs.Limits.{most_load, most_truncation}
 use Rattle.fund.specs.Reading.{FundFile, Reading, read, stopped, reading}
 use Rattle.fund.specs.Folding.{lives, claim, stay, single}

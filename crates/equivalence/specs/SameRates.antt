@@ -1,7 +1,7 @@
 -- The rates count by q and i alone, whatever row holds them: where two searches give each member alike rates, the lines are the same
 -- (same_points) and so are the members without a rate (same_unmatched). Two files that differ in their rate lines alone, and have alike rates
 -- in force at each member's age, have the same answer but for the places of lines behind the rate lines (same_answers).
-use Rattle.std.specs.Prelude.{◌≡◌, Bool, true, false, not, ◌||◌, List, [], ◌∷◌, map, ℕ, suc, ◌+◌, eqb, ltb, length}
+use Rattle.std.specs.Prelude.{◌≡◌, Bool, true, false, not, ◌||◌, List, [], ◌∷◌, map, ℕ, suc, ◌+◌, eqb, ltb, length, if◌then◌else◌}
 use Rattle.std.proofs.Math.Path.{refl, ap}
 use Rattle.std.proofs.Common.{sym, ◌∙◌, arith}
 use Rattle.std.proofs.Math.Option.{Option, none, some}
@@ -14,7 +14,6 @@ use Rattle.fund.specs.declared.Refusal.{Refusal}
 use Rattle.fund.specs.declared.Refusal.TheVariants.{Edition, Deductible, Unmatched, Half, Load, Order, Short, Wide}
 use Rattle.fund.specs.declared.Verdict.{Verdict}
 use Rattle.fund.specs.declared.Verdict.TheVariants.{Accepted, Refused}
-use Rattle.fund.specs.Base.{if◌then◌else◌}
 use Rattle.fund.specs.Reading.{FundFile, read, reading}
 use Rattle.fund.specs.Folding.{rate_in_force, folded, life, point, points, copies, lives}
 use Rattle.fund.specs.Refusals.{number_of, first, unmatched, half_line, Lengths, refuse, at0, first_member, valued, matched, verdict}

@@ -1,13 +1,12 @@
 -- Reading asks for the texts of the lines and not for the places where they start (reading_texts). A file without one of its lines has the
 -- other lines' texts (texts_without), those behind it one place earlier (text_behind).
-use Rattle.std.specs.Prelude.{◌≡◌, refl, Bool, true, false, List, [], ◌∷◌, ◌++◌, map, ℕ, zero, suc, ◌≤◌, eqb, length, get_or}
+use Rattle.std.specs.Prelude.{◌≡◌, refl, Bool, true, false, List, [], ◌∷◌, ◌++◌, map, ℕ, zero, suc, ◌≤◌, eqb, length, get_or, if◌then◌else◌}
 use Rattle.std.proofs.Common.{sym, ◌∙◌, ap, arith}
 use Rattle.std.proofs.Math.Option.{Option, none, some}
 use Rattle.fund.specs.declared.Fund.{Fund}
 use Rattle.fund.specs.declared.Rate.{Rate}
 use Rattle.fund.specs.declared.Member.{Member}
 use Rattle.fund.specs.declared.Refusal.TheVariants.{Form, Range}
-use Rattle.fund.specs.Base.{if◌then◌else◌}
 use Rattle.fund.specs.Lines.{Line, begun, lines_from, lines}
 use Rattle.fund.specs.Spelling.{spelled}
 use Rattle.fund.specs.Reading.{FundFile, stopped, in_ranges, HeaderLine, header_lines, header_of, Row, rate_row, member_row, end_row, other_row, row_of, rate_in_range, member_in_range, no_member, at_end, read_rows, read_header, reading, file_rows}

@@ -1,6 +1,6 @@
 -- METHOD 3 (§8), from the bytes on: of every file that is read, the file with each member line written out as copies with lives 1 (out_text) is read
 -- as the fund written out (out_read), and priced as the file itself but for the places of 5 and 6 (out_priced).
-use Rattle.std.specs.Prelude.{◌≡◌, refl, ◌⊎◌, Bool, true, false, eqb}
+use Rattle.std.specs.Prelude.{◌≡◌, refl, ◌⊎◌, Bool, true, false, eqb, if◌then◌else◌}
 use Rattle.std.proofs.Math.Path.{sym, ap, ap₂}
 use Rattle.std.proofs.Common.{◌∙◌, inl, inr, true≢false, le-leb, lt-ltb}
 use mathlib.Core.List.{List, [], ◌∷◌, ◌++◌, map, map-append, append-nil, append_assoc}
@@ -14,7 +14,7 @@ use Rattle.fund.specs.declared.Member.{Member}
 use Rattle.fund.specs.declared.Refusal.TheVariants.{Form, Range}
 use Rattle.fund.specs.declared.SheetRow.{SheetRow}
 use Rattle.fund.specs.declared.SheetRow.TheVariants.{Rate as RateRow, Member as MemberRow}
-use Rattle.fund.specs.Base.{if◌then◌else◌, total}
+use Rattle.fund.specs.Base.{total}
 use Rattle.fund.specs.Limits.{most_members, most_lives}
 use Rattle.fund.specs.Lines.{Line, begun, lines_from, lines}
 use Rattle.fund.specs.Reading.{FundFile, read, header_lines, between, lives_in_all, rate_in_range, member_in_range, no_member, read_rows, read_header, reading, file_rows}

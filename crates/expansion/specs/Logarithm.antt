@@ -5,7 +5,7 @@ use Rattle.std.proofs.Common.{sym, ◌∙◌, ap, arith}
 use Rattle.std.proofs.Math.Path.{fun_ext}
 use Rattle.algebra.specs.Laws as L
 use Rattle.algebra.specs.Solver.{◌⊝◌, ring2, ring3, ring4, 𝟎, 𝟏, ◌⊕◌, ◌⊗◌, ⊖◌, ◌:=◌}
-use Rattle.algebra.specs.Q.{ℚ, ℚ_ring, neg_q, zero_q, ◌-◌, ◌*◌}
+use Rattle.algebra.specs.Q.{ℚ, ℚ_ring, neg_q, zero_q, ◌-ℚ◌, ◌*ℚ◌}
 use Rattle.algebra.specs.Embedding.{nat}
 use Rattle.algebra.specs.Quotient.{inv, inv_ok}
 use Rattle.algebra.specs.Power.{sgn}
@@ -14,7 +14,7 @@ use Rattle.algebra.specs.PowerSeries.{θ_scale, θ_pow, Upto, vanishes_mul, vani
 
 -- (-1)ⁿ zⁿ⁺¹ / (n + 1)
 abbrev pub log_term : Ser → ℕ → Ser
-log_term z n = const (sgn n * inv n) ⋆ pow z (suc n)
+log_term z n = const (sgn n *ℚ inv n) ⋆ pow z (suc n)
 
 abbrev pub log_s : Ser → ℕ → Ser
 log_s z zero = zero_s
@@ -36,10 +36,10 @@ const_neg c = fun_ext go
     ∙ ap (λ x. x ⋆ (pow z n ⋆ θ z)) (const_mul c (nat (suc n)) ∙ ap const e)
   where
     c : ℚ
-    c = sgn n * inv n
+    c = sgn n *ℚ inv n
 
-    e : sgn n * inv n * nat (suc n) ≡ sgn n
-    e = ring3 ℚ_ring (λ s i m. s ⊗ i ⊗ m := s ⊗ (m ⊗ i)) tt (sgn n) (inv n) (nat (suc n)) ∙ ap (λ x. sgn n * x) (inv_ok n)
+    e : sgn n *ℚ inv n *ℚ nat (suc n) ≡ sgn n
+    e = ring3 ℚ_ring (λ s i m. s ⊗ i ⊗ m := s ⊗ (m ⊗ i)) tt (sgn n) (inv n) (nat (suc n)) ∙ ap (λ x. sgn n *ℚ x) (inv_ok n)
         ∙ ℚ_ring.mul-one (sgn n)
 
 -- (1 + z) ⋆ θL = θz ⋆ (1 - (-1)ᴺ zᴺ)
@@ -60,7 +60,7 @@ log_telescope z (suc n) =
 pub log_upto : (z : Ser) → z 0 ≡ zero_q → (N : ℕ) → Upto N ((one_s ⊞ z) ⋆ θ (log_s z N)) (θ z)
 log_upto z h N x l =
     ap (λ s. s x) (log_telescope z N ∙ ring3 𝕊 (λ t s p. t ⊗ (𝟏 ⊝ s ⊗ p) := t ⊝ s ⊗ (t ⊗ p)) tt (θ z) (const (sgn N)) (pow z N))
-    ∙ ap (λ y. θ z x - y) (const_product (sgn N) (θ z ⋆ pow z N) x ∙ ap (λ y. sgn N * y) none)
+    ∙ ap (λ y. θ z x -ℚ y) (const_product (sgn N) (θ z ⋆ pow z N) x ∙ ap (λ y. sgn N *ℚ y) none)
     ∙ ring2 ℚ_ring (λ a s. a ⊝ s ⊗ 𝟎 := a) tt (θ z x) (sgn N)
   where
     none : (θ z ⋆ pow z N) x ≡ zero_q

@@ -8,7 +8,7 @@ use native.Mathlib.Omega.{arith}
 use Rattle.algebra.specs.Series as S
 use Rattle.algebra.specs.SeriesRing as SR
 use Rattle.algebra.specs.Solver.{ring1, ring2, ring4, ring5, 𝟎, 𝟏, ◌⊕◌, ◌⊗◌, ◌:=◌}
-use Rattle.algebra.specs.Q.{ℚ, ℚ_ring, zero_q, one_q, ◌+◌, ◌*◌}
+use Rattle.algebra.specs.Q.{ℚ, ℚ_ring, zero_q, one_q, ◌+ℚ◌, ◌*ℚ◌}
 use Rattle.algebra.specs.Embedding.{nat}
 use Rattle.algebra.specs.Quotient.{inv, over, over_suc}
 use Rattle.algebra.specs.RationalSum.{sum, sum_ext, sum_add, sum_mul, sum_first}
@@ -23,15 +23,15 @@ odds q i p d e = place d (over (nat q) p) ⊞ place e (over (nat i) p)
 
 -- ---- powers
 abbrev pub row_series : ℕ → ℕ → ℕ → ℕ → ℕ → ℕ → Ser
-row_series q i p d e n k = sum (suc n) (λ l. rows_q q i p n l * δ (term_place d e n l) k)
+row_series q i p d e n k = sum (suc n) (λ l. rows_q q i p n l *ℚ δ (term_place d e n l) k)
 
 -- a sum of weights, moved by d
-δ_product_sum : (N : ℕ) (c : ℕ → ℚ) (s : ℕ → ℕ) (d k : ℕ) → (δ d ⋆ (λ j. sum N (λ l. c l * δ (s l) j))) k ≡ sum N (λ l. c l * δ (d +ⁿ s l) k)
+δ_product_sum : (N : ℕ) (c : ℕ → ℚ) (s : ℕ → ℕ) (d k : ℕ) → (δ d ⋆ (λ j. sum N (λ l. c l *ℚ δ (s l) j))) k ≡ sum N (λ l. c l *ℚ δ (d +ⁿ s l) k)
 δ_product_sum zero c s d k = S.product_comm ℚ_ring k (δ d) zero_s ∙ SR.product_zero ℚ_ring k (δ d)
 δ_product_sum (suc N) c s d k =
-    SR.product_distrib ℚ_ring (δ d) (λ j. sum N (λ l. c l * δ (s l) j)) (place (s N) (c N)) k
-    ∙ ap₂ ◌+◌ (δ_product_sum N c s d k) (S.product_comm ℚ_ring k (δ d) (place (s N) (c N)) ∙ product_scale k (c N) (δ (s N)) (δ d)
-    ∙ ap (λ x. c N * x) one)
+    SR.product_distrib ℚ_ring (δ d) (λ j. sum N (λ l. c l *ℚ δ (s l) j)) (place (s N) (c N)) k
+    ∙ ap₂ ◌+ℚ◌ (δ_product_sum N c s d k) (S.product_comm ℚ_ring k (δ d) (place (s N) (c N)) ∙ product_scale k (c N) (δ (s N)) (δ d)
+    ∙ ap (λ x. c N *ℚ x) one)
   where
     one : (δ (s N) ⋆ δ d) k ≡ δ (d +ⁿ s N) k
     one = S.product_comm ℚ_ring k (δ (s N)) (δ d) ∙ δ_product d (δ (s N)) k ∙ shift_δ d (s N) k
@@ -62,39 +62,39 @@ module _ (q i p d e : ℕ) where
   abbrev at_place : ℕ → ℕ → Ser
   at_place n l = δ (term_place d e n l)
 
-  row_q : (n k : ℕ) → (δ d ⋆ row_series q i p d e n) k ≡ sum (suc (suc n)) (λ l. left_q (v n) l * at_place (suc n) l k)
+  row_q : (n k : ℕ) → (δ d ⋆ row_series q i p d e n) k ≡ sum (suc (suc n)) (λ l. left_q (v n) l *ℚ at_place (suc n) l k)
   row_q n k =
       δ_product_sum (suc n) (v n) (term_place d e n) d k
-      ∙ sum_ext (suc n) (λ l. v n l * δ (d +ⁿ term_place d e n l) k) (λ l. v n l * at_place (suc n) (suc l) k)
-      (λ l h. ap (λ x. v n l * δ x k) (place_q d e n l))
-      ∙ ring2 ℚ_ring (λ x y. x := 𝟎 ⊗ y ⊕ x) tt (sum (suc n) (λ l. v n l * at_place (suc n) (suc l) k)) (at_place (suc n) 0 k)
-      ∙ sym (sum_first (suc n) (λ l. left_q (v n) l * at_place (suc n) l k))
+      ∙ sum_ext (suc n) (λ l. v n l *ℚ δ (d +ⁿ term_place d e n l) k) (λ l. v n l *ℚ at_place (suc n) (suc l) k)
+      (λ l h. ap (λ x. v n l *ℚ δ x k) (place_q d e n l))
+      ∙ ring2 ℚ_ring (λ x y. x := 𝟎 ⊗ y ⊕ x) tt (sum (suc n) (λ l. v n l *ℚ at_place (suc n) (suc l) k)) (at_place (suc n) 0 k)
+      ∙ sym (sum_first (suc n) (λ l. left_q (v n) l *ℚ at_place (suc n) l k))
 
-  row_i : (n k : ℕ) → (δ e ⋆ row_series q i p d e n) k ≡ sum (suc (suc n)) (λ l. v n l * at_place (suc n) l k)
+  row_i : (n k : ℕ) → (δ e ⋆ row_series q i p d e n) k ≡ sum (suc (suc n)) (λ l. v n l *ℚ at_place (suc n) l k)
   row_i n k =
       δ_product_sum (suc n) (v n) (term_place d e n) e k
-      ∙ sum_ext (suc n) (λ l. v n l * δ (e +ⁿ term_place d e n l) k) (λ l. v n l * at_place (suc n) l k)
-      (λ l h. ap (λ x. v n l * δ x k) (place_i d e n l (omega arith)))
-      ∙ ring2 ℚ_ring (λ x y. x := x ⊕ 𝟎 ⊗ y) tt (sum (suc n) (λ l. v n l * at_place (suc n) l k)) (at_place (suc n) (suc n) k)
-      ∙ ap (λ x. sum (suc n) (λ l. v n l * at_place (suc n) l k) + x * at_place (suc n) (suc n) k)
+      ∙ sum_ext (suc n) (λ l. v n l *ℚ δ (e +ⁿ term_place d e n l) k) (λ l. v n l *ℚ at_place (suc n) l k)
+      (λ l h. ap (λ x. v n l *ℚ δ x k) (place_i d e n l (omega arith)))
+      ∙ ring2 ℚ_ring (λ x y. x := x ⊕ 𝟎 ⊗ y) tt (sum (suc n) (λ l. v n l *ℚ at_place (suc n) l k)) (at_place (suc n) (suc n) k)
+      ∙ ap (λ x. sum (suc n) (λ l. v n l *ℚ at_place (suc n) l k) +ℚ x *ℚ at_place (suc n) (suc n) k)
       (sym (rows_q_beyond q i p n (suc n) (omega arith)))
 
   row_next : (n k : ℕ) → (odds q i p d e ⋆ row_series q i p d e n) k ≡ row_series q i p d e (suc n) k
   row_next n k =
       S.product_add ℚ_ring k (place d a) (place e b) (row_series q i p d e n)
-      ∙ ap₂ ◌+◌ (product_scale k a (δ d) (row_series q i p d e n) ∙ ap (λ x. a * x) (row_q n k))
-      (product_scale k b (δ e) (row_series q i p d e n) ∙ ap (λ x. b * x) (row_i n k))
-      ∙ ap₂ ◌+◌ (sym (sum_mul (suc (suc n)) a f)) (sym (sum_mul (suc (suc n)) b g))
-      ∙ sym (sum_add (suc (suc n)) (λ l. a * f l) (λ l. b * g l))
-      ∙ sum_ext (suc (suc n)) (λ l. a * f l + b * g l) (λ l. v (suc n) l * at_place (suc n) l k) (λ l h.
+      ∙ ap₂ ◌+ℚ◌ (product_scale k a (δ d) (row_series q i p d e n) ∙ ap (λ x. a *ℚ x) (row_q n k))
+      (product_scale k b (δ e) (row_series q i p d e n) ∙ ap (λ x. b *ℚ x) (row_i n k))
+      ∙ ap₂ ◌+ℚ◌ (sym (sum_mul (suc (suc n)) a f)) (sym (sum_mul (suc (suc n)) b g))
+      ∙ sym (sum_add (suc (suc n)) (λ l. a *ℚ f l) (λ l. b *ℚ g l))
+      ∙ sum_ext (suc (suc n)) (λ l. a *ℚ f l +ℚ b *ℚ g l) (λ l. v (suc n) l *ℚ at_place (suc n) l k) (λ l h.
       ring5 ℚ_ring (λ a b x y t. a ⊗ (x ⊗ t) ⊕ b ⊗ (y ⊗ t) := (a ⊗ x ⊕ b ⊗ y) ⊗ t) tt a b (left_q (v n) l) (v n l) (at_place (suc n) l k)
-      ∙ ap (λ x. x * at_place (suc n) l k) (sym (rows_q_split q i p n l)))
+      ∙ ap (λ x. x *ℚ at_place (suc n) l k) (sym (rows_q_split q i p n l)))
     where
       f : ℕ → ℚ
-      f l = left_q (v n) l * at_place (suc n) l k
+      f l = left_q (v n) l *ℚ at_place (suc n) l k
 
       g : ℕ → ℚ
-      g l = v n l * at_place (suc n) l k
+      g l = v n l *ℚ at_place (suc n) l k
 
   pub pow_rows : (n k : ℕ) → pow (odds q i p d e) n k ≡ row_series q i p d e n k
   unfolding rows_q
@@ -108,41 +108,41 @@ module _ (q i p d e : ℕ) where
       z = odds q i p d e
 
 -- ---- the logarithm
-pub log_sum : (z : Ser) (r k : ℕ) → log_s z r k ≡ sum r (λ n. sgn n * inv n * pow z (suc n) k)
+pub log_sum : (z : Ser) (r k : ℕ) → log_s z r k ≡ sum r (λ n. sgn n *ℚ inv n *ℚ pow z (suc n) k)
 log_sum z zero k = refl
-log_sum z (suc r) k = ap₂ ◌+◌ (log_sum z r k) (const_product (sgn r * inv r) (pow z (suc r)) k)
+log_sum z (suc r) k = ap₂ ◌+ℚ◌ (log_sum z r k) (const_product (sgn r *ℚ inv r) (pow z (suc r)) k)
 
 -- what the term (n + 1, l) adds at k
 abbrev pub log_entry : ℕ → ℕ → ℕ → ℕ → ℕ → ℕ → ℕ → ℕ → ℚ
-log_entry q i p d e k n l = let x = term_place d e (suc n) l in cond (eqb x k) (sgn n * over (nat x * rows_q q i p (suc n) l) (suc n)) zero_q
+log_entry q i p d e k n l = let x = term_place d e (suc n) l in cond (eqb x k) (sgn n *ℚ over (nat x *ℚ rows_q q i p (suc n) l) (suc n)) zero_q
 
-entry_is : (k n x : ℕ) (v : ℚ) → nat k * (sgn n * inv n) * (v * δ x k) ≡ cond (eqb x k) (sgn n * over (nat x * v) (suc n)) zero_q
-entry_is k n x v = ap (λ y. nat k * (sgn n * inv n) * (v * y)) (δ_cond x k) ∙ go (eqb x k) (eqb→eq x k)
+entry_is : (k n x : ℕ) (v : ℚ) → nat k *ℚ (sgn n *ℚ inv n) *ℚ (v *ℚ δ x k) ≡ cond (eqb x k) (sgn n *ℚ over (nat x *ℚ v) (suc n)) zero_q
+entry_is k n x v = ap (λ y. nat k *ℚ (sgn n *ℚ inv n) *ℚ (v *ℚ y)) (δ_cond x k) ∙ go (eqb x k) (eqb→eq x k)
   where
-    go : (b : Bool) → (T b → x ≡ k) → nat k * (sgn n * inv n) * (v * cond b one_q zero_q) ≡ cond b (sgn n * over (nat x * v) (suc n)) zero_q
+    go : (b : Bool) → (T b → x ≡ k) → nat k *ℚ (sgn n *ℚ inv n) *ℚ (v *ℚ cond b one_q zero_q) ≡ cond b (sgn n *ℚ over (nat x *ℚ v) (suc n)) zero_q
     go true h = ring4 ℚ_ring (λ k s i v. k ⊗ (s ⊗ i) ⊗ (v ⊗ 𝟏) := s ⊗ (k ⊗ v ⊗ i)) tt (nat k) (sgn n) (inv n) v
-        ∙ ap (λ y. sgn n * (nat y * v * inv n)) (sym (h tt)) ∙ ap (λ y. sgn n * y) (sym (over_suc (nat x * v) n))
-    go false h = ring2 ℚ_ring (λ c v. c ⊗ (v ⊗ 𝟎) := 𝟎) tt (nat k * (sgn n * inv n)) v
+        ∙ ap (λ y. sgn n *ℚ (nat y *ℚ v *ℚ inv n)) (sym (h tt)) ∙ ap (λ y. sgn n *ℚ y) (sym (over_suc (nat x *ℚ v) n))
+    go false h = ring2 ℚ_ring (λ c v. c ⊗ (v ⊗ 𝟎) := 𝟎) tt (nat k *ℚ (sgn n *ℚ inv n)) v
 
 pub log_rows : (q i p d e r k : ℕ) → θ (log_s (odds q i p d e) r) k ≡ sum r (λ n. sum (suc (suc n)) (log_entry q i p d e k n))
 log_rows q i p d e r k =
-    ap (λ x. nat k * x) (log_sum z r k)
-    ∙ sym (sum_mul r (nat k) (λ n. sgn n * inv n * pow z (suc n) k))
-    ∙ sum_ext r (λ n. nat k * (sgn n * inv n * pow z (suc n) k)) (λ n. sum (suc (suc n)) (log_entry q i p d e k n)) (λ n h. order n)
+    ap (λ x. nat k *ℚ x) (log_sum z r k)
+    ∙ sym (sum_mul r (nat k) (λ n. sgn n *ℚ inv n *ℚ pow z (suc n) k))
+    ∙ sum_ext r (λ n. nat k *ℚ (sgn n *ℚ inv n *ℚ pow z (suc n) k)) (λ n. sum (suc (suc n)) (log_entry q i p d e k n)) (λ n h. order n)
   where
     z : Ser
     z = odds q i p d e
 
-    order : (n : ℕ) → nat k * (sgn n * inv n * pow z (suc n) k) ≡ sum (suc (suc n)) (log_entry q i p d e k n)
+    order : (n : ℕ) → nat k *ℚ (sgn n *ℚ inv n *ℚ pow z (suc n) k) ≡ sum (suc (suc n)) (log_entry q i p d e k n)
     order n =
         sym (ℚ_ring.mul_assoc (nat k) c (pow z (suc n) k))
-        ∙ ap (λ x. nat k * c * x) (pow_rows q i p d e (suc n) k)
-        ∙ sym (sum_mul (suc (suc n)) (nat k * c) f)
-        ∙ sum_ext (suc (suc n)) (λ l. nat k * c * f l) (log_entry q i p d e k n)
+        ∙ ap (λ x. nat k *ℚ c *ℚ x) (pow_rows q i p d e (suc n) k)
+        ∙ sym (sum_mul (suc (suc n)) (nat k *ℚ c) f)
+        ∙ sum_ext (suc (suc n)) (λ l. nat k *ℚ c *ℚ f l) (log_entry q i p d e k n)
         (λ l h. entry_is k n (term_place d e (suc n) l) (rows_q q i p (suc n) l))
       where
         c : ℚ
-        c = sgn n * inv n
+        c = sgn n *ℚ inv n
 
         f : ℕ → ℚ
-        f l = rows_q q i p (suc n) l * δ (term_place d e (suc n) l) k
+        f l = rows_q q i p (suc n) l *ℚ δ (term_place d e (suc n) l) k

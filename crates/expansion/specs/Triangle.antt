@@ -4,7 +4,7 @@ use Rattle.std.specs.Prelude.{◌≡◌, refl, ℕ, zero, suc, ◌<◌, ◌+◌ 
 use Rattle.std.proofs.Common.{◌∙◌, ap, ap₂, arith}
 use Rattle.algebra.specs.Laws as L
 use Rattle.algebra.specs.Solver.{ring5, ◌⊕◌, ◌⊗◌, ◌:=◌}
-use Rattle.algebra.specs.Q.{ℚ, ℚ_ring, zero_q, one_q, ◌+◌, ◌*◌}
+use Rattle.algebra.specs.Q.{ℚ, ℚ_ring, zero_q, one_q, ◌+ℚ◌, ◌*ℚ◌}
 use Rattle.algebra.specs.Embedding.{nat, nat_zero}
 use Rattle.algebra.specs.Quotient.{inv, over, over_zero}
 
@@ -16,25 +16,25 @@ left_q v (suc l) = v l
 unfoldable pub rows_q : ℕ → ℕ → ℕ → ℕ → ℕ → ℚ
 rows_q q i p zero zero = one_q
 rows_q q i p zero (suc l) = zero_q
-rows_q q i p (suc n) l = over (nat q * left_q (rows_q q i p n) l + nat i * rows_q q i p n l) p
+rows_q q i p (suc n) l = over (nat q *ℚ left_q (rows_q q i p n) l +ℚ nat i *ℚ rows_q q i p n l) p
 
 -- the place of the term (n, l)
 abbrev pub term_place : ℕ → ℕ → ℕ → ℕ → ℕ
 term_place d e n l = d *ⁿ l +ⁿ e *ⁿ (n ∸ l)
 
-pub rows_q_split : (q i p n l : ℕ) → rows_q q i p (suc n) l ≡ over (nat q) p * left_q (rows_q q i p n) l + over (nat i) p * rows_q q i p n l
+pub rows_q_split : (q i p n l : ℕ) → rows_q q i p (suc n) l ≡ over (nat q) p *ℚ left_q (rows_q q i p n) l +ℚ over (nat i) p *ℚ rows_q q i p n l
 unfolding rows_q over
 rows_q_split q i p n l = ring5 ℚ_ring (λ q i x y v. (q ⊗ x ⊕ i ⊗ y) ⊗ v := q ⊗ v ⊗ x ⊕ i ⊗ v ⊗ y)
     tt (nat q) (nat i) (left_q (rows_q q i p n) l) (rows_q q i p n l) (inv (p ∸ 1))
 
-next_zero : (a b x y : ℚ) (p : ℕ) → a * x ≡ zero_q → b * y ≡ zero_q → over (a * x + b * y) p ≡ zero_q
-next_zero a b x y p h k = ap (λ s. over s p) (ap₂ ◌+◌ h k ∙ ℚ_ring.add-zero zero_q) ∙ over_zero p
+next_zero : (a b x y : ℚ) (p : ℕ) → a *ℚ x ≡ zero_q → b *ℚ y ≡ zero_q → over (a *ℚ x +ℚ b *ℚ y) p ≡ zero_q
+next_zero a b x y p h k = ap (λ s. over s p) (ap₂ ◌+ℚ◌ h k ∙ ℚ_ring.add-zero zero_q) ∙ over_zero p
 
-zero_left : (a b : ℚ) → a ≡ zero_q → a * b ≡ zero_q
-zero_left a b h = ap (λ x. x * b) h ∙ L.zero-mul ℚ_ring b
+zero_left : (a b : ℚ) → a ≡ zero_q → a *ℚ b ≡ zero_q
+zero_left a b h = ap (λ x. x *ℚ b) h ∙ L.zero-mul ℚ_ring b
 
-zero_right : (a b : ℚ) → b ≡ zero_q → a * b ≡ zero_q
-zero_right a b h = ap (λ x. a * x) h ∙ L.mul-zero ℚ_ring a
+zero_right : (a b : ℚ) → b ≡ zero_q → a *ℚ b ≡ zero_q
+zero_right a b h = ap (λ x. a *ℚ x) h ∙ L.mul-zero ℚ_ring a
 
 none : {A : Type 0} (n : ℕ) → n < 0 → A
 none n g = absurd (go g)

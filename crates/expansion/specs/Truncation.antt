@@ -4,7 +4,7 @@ use Rattle.std.specs.Prelude.{◌≡◌, List, ℕ, suc, ◌≤◌ as ◌≤ⁿ�
 use Rattle.std.proofs.Common.{sym, ◌∙◌, ap, ap₂, subst, arith}
 use Rattle.algebra.specs.Laws as L
 use Rattle.algebra.specs.Solver.{◌⊝◌, ring3, ◌⊕◌, ◌:=◌}
-use Rattle.algebra.specs.Q.{ℚ, ℚ_ring, zero_q, one_q, ◌+◌, ◌-◌, ◌*◌, ◌≤◌, abs, ≤_trans}
+use Rattle.algebra.specs.Q.{ℚ, ℚ_ring, zero_q, one_q, ◌+ℚ◌, ◌-ℚ◌, ◌*ℚ◌, ◌≤ℚ◌, abs, ≤_trans}
 use Rattle.algebra.specs.Embedding.{nat}
 use Rattle.algebra.specs.RationalSum.{sum}
 use Rattle.algebra.specs.PowerSeries.{Ser, 𝕊, ◌⋆◌, ◌⊞◌, minus, θ, θ_zero, θ_add, Upto}
@@ -29,10 +29,10 @@ module _ (r X : ℕ) (ms : List Member) (good : All (Good r) ms) (s : ℚ) (Q B 
   A' = θ (logs r ms) ⊞ B
 
   A_zero : A 0 ≡ zero_q
-  A_zero = ap₂ ◌+◌ (θ_zero (logs (r +ⁿ X) ms)) B-zero ∙ L.zero-add ℚ_ring zero_q
+  A_zero = ap₂ ◌+ℚ◌ (θ_zero (logs (r +ⁿ X) ms)) B-zero ∙ L.zero-add ℚ_ring zero_q
 
   A'_zero : A' 0 ≡ zero_q
-  A'_zero = ap₂ ◌+◌ (θ_zero (logs r ms)) B-zero ∙ L.zero-add ℚ_ring zero_q
+  A'_zero = ap₂ ◌+ℚ◌ (θ_zero (logs r ms)) B-zero ∙ L.zero-add ℚ_ring zero_q
 
   A'_is : A' ≡ A ⊞ minus (θ t)
   A'_is = ring3 𝕊 (λ l c b. l ⊕ b := ((l ⊕ c) ⊕ b) ⊝ c) tt (θ (logs r ms)) (θ t) B
@@ -41,7 +41,7 @@ module _ (r X : ℕ) (ms : List Member) (good : All (Good r) ms) (s : ℚ) (Q B 
   P_eq : Upto X (θ P) (A ⋆ P)
   P_eq x l = distribution_upto (r +ⁿ X) s Q B ms (none_at_zero r ms good) (λ y _. ap (λ q. q y) Q-eq) x (omega arith)
 
-  pub truncation : (F : Ser) → F 0 ≡ P 0 → ((x : ℕ) → x ≤ⁿ X → nat x * F x ≡ sum x (λ k. A' (suc k) * F (x ∸ suc k))) →
-      (ε κ : ℚ) → errors ms ≤ ε → ε ≤ one_q → sum (suc X) (abs_s P) ≤ κ → (one_q - ε) * sum (suc X) (λ x. abs (F x - P x)) ≤ κ * ε
+  pub truncation : (F : Ser) → F 0 ≡ P 0 → ((x : ℕ) → x ≤ⁿ X → nat x *ℚ F x ≡ sum x (λ k. A' (suc k) *ℚ F (x ∸ suc k))) →
+      (ε κ : ℚ) → errors ms ≤ℚ ε → ε ≤ℚ one_q → sum (suc X) (abs_s P) ≤ℚ κ → (one_q -ℚ ε) *ℚ sum (suc X) (λ x. abs (F x -ℚ P x)) ≤ℚ κ *ℚ ε
   truncation F z h ε κ e e₁ k = perturbed_distance t (majorants r X ms) (remainders_le r X ms good) X A P F A_zero P_eq z
       (subst (λ a. Upto X (θ F) (a ⋆ F)) A'_is (recursion_upto X A' F A'_zero h)) ε κ (≤_trans (majorants_le r X ms good (suc X)) e) e₁ k

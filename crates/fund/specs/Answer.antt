@@ -1,5 +1,5 @@
 -- METHOD 8: the answer of a pricing call, for given bytes and given lengths of the five result slices.
-use Rattle.std.specs.Prelude.{Bool, true, false, List, ◌++◌, map, reverse, ℕ, zero, suc, ◌-◌, ℤ, pos, length, get_or, replicate}
+use Rattle.std.specs.Prelude.{Bool, true, false, List, ◌++◌, map, reverse, ℕ, zero, suc, ◌-◌, ℤ, pos, length, get_or, replicate, if◌then◌else◌}
 use Rattle.fund.specs.declared.Fund.{Fund}
 use Rattle.fund.specs.declared.Life.{Life}
 use Rattle.fund.specs.declared.Figures.{Figures}
@@ -7,7 +7,7 @@ use Rattle.fund.specs.declared.Refusal.{Refusal}
 use Rattle.fund.specs.declared.Refusal.TheVariants.{Form, Range, Edition, Deductible, Unmatched, Half, Load, Order, Short, Wide, Cell as CellRefusal}
 use Rattle.fund.specs.declared.Verdict.{Verdict}
 use Rattle.fund.specs.declared.Verdict.TheVariants.{Accepted, Refused}
-use Rattle.fund.specs.Base.{if◌then◌else◌, table}
+use Rattle.fund.specs.Base.{table}
 use Rattle.fund.specs.Lines.{Line, lines}
 use Rattle.fund.specs.Reading.{FundFile, Reading, read, stopped, reading}
 use Rattle.fund.specs.Folding.{lives}

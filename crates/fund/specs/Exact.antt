@@ -1,9 +1,9 @@
 -- METHOD 10: the exact values, from the fund's input alone: whole numbers over the one denominator 10^(6g + 12X + 756)×X!×63! for g
 -- group 1 members. They use folding and the members' weights, and nothing else of the method's figures.
-use Rattle.std.specs.Prelude.{List, [], ◌∷◌, ◌++◌, ℕ, zero, suc, ◌+◌, ◌-◌, ◌*◌, ◌^◌, eqb, leb, ℤ, pos, neg_ℤ, ◌+ℤ◌, ◌-ℤ◌, ◌*ℤ◌}
+use Rattle.std.specs.Prelude.{List, [], ◌∷◌, ◌++◌, ℕ, zero, suc, ◌+◌, ◌-◌, ◌*◌, ◌^◌, eqb, leb, ℤ, pos, neg_ℤ, ◌+ℤ◌, ◌-ℤ◌, ◌*ℤ◌, if◌then◌else◌}
 use Rattle.fund.specs.declared.Frequencies.{Frequencies}
 use Rattle.fund.specs.declared.Life.{Life}
-use Rattle.fund.specs.Base.{if◌then◌else◌, total, sum, sumℤ}
+use Rattle.fund.specs.Base.{total, sum, sumℤ}
 use Rattle.fund.specs.Folding.{stay, single}
 use Rattle.fund.specs.Transform.{death_weight, disability_weight, lambda}
 

@@ -1,6 +1,5 @@
 -- METHOD 1: "Lines end in one line feed (byte 10)." A file's bytes as its lines, each with the place where it starts.
-use Rattle.std.specs.Prelude.{Bool, true, false, List, [], ◌∷◌, ℕ, suc, eqb}
-use Rattle.fund.specs.Base.{if◌then◌else◌}
+use Rattle.std.specs.Prelude.{Bool, true, false, List, [], ◌∷◌, ℕ, suc, eqb, if◌then◌else◌}
 
 -- The bytes of a line without its line feed, and whether the line feed is there: only a last line can lack it.
 pub record Line : Type 0 where

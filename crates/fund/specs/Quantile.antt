@@ -1,11 +1,11 @@
 -- METHOD 7 (§1): the running sums of the cells, and the deductible at a level.
-use Rattle.std.specs.Prelude.{◌≡◌, Bool, true, false, List, ℕ, suc, ◌<◌, ◌≤◌, leb, ltb, ℤ, pos, negsuc, get_or, take}
+use Rattle.std.specs.Prelude.{◌≡◌, Bool, true, false, List, ℕ, suc, ◌<◌, ◌≤◌, leb, ltb, ℤ, pos, negsuc, get_or, take, if◌then◌else◌}
 use Rattle.std.proofs.Math.Option.{Option, none, some}
 use Rattle.fund.specs.declared.Quantile.{Quantile}
 use Rattle.fund.specs.declared.Quantile.TheVariants.{At, None}
 use Rattle.fund.specs.declared.Verdict.{Verdict}
 use Rattle.fund.specs.declared.Verdict.TheVariants.{Accepted, Refused}
-use Rattle.fund.specs.Base.{if◌then◌else◌, sumℤ}
+use Rattle.fund.specs.Base.{sumℤ}
 use Rattle.fund.specs.Limits.{most_level}
 use Rattle.fund.specs.Refusals.{first}
 

@@ -1,8 +1,8 @@
 -- METHOD 6: start, recursion and their bounds.
-use Rattle.std.specs.Prelude.{List, [], ◌∷◌, ℕ, zero, suc, ◌+◌, ◌*◌, ◌^◌, ℤ, pos, nat_abs, ◌+ℤ◌, ◌*ℤ◌}
+use Rattle.std.specs.Prelude.{List, [], ◌∷◌, ℕ, zero, suc, ◌+◌, ◌*◌, ◌^◌, ℤ, pos, nat_abs, ◌+ℤ◌, ◌*ℤ◌, if◌then◌else◌}
 use Rattle.rounding.specs.Rounding.{near, nearest, up}
 use Rattle.fund.specs.declared.Life.{Life}
-use Rattle.fund.specs.Base.{if◌then◌else◌, total, sum, sumℤ, table, alternate}
+use Rattle.fund.specs.Base.{total, sum, sumℤ, table, alternate}
 use Rattle.fund.specs.Folding.{stay, single}
 use Rattle.fund.specs.Transform.{unit, Term, D, H}
 

@@ -1,5 +1,5 @@
 -- Where pricing stops: METHOD 2's numbers, and the refusals 3 to 10 in their order, each over all members before the next.
-use Rattle.std.specs.Prelude.{Bool, true, false, not, ◌&&◌, ◌||◌, List, [], ◌∷◌, ℕ, suc, ◌+◌, eqb, leb, ltb, length}
+use Rattle.std.specs.Prelude.{Bool, true, false, not, ◌&&◌, ◌||◌, List, [], ◌∷◌, ℕ, suc, ◌+◌, eqb, leb, ltb, length, if◌then◌else◌}
 use Rattle.std.proofs.Math.Option.{Option, none, some}
 use Rattle.fund.specs.declared.Fund.{Fund}
 use Rattle.fund.specs.declared.Rate.{Rate}
@@ -11,7 +11,6 @@ use Rattle.fund.specs.declared.Refusal.TheVariants.{Form, Range, Edition, Deduct
 use Rattle.fund.specs.declared.Verdict.{Verdict}
 use Rattle.fund.specs.declared.Verdict.TheVariants.{Accepted, Refused}
 use Rattle.fund.specs.Limits.{half_rate, most_load, most_truncation, most_bound}
-use Rattle.fund.specs.Base.{if◌then◌else◌}
 use Rattle.fund.specs.Reading.{FundFile, header_lines}
 use Rattle.fund.specs.Folding.{rate_in_force, points, lives, claim, single}
 use Rattle.fund.specs.Transform.{load, truncation}

@@ -1,5 +1,5 @@
 -- METHOD 9 (§6): the cells of a sheet, which numbers are taken in them, and as what.
-use Rattle.std.specs.Prelude.{Bool, true, false, List, [], ◌∷◌, ℕ, zero, suc, ◌+◌, ◌*◌, eqb, ltb, pos, Float, length, take, drop}
+use Rattle.std.specs.Prelude.{Bool, true, false, List, [], ◌∷◌, ℕ, zero, suc, ◌+◌, ◌*◌, eqb, ltb, pos, Float, length, take, drop, if◌then◌else◌}
 use Rattle.std.specs.Float.{nan, inf, fin, binary64}
 use Rattle.std.specs.Float.Ieee.{of_bits, of_int, div, eq}
 use Rattle.fund.specs.declared.RateFloats.{RateFloats}
@@ -11,7 +11,6 @@ use Rattle.fund.specs.declared.SheetRow.TheVariants.{Rate as RateRow, Member as 
 use Rattle.fund.specs.declared.Taken.{Taken}
 use Rattle.fund.specs.declared.Taken.TheVariants.{As, Not}
 use Rattle.fund.specs.Limits.{most_age, most_rate, least_group, most_group, most_amount, least_lives, most_lives}
-use Rattle.fund.specs.Base.{if◌then◌else◌}
 
 -- "eight bytes each, least byte first"
 unfoldable pub least_first : List ℕ → ℕ

@@ -1,8 +1,7 @@
 -- METHOD 1: how a line is spelled: a key, then numbers between commas.
-use Rattle.std.specs.Prelude.{Bool, true, false, not, ◌&&◌, ◌||◌, List, [], ◌∷◌, map, ℕ, ◌+◌, ◌-◌, ◌*◌, eqb, leb, length}
+use Rattle.std.specs.Prelude.{Bool, true, false, not, ◌&&◌, ◌||◌, List, [], ◌∷◌, map, ℕ, ◌+◌, ◌-◌, ◌*◌, eqb, leb, length, if◌then◌else◌}
 use Rattle.std.proofs.Math.Option.{Option, none, some}
 use Rattle.fund.specs.Limits.{most_digits}
-use Rattle.fund.specs.Base.{if◌then◌else◌}
 use Rattle.fund.specs.Lines.{Line}
 
 -- "Numbers are decimal, without sign, space or leading zero (0 itself is `0`), of one to seven digits."

@@ -1,15 +1,14 @@
 -- METHOD 7 (§3): the pool's tariff.
-use Rattle.std.specs.Prelude.{ℕ, ◌*◌, ◌^◌, ltb, ℤ, pos, negsuc, ◌+ℤ◌}
+use Rattle.std.specs.Prelude.{ℕ, ◌*◌, ◌^◌, ltb, ℤ, pos, negsuc, ◌+ℤ◌, if◌then◌else◌}
 use Rattle.rounding.specs.Rounding.{up}
 use Rattle.fund.specs.Limits.{second_step, third_step, fourth_step, first_loading, second_loading, third_loading, fourth_loading}
-use Rattle.fund.specs.Base.{if◌then◌else◌}
 
 -- "The loading goes by the deductible: 0 to 99 is 1,500; 100 to 299 is 1,700; 300 to 599 is 1,900; 600 and above is 2,100."
 unfoldable pub loading : ℕ → ℕ
 loading M =
     if ltb M second_step then first_loading else
-    if ltb M third_step then second_loading else
-    if ltb M fourth_step then third_loading else fourth_loading
+    (if ltb M third_step then second_loading else
+    (if ltb M fourth_step then third_loading else fourth_loading))
 
 abbrev pub not_negative : ℤ → ℕ
 not_negative (pos n) = n

@@ -1,9 +1,9 @@
 -- METHOD 4 and 5: from members to the transform: the terms that each life adds to D and to H, lambda, load, truncation figure and mean.
-use Rattle.std.specs.Prelude.{Bool, ◌&&◌, ◌||◌, List, [], ◌∷◌, ◌++◌, ℕ, zero, suc, ◌+◌, ◌-◌, ◌*◌, ◌^◌, eqb, leb, ltb, ℤ, pos, ◌+ℤ◌, get_or, replicate}
+use Rattle.std.specs.Prelude.{Bool, ◌&&◌, ◌||◌, List, [], ◌∷◌, ◌++◌, ℕ, zero, suc, ◌+◌, ◌-◌, ◌*◌, ◌^◌, eqb, leb, ltb, ℤ, pos, ◌+ℤ◌, get_or, replicate, if◌then◌else◌}
 use Rattle.rounding.specs.Rounding.{near, up}
 use Rattle.fund.specs.declared.Frequencies.{Frequencies}
 use Rattle.fund.specs.declared.Life.{Life}
-use Rattle.fund.specs.Base.{if◌then◌else◌, total, alternate}
+use Rattle.fund.specs.Base.{total, alternate}
 use Rattle.fund.specs.Folding.{claim, stay, single}
 
 -- "A unit is 10^-12."

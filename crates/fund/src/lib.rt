@@ -10,7 +10,7 @@ ghost use Rattle.fund.specs.Refusals.{number_of};
 ghost use Rattle.fund.specs.Answer.{no_figures};
 
 // The fund record: the figures of a file's header lines, in their order.
-#[derive(Drop)]
+#[derive(Clone, Copy)]
 pub struct Fund {
     pub rates: u64,
     pub members: u64,
@@ -22,14 +22,14 @@ pub struct Fund {
 }
 
 // How often a place of group 2 is filled again, in thousandths: a deceased member's and a disabled member's.
-#[derive(Drop)]
+#[derive(Clone, Copy)]
 pub struct Frequencies {
     pub death: u64,
     pub disability: u64,
 }
 
 // A rate line: the death rate q and the disability rate i from an age on, until the next row's age, in millionths.
-#[derive(Drop)]
+#[derive(Clone, Copy)]
 pub struct Rate {
     pub age: u64,
     pub q: u64,
@@ -37,7 +37,7 @@ pub struct Rate {
 }
 
 // A member line: group 1 or 2, the amounts at death d and at disability e, and how many lives the line stands for.
-#[derive(Drop)]
+#[derive(Clone, Copy)]
 pub struct Member {
     pub age: u64,
     pub group: u64,
@@ -47,7 +47,7 @@ pub struct Member {
 }
 
 // One life, with the folded rates in force at its age.
-#[derive(Drop)]
+#[derive(Clone, Copy)]
 pub struct Life {
     pub group: u64,
     pub q: u64,
@@ -57,21 +57,21 @@ pub struct Life {
 }
 
 // The member record of the lent table: what each life of a member line is, and how many of them there are.
-#[derive(Drop)]
+#[derive(Clone, Copy)]
 pub struct ModelPoint {
     pub life: Life,
     pub lives: u64,
 }
 
 // A cell of a sheet: "A cell is either a number or a blank".
-#[derive(Drop)]
+#[derive(Clone, Copy)]
 pub enum SheetCell {
     Number(f64),
     Blank,
 }
 
 // A row of the rates' sheet: its age, q and i.
-#[derive(Drop)]
+#[derive(Clone, Copy)]
 pub struct RateFloats {
     pub age: f64,
     pub q: f64,
@@ -79,7 +79,7 @@ pub struct RateFloats {
 }
 
 // A row of the members' sheet, a record of five such floats: age, group, the amounts at death d and at disability e, and the lives.
-#[derive(Drop)]
+#[derive(Clone, Copy)]
 pub struct MemberFloats {
     pub age: f64,
     pub group: f64,
@@ -89,14 +89,14 @@ pub struct MemberFloats {
 }
 
 // What a cell is taken as, or that it is not taken.
-#[derive(Drop)]
+#[derive(Clone, Copy)]
 pub enum Taken {
     As(u64),
     Not,
 }
 
 // What a sheet's row is taken as; or one of its cells is not taken, or it is cut short.
-#[derive(Drop)]
+#[derive(Clone, Copy)]
 pub enum SheetRow {
     Rate(Rate),
     Member(Member),
@@ -104,7 +104,7 @@ pub enum SheetRow {
 }
 
 // Why pricing stops, in the order of METHOD 2's table; last (§6): "11 (cell)".
-#[derive(Drop)]
+#[derive(Clone, Copy)]
 pub enum Refusal {
     Form,
     Range,
@@ -120,21 +120,21 @@ pub enum Refusal {
 }
 
 // What a pricing call says of a file: it is accepted, or refused at a place.
-#[derive(Drop)]
+#[derive(Clone, Copy)]
 pub enum Verdict {
     Accepted,
     Refused(Refusal, u64),
 }
 
 // The deductible at a level: the first place where the running sum of the cells is at least the level, or none up to the horizon.
-#[derive(Drop)]
+#[derive(Clone, Copy)]
 pub enum Quantile {
     At(u64),
     None,
 }
 
 // A fund's figures beside its cells: the truncation figure E, the mean, the premium, the premium's bound, and the gross premium.
-#[derive(Drop)]
+#[derive(Clone, Copy)]
 pub struct Figures {
     pub truncation: u64,
     pub mean: u64,

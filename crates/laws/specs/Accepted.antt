@@ -1,5 +1,5 @@
 -- What acceptance says: none of the refusals' conditions holds (accepts). And what meets none of them is accepted (accepted_where).
-use Rattle.std.specs.Prelude.{◌≡◌, refl, Bool, true, false, not, ◌&&◌, ◌||◌, List, [], ◌∷◌, ◌++◌, map, ℕ, zero, suc, ◌≤◌, ◌<◌, eqb, leb, replicate}
+use Rattle.std.specs.Prelude.{◌≡◌, refl, Bool, true, false, not, ◌&&◌, ◌||◌, List, [], ◌∷◌, ◌++◌, map, ℕ, zero, suc, ◌≤◌, ◌<◌, eqb, leb, replicate, if◌then◌else◌}
 use Rattle.std.proofs.Common.{◌∙◌, ap, subst, arith, ltb-false, leb-false, le-ltb, eqb-true, eq-eqb}
 use Rattle.std.proofs.Math.Option.{Option, none, some}
 use Rattle.std.proofs.lemmas.Bool.{lt-leb, not-false}
@@ -8,7 +8,7 @@ use Rattle.fund.specs.declared.ModelPoint.{ModelPoint}
 use Rattle.fund.specs.declared.Refusal.{Refusal}
 use Rattle.fund.specs.declared.Verdict.{Verdict}
 use Rattle.fund.specs.declared.Verdict.TheVariants.{Accepted}
-use Rattle.fund.specs.Base.{if◌then◌else◌, table}
+use Rattle.fund.specs.Base.{table}
 use Rattle.fund.specs.Limits.{half_rate, most_load, most_truncation, most_bound}
 use Rattle.fund.specs.Reading.{FundFile}
 use Rattle.fund.specs.Folding.{points, copies, lives, claim, single}

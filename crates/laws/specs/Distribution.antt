@@ -8,7 +8,7 @@ use Rattle.std.proofs.Math.IntN.{nat_abs, sub_ℕ}
 use Rattle.std.specs.Int.Signed.{le_z}
 use Rattle.algebra.specs.Integer.{ℤ_ring}
 use Rattle.algebra.specs.Solver.{ring2, ring6, 𝟎, ◌⊕◌, ◌⊗◌, ◌⊝◌, ◌:=◌}
-use Rattle.algebra.specs.Q.{◌+◌ as ◌+ℚ◌, abs, abs_add, ≤_trans, ≤_of_eq}
+use Rattle.algebra.specs.Q.{◌+ℚ◌, abs, abs_add, ≤_trans, ≤_of_eq}
 use Rattle.algebra.specs.Embedding.{ofℤ, nat_add, ofℤ_add, nat_reflect, abs_ofℤ}
 use Rattle.fund.specs.Base.{sum, sumℤ}
 use Rattle.fund.specs.Quantile.{reaches}

@@ -1,13 +1,12 @@
 -- The rate in force: it is one of the rows (in_force_all); behind rows that are not above the age a row holds from its age until the next
 -- row's (row_holds), so that where ages rise the last row that is not above the age is in force (last_holds); there is none, and a member is
 -- unmatched, just in an empty table and for an age below the first row (unmatched_just).
-use Rattle.std.specs.Prelude.{◌≡◌, refl, Bool, true, false, List, [], ◌∷◌, ◌++◌, ℕ, ◌≤◌, ◌<◌, leb}
+use Rattle.std.specs.Prelude.{◌≡◌, refl, Bool, true, false, List, [], ◌∷◌, ◌++◌, ℕ, ◌≤◌, ◌<◌, leb, if◌then◌else◌}
 use Rattle.std.proofs.Common.{◌∙◌, ap, subst, arith, le-leb, leb-false}
 use Rattle.std.proofs.Math.Option.{Option, none, some}
 use Rattle.std.proofs.lemmas.Bool.{lt-leb}
 use Rattle.fund.specs.declared.Rate.{Rate}
 use Rattle.fund.specs.declared.Member.{Member}
-use Rattle.fund.specs.Base.{if◌then◌else◌}
 use Rattle.fund.specs.Folding.{held_until, rate_in_force}
 use Rattle.fund.specs.Refusals.{unmatched}
 use Rattle.laws.specs.Accepted.{All, all_map}

@@ -1,13 +1,13 @@
 -- The answer at a level: what a scan of the sums tells of it (quantile_above, quantile_at, quantile_none), and what the answer says of the
 -- sums (quantile_says).
-use Rattle.std.specs.Prelude.{◌≡◌, refl, Bool, true, false, List, [], ◌∷◌, ℕ, zero, suc, min, ◌+◌, ◌<◌, ◌≤◌, ℤ, pos, length, take}
+use Rattle.std.specs.Prelude.{◌≡◌, refl, Bool, true, false, List, [], ◌∷◌, ℕ, zero, suc, min, ◌+◌, ◌<◌, ◌≤◌, ℤ, pos, length, take, if◌then◌else◌}
 use Rattle.std.proofs.Common.{sym, ◌∙◌, subst, lt-ltb, le-ltb, length-take, get_or-take}
 use Rattle.std.proofs.Math.Path.{ap}
 use Rattle.std.proofs.Math.Option.{Option, none, some}
 use native.Mathlib.Omega.{arith}
 use Rattle.std.proofs.Math.ListN.{get_or}
 use Rattle.fund.specs.declared.Quantile.TheVariants.{At, None}
-use Rattle.fund.specs.Base.{if◌then◌else◌, table}
+use Rattle.fund.specs.Base.{table}
 use Rattle.fund.specs.Limits.{most_level}
 use Rattle.fund.specs.Refusals.{first}
 use Rattle.fund.specs.Quantile.{reaches, or_none, quantile, QuantileSays}

@@ -1,6 +1,6 @@
 -- What holds of every fund that is read: the header's figures are in their ranges, and so are all rate rows and member rows and
 -- their numbers; the ages of the rate rows rise (read_ranges).
-use Rattle.std.specs.Prelude.{◌≡◌, Bool, true, false, ◌&&◌, ℕ, zero, suc, ◌+◌, ◌≤◌, ◌<◌, eqb, leb, ltb, length, get_or}
+use Rattle.std.specs.Prelude.{◌≡◌, Bool, true, false, ◌&&◌, ℕ, zero, suc, ◌+◌, ◌≤◌, ◌<◌, eqb, leb, ltb, length, get_or, if◌then◌else◌}
 use Rattle.std.proofs.Math.Path.{refl, subst}
 use Rattle.std.proofs.Common.{sym, ◌∙◌, ap, arith, ltb-true, leb-true, eqb-true, length-append}
 use mathlib.Core.List.{List, [], ◌∷◌, ◌++◌, map, append-nil, append_assoc}
@@ -12,7 +12,7 @@ use Rattle.fund.specs.declared.Rate.{Rate}
 use Rattle.fund.specs.declared.Member.{Member}
 use Rattle.fund.specs.declared.Refusal.TheVariants.{Form, Range}
 use Rattle.fund.specs.Limits.{least_edition, most_edition, most_horizon, least_order, most_order, most_frequency, most_deductible, least_worth, most_worth, most_rates, most_age, most_rate, most_members, least_group, most_group, most_amount, least_lives, most_lives}
-use Rattle.fund.specs.Base.{if◌then◌else◌, total}
+use Rattle.fund.specs.Base.{total}
 use Rattle.fund.specs.Lines.{Line, lines}
 use Rattle.fund.specs.Spelling.{value, fields, all_numbers, numbers, behind, spelled}
 use Rattle.fund.specs.Reading.{FundFile, Reading, read, between, NumberRange, in_ranges, HeaderLine, header_lines, header_of, rising, rate_in_range, lives_in_all, member_in_range, read_rows, read_header, reading, file_rows}

@@ -1,5 +1,5 @@
 -- The numbers of a row that is taken from a sheet have at most seven digits (taken_short), and it is of the sheet's kind (rate_row_lem, member_row_lem).
-use Rattle.std.specs.Prelude.{◌≡◌, Bool, true, false, List, [], ◌∷◌, ◌++◌, map, ℕ, zero, suc, ◌≤◌, ◌<◌, eqb, ltb, length}
+use Rattle.std.specs.Prelude.{◌≡◌, Bool, true, false, List, [], ◌∷◌, ◌++◌, map, ℕ, zero, suc, ◌≤◌, ◌<◌, eqb, ltb, length, if◌then◌else◌}
 use Rattle.std.proofs.Common.{subst, arith}
 use Rattle.fund.specs.declared.Rate.{Rate}
 use Rattle.fund.specs.declared.Member.{Member}
@@ -10,7 +10,6 @@ use Rattle.fund.specs.declared.SheetRow.TheVariants.{Rate as RateRow, Member as 
 use Rattle.fund.specs.declared.Taken.{Taken}
 use Rattle.fund.specs.declared.Taken.TheVariants.{As, Not}
 use Rattle.fund.specs.Limits.{most_age, most_rate, least_group, most_group, most_amount, least_lives, most_lives}
-use Rattle.fund.specs.Base.{if◌then◌else◌}
 use Rattle.fund.specs.SheetCells.{or_else, seek, whole_of, rate_of, at_least, whole_in, amount_of, rate_in, rate_joined, member_joined, rate_taken, member_taken, rate_floats, member_floats, rate_width, member_width, rate_row_of, member_row_of}
 use Rattle.fund.specs.Sheets.{rows_of, sheet_rows}
 use Rattle.laws.specs.Accepted.{All, all_append, all_of}

@@ -1,12 +1,11 @@
 -- The tariff's law, for any figures: where a premium is within its bound of another, the gross premium is not below that one's loaded worth
 -- (gross_covers). And the loading's range (loading_le).
-use Rattle.std.specs.Prelude.{◌≡◌, refl, Bool, true, false, not, cond, ℕ, zero, suc, ◌+◌, ◌-◌, ◌*◌, ◌^◌, ◌<◌, ◌≤◌, T, ltb, ℤ, pos, negsuc, neg_ℤ, nat_abs, ◌-ℤ◌, ◌*ℤ◌, ◌≤ℤ◌}
+use Rattle.std.specs.Prelude.{◌≡◌, refl, Bool, true, false, not, cond, ℕ, zero, suc, ◌+◌, ◌-◌, ◌*◌, ◌^◌, ◌<◌, ◌≤◌, T, ltb, ℤ, pos, negsuc, neg_ℤ, nat_abs, ◌-ℤ◌, ◌*ℤ◌, ◌≤ℤ◌, if◌then◌else◌}
 use Rattle.std.proofs.Common.{sym, ◌∙◌, ap, arith, ltb→lt, nltb→le, le→leb}
 use Rattle.std.proofs.Math.Nat as N
 use Rattle.std.proofs.Math.IntN.{sub_ℕ}
 use Rattle.rounding.specs.Rounding.{up}
 use Rattle.rounding.proofs.Laws.{neg_below, up_low}
-use Rattle.fund.specs.Base.{if◌then◌else◌}
 use Rattle.fund.specs.Limits.{second_step, third_step, fourth_step, first_loading, second_loading, third_loading, fourth_loading}
 use Rattle.fund.specs.Tariff.{loading, not_negative, with_bound, gross}
 
@@ -14,7 +13,7 @@ pub loading_le : (M : ℕ) → loading M ≤ fourth_loading
 unfolding loading
 loading_le M = go (ltb M second_step) (ltb M third_step) (ltb M fourth_step)
   where
-    go : (a b c : Bool) → (if a then first_loading else if b then second_loading else if c then third_loading else fourth_loading) ≤ fourth_loading
+    go : (a b c : Bool) → (if a then first_loading else (if b then second_loading else (if c then third_loading else fourth_loading))) ≤ fourth_loading
     go true b c = omega arith
     go false true c = omega arith
     go false false true = omega arith

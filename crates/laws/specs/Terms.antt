@@ -1,8 +1,7 @@
 -- What the terms of two lists add to D and to H at a place.
-use Rattle.std.specs.Prelude.{◌≡◌, List, [], ◌∷◌, ◌++◌, ℕ, ◌+◌, eqb, ℤ, pos, ◌+ℤ◌}
+use Rattle.std.specs.Prelude.{◌≡◌, List, [], ◌∷◌, ◌++◌, ℕ, ◌+◌, eqb, ℤ, pos, ◌+ℤ◌, if◌then◌else◌}
 use Rattle.std.proofs.Common.{sym, ◌∙◌, ap, zero-add, add_assoc}
 use Rattle.std.proofs.Math.IntN.{+ℤ_idl, +ℤ_assoc}
-use Rattle.fund.specs.Base.{if◌then◌else◌}
 use Rattle.fund.specs.Transform.{Term, sum_d, sum_h}
 
 pub sum_d_append : (k : ℕ) (ts us : List Term) → sum_d k (ts ++ us) ≡ sum_d k ts +ℤ sum_d k us

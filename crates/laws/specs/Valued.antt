@@ -1,6 +1,6 @@
 -- The first of a table that meets a condition (first_none_of, first_some_of), and what is left of the refusals 7 to 10 where 7 to 9 have
 -- passed (valued_rest).
-use Rattle.std.specs.Prelude.{◌≡◌, Bool, true, false, List}
+use Rattle.std.specs.Prelude.{◌≡◌, Bool, true, false, List, if◌then◌else◌}
 use Rattle.std.proofs.Math.Path.{refl, ap}
 use Rattle.std.proofs.Common.{◌∙◌, lt-ltb, le-ltb}
 use Rattle.std.proofs.Math.Option.{none, some}
@@ -10,7 +10,7 @@ use Rattle.fund.specs.declared.Fund.{Fund}
 use Rattle.fund.specs.declared.Life.{Life}
 use Rattle.fund.specs.declared.Refusal.TheVariants.{Wide}
 use Rattle.fund.specs.declared.Verdict.TheVariants.{Accepted}
-use Rattle.fund.specs.Base.{if◌then◌else◌, table}
+use Rattle.fund.specs.Base.{table}
 use Rattle.fund.specs.Limits.{most_load, most_truncation, most_bound}
 use Rattle.fund.specs.Transform.{load, truncation}
 use Rattle.fund.specs.Recursion.{Cell}

@@ -1,11 +1,10 @@
 -- What all else knows of the frequencies: a member's two weights add to at most 5×10^12 units (weights_most), and a rate of 0 has no
 -- weight (death_none, disability_none). A rate of the member times a frequency is at most 5×10^9 (products).
-use Rattle.std.specs.Prelude.{◌≡◌, ℕ, ◌+◌, ◌*◌, ◌≤◌, eqb}
+use Rattle.std.specs.Prelude.{◌≡◌, ℕ, ◌+◌, ◌*◌, ◌≤◌, eqb, if◌then◌else◌}
 use Rattle.std.proofs.Common.{sym, ◌∙◌, ap, mul_comm, mul_assoc, mul-le-mul, zero-mul, arith}
 use Rattle.std.proofs.Math.Nat.{mul-le-mul_left}
 use Rattle.fund.specs.declared.Frequencies.{Frequencies}
 use Rattle.fund.specs.declared.Life.{Life}
-use Rattle.fund.specs.Base.{if◌then◌else◌}
 use Rattle.fund.specs.Limits.{most_rate, most_frequency}
 use Rattle.fund.specs.Folding.{claim}
 use Rattle.fund.specs.Transform.{death_weight, disability_weight}

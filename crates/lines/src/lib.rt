@@ -1,4 +1,7 @@
 // The lines of a fund file: the header's figures, what a line behind the header says, and the line that goes with a verdict.
+
+#![tactic(auto)]
+
 mod header;
 mod line;
 mod part;

@@ -7,15 +7,15 @@ ghost use Rattle.lines.specs.Lines.{line_in, LineInside, NextLine};
 use spelling::Numbers;
 
 // A line is the bytes from start to end; the next one starts at next, which is behind end where the line feed is there.
-#[derive(Drop)]
+#[derive(Clone, Copy)]
 pub(crate) struct Line {
     pub(crate) start: usize,
     pub(crate) end: usize,
     pub(crate) next: usize,
 }
 
-// Keeps the file's bytes and the position of the next line. The functions on it are proved by hand, so they are few: every
-// other function takes its lines by `next_line`, whose parameters are plain.
+// Keeps the file's bytes and the position of the next line. Every other function takes its lines by `next_line`, whose
+// parameters are plain.
 #[derive(Drop)]
 pub(crate) struct LineReader<'a> {
     file: &'a [u8],

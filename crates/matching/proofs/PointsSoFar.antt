@@ -68,7 +68,7 @@ module _ {rates : List Rate} {rated : ℕ} {members : List Member} {enrolled lin
       ap length s.points_are
       ∙ rows_length blank_point most_members (map (point (take rated rates)) (take k members)) (omega (arith, so_far, s.members_within))
 
-  module _ (member-left : k < enrolled) where
+  module _ (member_left : k < enrolled) where
     -- the row j is not above the member k's age
     pub next_rate : j < rated → (get_or rates j blank_rate).age ≤ (get_or members k blank_member).age → PointsSoFar rates rated members enrolled line points p k (j + 1)
     next_rate h e =
@@ -94,7 +94,7 @@ module _ {rates : List Rate} {rated : ℕ} {members : List Member} {enrolled lin
       no_rate z r e =
           let n : rate_in_force (take rated rates) (get_or members k blank_member).age ≡ none = in_force_lem ∙ rw z in
           let u : unmatched (take rated rates) (get_or members k blank_member) ≡ true = rw (n, unmatched) in
-          e ∙ rw (s.all_matched ∙ first_here members enrolled s.few_members blank_member (unmatched (take rated rates)) line k member-left u)
+          e ∙ rw (s.all_matched ∙ first_here members enrolled s.few_members blank_member (unmatched (take rated rates)) line k member_left u)
 
       pub its_rate : 0 < line → (i : ℕ) → j ≡ i + 1 → (l : Life) (p' : ℕ) → l ≡ folded (some (get_or rates i blank_rate)) (get_or members k blank_member) → p' ≡ (if eqb p 0 then (if half l then line + k else 0) else p) →
           PointsSoFar rates rated members enrolled line (set points k (record { life = l; lives = (get_or members k blank_member).lives })) p' (k + 1) 0
@@ -122,13 +122,13 @@ module _ {rates : List Rate} {rated : ℕ} {members : List Member} {enrolled lin
                 ∙ first_placed half_line x line p (map (point (take rated rates)) (take k members)) counted s.half_at
                 ∙ ap (λ n. placed (if eqb p 0 then (if half_line x then line + n else 0) else p)) so_far
                 ∙ ap placed (sym g);
-            all_matched = s.all_matched ∙ first_later members enrolled s.few_members blank_member (unmatched (take rated rates)) line k member-left u;
+            all_matched = s.all_matched ∙ first_later members enrolled s.few_members blank_member (unmatched (take rated rates)) line k member_left u;
             rate_held = refl;
           }
 
-  module _ (all-members : enrolled ≤ k) where
+  module _ (all_members : enrolled ≤ k) where
     none_five : first (unmatched (take rated rates)) line (take enrolled members) ≡ none
-    none_five = s.all_matched ∙ first_none members enrolled s.few_members blank_member (unmatched (take rated rates)) line k all-members
+    none_five = s.all_matched ∙ first_none members enrolled s.few_members blank_member (unmatched (take rated rates)) line k all_members
 
     all : k ≡ enrolled
     all = omega (arith, s.members_within)

@@ -1,4 +1,7 @@
 // Members matched with the rates in force at their ages: the refusals 3 to 6, and the model point of each member line.
+
+#![tactic(auto)]
+
 mod half;
 mod points;
 mod table;

@@ -3,7 +3,7 @@ ghost use Rattle.std.specs.Prelude.{◌≡◌, ◌+◌, ◌^◌, ◌≤◌, ◌<
 ghost use Rattle.std.proofs.Math.Option.{some};
 ghost use Rattle.fund.specs.Base.{if◌then◌else◌};
 ghost use Rattle.fund.specs.Limits.{most_rates, most_members};
-ghost use Rattle.fund.specs.Folding.{folded as foldedOf};
+ghost use Rattle.fund.specs.Folding.{folded as folded_of};
 ghost use Rattle.matching.specs.Points.{by_member};
 
 use crate::table::Matched;
@@ -22,7 +22,7 @@ fn counted(amount: u64, rate: u64) -> u64
 }
 
 fn folded(r: Rate, m: Member) -> Life
-    ensures { result ≡ foldedOf (some r) m }
+    ensures { result ≡ folded_of (some r) m }
 {
     Life {
         group: m.group,

@@ -1,7 +1,6 @@
 -- The lines of a file's first n bytes are the file's lines, up to the line in which the n bytes end (lines_cut).
-use Rattle.std.specs.Prelude.{◌≡◌, refl, Bool, true, false, List, [], ◌∷◌, ℕ, zero, suc, ◌+◌, ◌≤◌, eqb, length, take}
+use Rattle.std.specs.Prelude.{◌≡◌, refl, Bool, true, false, List, [], ◌∷◌, ℕ, zero, suc, ◌+◌, ◌≤◌, eqb, length, take, if◌then◌else◌}
 use Rattle.std.proofs.Common.{arith}
-use Rattle.fund.specs.Base.{if◌then◌else◌}
 use Rattle.fund.specs.Lines.{Line, begun, lines_from, lines}
 
 -- The lines of the first n bytes, then those of all bytes. Both are none; n is 0; the first line is the same, and of the n bytes

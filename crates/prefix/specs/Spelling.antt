@@ -1,11 +1,11 @@
 -- A line that is spelled right has at most its key's bytes and eight for each number. So a line is not spelled right where it is
 -- too long (long_line), or where it lacks its line feed (open_line).
-use Rattle.std.specs.Prelude.{◌≡◌, Bool, true, false, ◌&&◌, ℕ, suc, ◌+◌, ◌*◌, ◌≤◌, ◌<◌, eqb, leb, length}
+use Rattle.std.specs.Prelude.{◌≡◌, Bool, true, false, ◌&&◌, ℕ, suc, ◌+◌, ◌*◌, ◌≤◌, ◌<◌, eqb, leb, length, if◌then◌else◌}
 use Rattle.std.proofs.Math.Path.{refl}
 use mathlib.Core.List.{List, [], ◌∷◌, map}
 use Rattle.std.proofs.Math.Option.{Option, none, some}
 use Rattle.std.proofs.Common.{arith, leb-true, eqb-true}
-use Rattle.fund.specs.Base.{if◌then◌else◌, total}
+use Rattle.fund.specs.Base.{total}
 use Rattle.fund.specs.Lines.{Line}
 use Rattle.fund.specs.Spelling.{digits, is_number, value, in_first, fields, all_numbers, numbers, behind, spelled}
 use Rattle.laws.specs.Ranges.{and-true}

@@ -1,4 +1,6 @@
 // The deductible at a level of METHOD 7 (§1): the first place where the running sums of the cells reach the level.
+#![tactic(auto)]
+
 ghost use Rattle.std.specs.Prelude.{◌≡◌};
 ghost use Rattle.fund.specs.Quantile.{reaches, quantile};
 

@@ -1,4 +1,7 @@
 // From the bytes of a fund file to its header, rate rows and member rows, or the refusal and its line.
+
+#![tactic(auto)]
+
 mod body;
 mod row;
 

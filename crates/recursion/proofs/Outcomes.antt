@@ -2,7 +2,6 @@
 -- stopped_none), and what is left in each case (outcome_tested, outcome_steps, outcome_left).
 use mathlib.Core.Path.{◌≡◌, refl, sym, ◌∙◌, ap, ap₂, subst}
 use mathlib.Core.Bool.{true}
-use mathlib.Core.Logic.{⊎_elim}
 use mathlib.Core.List.{List, [], ◌∷◌, map}
 use Prim.Native.Nat.{ℕ, zero, suc, ◌+◌, ◌<◌}
 use native.Mathlib.Nat as N
@@ -11,8 +10,6 @@ use borrow.Author.Tests.{lt-ltb}
 use lib.IntN.{ℤ, pos, nat_abs}
 use lib.ListN.{length, drop, replicate, set, length-replicate}
 use lib.Seq.{get_or-set_same}
-use types.Run.{OneOf}
-use denote.Enum.Declared as Declared
 use Rattle.fund.specs.Base.{if◌then◌else◌, table}
 use Rattle.fund.specs.Recursion.{Cell}
 use Rattle.fund.specs.Refusals.{wide}
@@ -25,7 +22,6 @@ use Rattle.recursion_limits.specs.declared.Recursed.{Recursed}
 use Rattle.recursion_limits.specs.declared.Recursed.TheVariants.{Done, Short, Outside, Wide, Large}
 use Rattle.recursion_limits.specs.Limits.{most_cell, CellFits}
 use Rattle.recursion_limits.specs.Tests.{large, Kept, Tests}
-use Rattle.recursion_limits.specs.contracts.Recursed as R
 use Rattle.recursion_limits.proofs.TestedLimits.{small_cell, tested_kept}
 use Rattle.recursion.specs.Slices.{cell_in, entries_in}
 use Rattle.recursion.specs.Recursion.{stopped, cells_to, after, recursed, left_cells, leaves, recursion}
@@ -92,10 +88,6 @@ stopped_at at (suc n) (suc x) g a l h s =
     ∙ step_fits at (g 0) _ (h 0 (omega arith))
     ∙ stopped_at (suc at) n x (λ k. g (suc k)) a (omega arith) (λ k q. h (suc k) (omega arith)) (subst (λ m. (after : Recursed) → step m (g (suc x)) after ≡ a) (let e : at + suc x ≡ suc at + x = omega arith in e) s)
 
--- ---- what is left
-pub not_done : OneOf (1 ∷ 2 ∷ 3 ∷ 4 ∷ []) 0 → ⊥
-not_done o = ⊎_elim (λ e. omega arith) (λ o. ⊎_elim (λ e. omega arith) (λ o. ⊎_elim (λ e. omega arith) (λ e. omega arith) o) o) o
-
 module _ (X : ℕ) (d : List ℤ) (h : List ℕ) (start : Cell) (nf nr : ℕ) where
   abbrev cell : ℕ → Cell
   cell = cell_at (entries_in X d h) start
@@ -105,9 +97,9 @@ module _ (X : ℕ) (d : List ℤ) (h : List ℕ) (start : Cell) (nf nr : ℕ) wh
   are = cells_are (entries_in X d h) start X
 
   -- a limit is broken
-  pub outcome_tested : (f : List ℤ) (r : List ℕ) (a : Recursed) → OneOf (1 ∷ 2 ∷ 3 ∷ 4 ∷ []) (Declared.tag_of R.the_type a) → Tests X d h start nf nr a → CarriedOut X d h start nf nr f r a
+  pub outcome_tested : (f : List ℤ) (r : List ℕ) (a : Recursed) → (a ≡ Done → ⊥) → Tests X d h start nf nr a → CarriedOut X d h start nf nr f r a
   unfolding recursed
-  outcome_tested f r Done o t = absurd (not_done o)
+  outcome_tested f r Done o t = absurd (o refl)
   outcome_tested f r Short o t = ap (λ a. after a (stopped 0 (cells_to X d h start))) t
   outcome_tested f r (Outside k) o t = ap (λ a. after a (stopped 0 (cells_to X d h start))) t
   outcome_tested f r (Wide x) o t = ap (λ a. after a (stopped 0 (cells_to X d h start))) t
@@ -155,9 +147,9 @@ module _ (X : ℕ) (d : List ℤ) (h : List ℕ) (start : Cell) (nf nr : ℕ) wh
   outcome_left f f' r r' (Wide x) e g o s = rw (o, ← e, ← g) (ap₂ (left_cells (Wide x)) s.0 s.1)
   outcome_left f f' r r' (Large x) e g o s = rw (o, ← e, ← g) (ap₂ (left_cells (Large x)) s.0 s.1)
 
-pub settled_zeros : (f f' : List ℤ) (r r' : List ℕ) (a : Recursed) → OneOf (1 ∷ 2 ∷ 3 ∷ 4 ∷ []) (Declared.tag_of R.the_type a) →
+pub settled_zeros : (f f' : List ℤ) (r r' : List ℕ) (a : Recursed) → (a ≡ Done → ⊥) →
     (f' ≡ replicate (length f) (pos 0)) × (r' ≡ replicate (length r) 0) → Settled a f r f' r'
-settled_zeros f f' r r' Done o z = absurd (not_done o)
+settled_zeros f f' r r' Done o z = absurd (o refl)
 settled_zeros f f' r r' Short o z = z
 settled_zeros f f' r r' (Outside k) o z = z
 settled_zeros f f' r r' (Wide x) o z = z

@@ -1,5 +1,7 @@
 // The recursion of METHOD 6 on a transform and a start from anywhere: each f(x) and R(x) from D, H and the cells before it. The
 // limits that keep its sums within a word are tested first.
+#![tactic(auto)]
+
 mod places;
 mod products;
 mod steps;

@@ -8,7 +8,7 @@ const MOST_SMALL_SIZE: u64 = 35 * rounding::UNIT;
 const MOST_SMALL_ERROR: u64 = 9 * rounding::MILLION;
 
 // How many places are listed, and whether all entries at them are small.
-#[derive(Drop)]
+#[derive(Clone, Copy)]
 pub(crate) struct Places {
     pub(crate) count: usize,
     pub(crate) small: bool,

@@ -1,4 +1,6 @@
 // The limits of the recursion, tested in their order: X, the lengths of the slices, each H(k), then the sum of |D(k)| and the start.
+#![tactic(auto)]
+
 ghost use Rattle.std.specs.Prelude.{◌≡◌, ◌&&◌, [], ◌∷◌, ◌<◌, leb, nat_abs, length};
 ghost use Rattle.fund.specs.Limits.{most_bound};
 ghost use Rattle.fund.specs.Refusals.{any_short};
@@ -10,7 +12,7 @@ use fund::Fund;
 // What the recursion answers: all cells up to the horizon stand, a slice has fewer than X + 1 cells, a limit of the transform or of
 // the start is broken (at k for an H(k), else at 0), or the first x whose bound or whose |f| is above its limit. The tests here answer
 // one of the first three.
-#[derive(Drop)]
+#[derive(Clone, Copy)]
 pub enum Recursed {
     Done,
     Short,

@@ -1,4 +1,7 @@
 // What reading gives, from a file or from sheets: the header's figures and the rows, or a refusal; and whether a row is in range.
+
+#![tactic(auto)]
+
 mod ranges;
 
 ghost use Rattle.std.specs.Prelude.{◌≡◌};

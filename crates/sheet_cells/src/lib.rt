@@ -1,4 +1,7 @@
 // A row of a sheet, from its bytes to bits and floats, from floats to cells, from cells to numbers, and these to a rate or a member; or it is not taken.
+
+#![tactic(auto)]
+
 mod floats;
 mod number;
 

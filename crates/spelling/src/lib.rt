@@ -1,4 +1,6 @@
 // The spelling of a text: where a byte stands, whether a key begins it, and its numbers between commas.
+#![tactic(auto)]
+
 mod level;
 
 ghost use Rattle.std.specs.Prelude.{◌≡◌, false, ◌+◌, ◌≤◌, length, drop, replicate};

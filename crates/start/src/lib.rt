@@ -1,4 +1,6 @@
 // The sums that the start of METHOD 6's recursion is made of: the alternating sum of t(n), and the sum of its bounds c(n).
+#![tactic(auto)]
+
 ghost use Rattle.std.specs.Prelude.{◌≡◌, ◌*◌, ◌^◌, ◌<◌, ◌≤◌};
 ghost use Rattle.fund.specs.Limits.{most_load};
 ghost use Rattle.rounding.specs.Rounding.{near};
@@ -8,7 +10,7 @@ use fund::Fund;
 use rounding::UNIT;
 
 // The sum that f(0) starts from, and the sum that R(0) starts from.
-#[derive(Drop)]
+#[derive(Clone, Copy)]
 pub struct StartSum {
     pub negative: bool,
     pub size: u64,

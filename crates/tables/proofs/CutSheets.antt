@@ -22,7 +22,7 @@ use Rattle.fund.specs.Refusals.{first, unmatched, half, half_line, wide, any_sho
 use Rattle.fund.specs.Quantile.{running_sum}
 use Rattle.fund.specs.Distribution.{distribution_bound}
 use Rattle.fund.specs.Answer.{fund_terms, fund_start, fund_cells, fund_truncation, fund_mean, fund_premium, fund_within, fund_figures, line_at, part, refused, lent, accepted, answer_of, answer_to}
-use Rattle.fund.specs.Listing.{digits_within, decimal, signed_decimal, joined, cell_line, cell_lines, listed, refused_line, printed, horizon_in, listing_to, listing}
+use Rattle.fund.specs.Listing.{digits_within, decimal, signed_decimal, joined, cell_line, cell_lines, listed, refused_line, printed, horizon_in, listing_to}
 use Rattle.fund.specs.Limits.{most_rate}
 use Rattle.fund.specs.SheetCells.{least_first, cell_of, quotient, or_else, seek, whole_of, rate_of, at_least, whole_in, amount_of, member_joined, rate_row_of, member_row_of}
 use Rattle.fund.specs.Sheets.{row_count, row_at, rows_of, sheet_rows, read_sheet_rows, read_sheets, sheet_reading, sheet_listing}

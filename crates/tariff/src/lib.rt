@@ -1,4 +1,6 @@
 // The pool's tariff of METHOD 7 (§3): a premium and its bound, loaded by the deductible, in whole centimes.
+#![tactic(auto)]
+
 ghost use Rattle.std.specs.Prelude.{◌≡◌, ◌+◌, ◌*◌, ◌^◌, ◌<◌, ◌≤◌};
 ghost use Rattle.rounding.specs.Rounding.{up};
 ghost use Rattle.fund.specs.Tariff.{loading};
@@ -15,14 +17,14 @@ const PART: u64 = 100000000;
 const PARTS: u64 = 10000000;
 
 // A gross premium in whole centimes, or that the worth is not one that a fund may state.
-#[derive(Drop)]
+#[derive(Clone, Copy)]
 pub enum Gross {
     Centimes(u64),
     Outside,
 }
 
 // A number that may be more than a word: high * 10^15 + low.
-#[derive(Drop)]
+#[derive(Clone, Copy)]
 struct TwoWords {
     high: u64,
     low: u64,

@@ -14,14 +14,14 @@ pub use cells::{clear, clear_signed};
 const MOST_VALUE: u64 = 9223372036854775807;
 
 // A number by its sign and its magnitude.
-#[derive(Drop)]
+#[derive(Clone, Copy)]
 pub struct Signed {
     pub negative: bool,
     pub size: u64,
 }
 
 // The parts of a sum that are not negative and those that are, and the sum of the bounds that go with them.
-#[derive(Drop)]
+#[derive(Clone, Copy)]
 pub struct Sums {
     pub plus: u64,
     pub minus: u64,

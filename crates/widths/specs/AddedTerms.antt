@@ -1,11 +1,11 @@
 -- Terms added to the cells of two slices, one by one, and what the slices must have for that: cells up to the horizon, and in
 -- each of them room for all the terms.
-use Rattle.std.specs.Prelude.{true, ◌≡◌, List, [], ◌∷◌, ◌++◌, ℕ, ◌+◌, ◌*◌, ◌^◌, ◌≤◌, ◌<◌, ℤ, pos, nat_abs, ◌+ℤ◌, ◌*ℤ◌, length, get_or, set}
+use Rattle.std.specs.Prelude.{true, ◌≡◌, List, [], ◌∷◌, ◌++◌, ℕ, ◌+◌, ◌*◌, ◌^◌, ◌≤◌, ◌<◌, ℤ, pos, nat_abs, ◌+ℤ◌, ◌*ℤ◌, length, get_or, set, if◌then◌else◌}
 use Rattle.rounding.specs.Rounding.{near}
 use Rattle.fund.specs.declared.Frequencies.{Frequencies}
 use Rattle.fund.specs.declared.Life.{Life}
 use Rattle.fund.specs.declared.ModelPoint.{ModelPoint}
-use Rattle.fund.specs.Base.{if◌then◌else◌, total}
+use Rattle.fund.specs.Base.{total}
 use Rattle.fund.specs.Limits.{most_horizon, most_order}
 use Rattle.fund.specs.Folding.{single}
 use Rattle.fund.specs.Transform.{Term, placed, term_of, single_terms, replaced_terms}

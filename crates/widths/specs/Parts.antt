@@ -1,10 +1,9 @@
 -- What one life adds to lambda, to the load, to the truncation figure and to the mean:
 -- the summands of fund's definitions, by name.
-use Rattle.std.specs.Prelude.{ℕ, suc, ◌+◌, ◌-◌, ◌*◌, ◌^◌}
+use Rattle.std.specs.Prelude.{ℕ, suc, ◌+◌, ◌-◌, ◌*◌, ◌^◌, if◌then◌else◌}
 use Rattle.rounding.specs.Rounding.{up}
 use Rattle.fund.specs.declared.Frequencies.{Frequencies}
 use Rattle.fund.specs.declared.Life.{Life}
-use Rattle.fund.specs.Base.{if◌then◌else◌}
 use Rattle.fund.specs.Folding.{claim, stay, single}
 use Rattle.fund.specs.Transform.{unit, death_weight, disability_weight, w}
 

@@ -1,6 +1,6 @@
 -- The terms of equal lives, as the code adds them: the sign of row n, a number that is 0, the term of a row and column if it is
 -- placed (`term_room`, `placed_d`, `placed_h`), and the terms of group 2, of which H gains nothing.
-use Rattle.std.specs.Prelude.{◌≡◌, Bool, ◌&&◌, ◌||◌, ℕ, zero, suc, ◌+◌, ◌*◌, ◌%◌, ◌≤◌, ◌<◌, ltb, ℤ, nat_abs, neg_ℤ, ◌+ℤ◌, ◌*ℤ◌}
+use Rattle.std.specs.Prelude.{◌≡◌, Bool, ◌&&◌, ◌||◌, ℕ, zero, suc, ◌+◌, ◌*◌, ◌%◌, ◌≤◌, ◌<◌, ltb, ℤ, nat_abs, neg_ℤ, ◌+ℤ◌, ◌*ℤ◌, if◌then◌else◌}
 use Rattle.std.proofs.Math.Path.{refl, sym, ap}
 use Rattle.std.proofs.Common.{◌∙◌, add-one, arith}
 use Rattle.std.proofs.Math.Bool.{true, false}
@@ -15,7 +15,7 @@ use Rattle.rounding.specs.Rounding.{near}
 use Rattle.rounding.proofs.Laws.{near_zero}
 use Rattle.fund.specs.declared.Frequencies.{Frequencies}
 use Rattle.fund.specs.declared.Life.{Life}
-use Rattle.fund.specs.Base.{if◌then◌else◌, total, alternate}
+use Rattle.fund.specs.Base.{total, alternate}
 use Rattle.fund.specs.Folding.{single}
 use Rattle.fund.specs.Transform.{row, place_of, placed, term_of, row_terms, single_terms, death_weight, disability_weight, replaced_term, replaced_terms}
 use Rattle.laws.specs.Triangle.{v_most}

@@ -1,6 +1,6 @@
 -- The terms of all lines: each of them at a place up to the horizon and 0 at place 0 (`lines_sound`); so cells that were 0 hold D
 -- and H after the terms are added (`filled_d`, `filled_h`).
-use Rattle.std.specs.Prelude.{◌≡◌, refl, Bool, true, false, ◌&&◌, List, [], ◌∷◌, ◌++◌, ℕ, zero, suc, ◌+◌, ◌*◌, ◌≤◌, ◌<◌, eqb, leb, ltb, ℤ, pos, nat_abs, ◌+ℤ◌, ◌*ℤ◌, length, get_or, take, drop}
+use Rattle.std.specs.Prelude.{◌≡◌, refl, Bool, true, false, ◌&&◌, List, [], ◌∷◌, ◌++◌, ℕ, zero, suc, ◌+◌, ◌*◌, ◌≤◌, ◌<◌, eqb, leb, ltb, ℤ, pos, nat_abs, ◌+ℤ◌, ◌*ℤ◌, length, get_or, take, drop, if◌then◌else◌}
 use Rattle.std.proofs.Common.{sym, ◌∙◌, ap, ap₂, arith, leb-true, ltb-true, take-append-drop, ext_get_or, get_or-take, length-take-le}
 use Rattle.std.proofs.Math.Nat as N
 use Rattle.std.proofs.Math.Dec.{eqb-suc-zero}
@@ -8,7 +8,7 @@ use Rattle.std.proofs.Math.IntN.{+ℤ_idl, *ℤ-zero}
 use Rattle.fund.specs.declared.Frequencies.{Frequencies}
 use Rattle.fund.specs.declared.Life.{Life}
 use Rattle.fund.specs.declared.ModelPoint.{ModelPoint}
-use Rattle.fund.specs.Base.{if◌then◌else◌, table}
+use Rattle.fund.specs.Base.{table}
 use Rattle.fund.specs.Folding.{single}
 use Rattle.fund.specs.Transform.{Term, row, place_of, placed, term_of, row_terms, single_terms, replaced_term, replaced_terms, death_weight, disability_weight, sum_d, sum_h, D, H}
 use Rattle.laws.specs.Accepted.{All, all_map}

@@ -1,6 +1,6 @@
 -- Terms of equal lives: what c lives add to D and H is c times what one adds (sum_d_times, sum_h_times), and so are the sizes. So lines with
 -- their lives give the D and the H of all lives (D_lines, H_lines), and the sizes of all their terms (size_lines_D, size_lines_H).
-use Rattle.std.specs.Prelude.{◌≡◌, Bool, true, false, eqb, ℤ, pos, negsuc, neg_ℤ, nat_abs, ◌*ℤ◌, replicate}
+use Rattle.std.specs.Prelude.{◌≡◌, Bool, true, false, eqb, ℤ, pos, negsuc, neg_ℤ, nat_abs, ◌*ℤ◌, replicate, if◌then◌else◌}
 use Rattle.std.proofs.Math.Path.{refl, sym, ap₂}
 use Rattle.std.proofs.Common.{◌∙◌, ap, arith}
 use mathlib.Core.List.{List, [], ◌∷◌, ◌++◌}
@@ -11,7 +11,7 @@ use Rattle.algebra.specs.Integer.{*ℤ_distrib, neg_ℤ_*ℤ}
 use Rattle.fund.specs.declared.Frequencies.{Frequencies}
 use Rattle.fund.specs.declared.Life.{Life}
 use Rattle.fund.specs.declared.ModelPoint.{ModelPoint}
-use Rattle.fund.specs.Base.{if◌then◌else◌, total}
+use Rattle.fund.specs.Base.{total}
 use Rattle.fund.specs.Folding.{copies}
 use Rattle.fund.specs.Transform.{Term, terms, sum_d, sum_h, D, H}
 use Rattle.laws.specs.Terms.{sum_d_append, sum_h_append}

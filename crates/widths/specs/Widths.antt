@@ -1,7 +1,7 @@
 -- Why D and H never wrap: the sizes of all terms add up to at most 400,000 × 10^12 for D (`width_D`) and 10^9 for H
 -- (`width_H`), by the load. A row of the triangle adds up to at most the life's part of the load and 7 for each row before
 -- it, so a life of group 1 adds at most 12 × 4,095 times that.
-use Rattle.std.specs.Prelude.{◌≡◌, Bool, ◌&&◌, eqb, ltb, ℤ, nat_abs, length, get_or, take}
+use Rattle.std.specs.Prelude.{◌≡◌, Bool, ◌&&◌, eqb, ltb, ℤ, nat_abs, length, get_or, take, if◌then◌else◌}
 use Rattle.std.proofs.Math.Path.{refl}
 use Rattle.std.proofs.Common.{◌∙◌, ap, leb-true, leb-false, ltb-true, ltb-false, eq-eqb, ne_eqb}
 use Rattle.std.proofs.Math.Bool.{true, false}
@@ -15,7 +15,7 @@ use Rattle.rounding.specs.Rounding.{up}
 use Rattle.rounding.proofs.Laws.{near_below}
 use Rattle.fund.specs.declared.Frequencies.{Frequencies}
 use Rattle.fund.specs.declared.Life.{Life}
-use Rattle.fund.specs.Base.{if◌then◌else◌, total, sum}
+use Rattle.fund.specs.Base.{total, sum}
 use Rattle.fund.specs.Limits.{most_horizon, most_lives}
 use Rattle.fund.specs.Folding.{claim, stay, single}
 use Rattle.fund.specs.Transform.{unit, row, Term, place_of, placed, row_terms, single_terms, death_weight, disability_weight, replaced_term, replaced_terms, terms, sum_d, D, H, load}

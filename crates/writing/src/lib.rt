@@ -1,5 +1,7 @@
 // Puts bytes into a text. Each function puts one piece from a place on, and returns the place behind it. A piece for which the text
 // is too short is cut at the text's end.
+#![tactic(auto)]
+
 ghost use Rattle.std.specs.Prelude.{◌≡◌, [], ◌∷◌, ◌++◌, ◌+◌, ◌/◌, ◌^◌, ◌<◌};
 ghost use Rattle.fund.specs.Listing.{decimal, signed_decimal, joined};
 ghost use Rattle.writing.specs.Writing.{Puts};

@@ -1,0 +1,7 @@
+-- `matching::points::folded`: both rates count by their amounts.
+use Rattle.fund.specs.Folding.{folded}
+use Rattle.matching.proofs.points.folded.Goals as goal
+
+pub returns : goal.returns
+unfolding folded
+returns c = rw (c.counted.ensures, c.counted-2.ensures)
