@@ -1,4 +1,4 @@
-mod PointSums
+pub mod PointSums
 mod PointProduct
 mod InsideSoFar
 mod Caps

@@ -14,7 +14,7 @@ use tariff::Gross;
 use totals::Totals;
 
 // What a valuation answers beside the result slices.
-#[derive(Drop)]
+#[derive(Clone, Copy)]
 pub struct Valued {
     pub verdict: Verdict,
     pub figures: Figures,
