@@ -1,5 +1,4 @@
 -- A term that is not placed adds nothing; a placed one is what `add_term` adds at its place.
-use borrow.Author.Rules.{rules}
 use mathlib.Core.Path.{◌≡◌, sym, ◌∙◌}
 use mathlib.Core.Bool.{true}
 use Rattle.fund.specs.Transform.{placed}

@@ -1,5 +1,4 @@
 -- The group decides which terms are added. H gains nothing from group 2.
-use borrow.Author.Rules.{rules}
 use borrow.Author.Tests.{eq-eqb, ne_eqb}
 use Rattle.widths.specs.PlacedTerms.{life_single, life_replaced, replaced_none}
 use Rattle.transform.proofs.terms.add_point.Goals as goal
@@ -17,7 +16,7 @@ returns-then-p-eq-SINGLE c =
     let a = n.args in
     let e = life_single a.x.horizon a.x.order a.x.frequency a.p.life (eq-eqb _ _ n.if-p-eq-SINGLE.true) in
     let t = c.add_single.ensures in
-    record { d_is = rw e t.0; h_is = rw e t.1 }
+    record { d_is = rw e t.transform_after; h_is = rw e t.h_after }
 
 pub add_replaced-requires : goal.add_replaced-requires
 add_replaced-requires c =

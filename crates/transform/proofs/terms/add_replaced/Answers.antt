@@ -1,5 +1,4 @@
 -- The second term goes into the room that the first leaves. A weight is at most 10^6 × 5,000 × 1,000.
-use borrow.Author.Rules.{rules}
 use mathlib.Core.Path.{◌≡◌, sym, ◌∙◌, ap}
 use mathlib.Core.List.{List, ◌++◌}
 use native.Mathlib.Omega.{arith}

@@ -1,5 +1,4 @@
 -- Nothing is added for a rate of 0, at 0 or beyond the horizon; else the product, which is at most 5 × 10^12 × 4,095.
-use borrow.Author.Rules.{rules}
 use mathlib.Core.Path.{◌∙◌, ap}
 use Prim.Native.Nat.{◌+◌, ◌*◌, ◌^◌, ◌≤◌, ◌<◌}
 use native.Mathlib.Nat.{mul-le-mul}

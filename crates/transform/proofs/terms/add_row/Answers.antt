@@ -1,14 +1,14 @@
 -- After l turns the terms of the columns below l are added.
-use mathlib.Core.Path.{◌≡◌, ◌∙◌, ap}
-use Prim.Native.Nat.{◌+◌, ◌-◌, ◌≤◌}
+use mathlib.Core.Path.{◌∙◌, ap}
+use Prim.Native.Nat.{◌+◌, ◌≤◌}
 use native.Mathlib.Omega.{arith}
 use lib.ListN.{length, get_or}
-use Rattle.fund.specs.Transform.{row as row_of, row_terms}
-use Rattle.widths.specs.AddedTerms.{SingleRow, terms_at, times}
+use Rattle.fund.specs.Transform.{row_terms}
+use Rattle.widths.specs.AddedTerms.{terms_at, times}
 use Rattle.laws.specs.Triangle.{length_row}
 use Rattle.widths.specs.PlacedTerms.{row_start, row_goes}
 use Rattle.widths.specs.Times.{times_none, times_goes}
-use Rattle.widths.specs.FilledCells.{Filling, begin, turn_room, turn, end_d, end_h, long_d, long_h}
+use Rattle.widths.specs.FilledCells.{begin, turn_room, turn, end_d, end_h, long_d, long_h}
 use Rattle.transform.proofs.terms.add_row.Goals as goal
 use Rattle.transform.proofs.terms.add_row.Goals.{In-loop-l}
 
@@ -62,5 +62,5 @@ pub shape_of-h : goal.shape_of-h
 shape_of-h c = long_h c.loop-l.invariant.0
 
 pub returns : goal.returns
-returns c = 
+returns c =
     let f = c.loop-l.invariant.0 in record { transform_after = end_d f (omega arith); h_after = end_h f (omega arith) }

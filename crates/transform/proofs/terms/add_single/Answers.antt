@@ -1,16 +1,13 @@
 -- After n turns the row is row n, and the terms of the rows up to n are added.
-use mathlib.Core.Path.{◌≡◌, ◌∙◌, ap}
-use mathlib.Core.Bool.{true}
-use Prim.Native.Nat.{◌+◌, ◌-◌, ◌≤◌}
+use mathlib.Core.Path.{◌∙◌, ap}
+use Prim.Native.Nat.{◌+◌}
 use native.Mathlib.Omega.{arith}
-use Rattle.fund.specs.Folding.{single}
-use Rattle.fund.specs.Transform.{row as row_of, row_terms, single_terms}
-use Rattle.widths.specs.Lives.{InRange}
+use Rattle.fund.specs.Transform.{row_terms, single_terms}
 use Rattle.widths.specs.AddedTerms.{SingleRow, times}
 use Rattle.widths.specs.Triangle.{row_first}
 use Rattle.widths.specs.PlacedTerms.{single_start, single_goes}
 use Rattle.widths.specs.Times.{times_none, times_goes}
-use Rattle.widths.specs.FilledCells.{Filling, begin, turn_room, turn, end_d, end_h, long_d, long_h}
+use Rattle.widths.specs.FilledCells.{begin, turn_room, turn, end_d, end_h, long_d, long_h}
 use Rattle.transform.proofs.terms.add_single.Goals as goal
 
 pub loop-n-init : goal.loop-n-init
@@ -64,5 +61,5 @@ pub shape_of-h : goal.shape_of-h
 shape_of-h c = long_h c.loop-n.invariant.0
 
 pub returns : goal.returns
-returns c = 
+returns c =
     let f = c.loop-n.invariant.0 in record { transform_after = end_d f c.loop-n-test.false; h_after = end_h f c.loop-n-test.false }

@@ -1,16 +1,12 @@
 -- After n turns the row is row n, and the terms of the rows up to n are added.
-use mathlib.Core.Path.{◌≡◌, ◌∙◌, ap}
+use mathlib.Core.Path.{◌≡◌}
 use mathlib.Core.Bool.{true}
-use Prim.Native.Nat.{◌+◌, ◌-◌, ◌≤◌}
-use native.Mathlib.Omega.{arith}
+use Prim.Native.Nat.{◌-◌, ◌≤◌}
 use Rattle.fund.specs.Folding.{single}
-use Rattle.fund.specs.Transform.{row as row_of, row_terms, single_terms}
+use Rattle.fund.specs.Transform.{row as row_of, single_terms}
 use Rattle.widths.specs.Lives.{InRange}
-use Rattle.widths.specs.AddedTerms.{SingleRow, times}
-use Rattle.widths.specs.Triangle.{row_first}
-use Rattle.widths.specs.PlacedTerms.{single_start, single_goes}
-use Rattle.widths.specs.Times.{times_none, times_goes}
-use Rattle.widths.specs.FilledCells.{Filling, begin, turn_room, turn, end_d, end_h, long_d, long_h}
+use Rattle.widths.specs.AddedTerms.{times}
+use Rattle.widths.specs.FilledCells.{Filling}
 use Rattle.transform.proofs.terms.add_single.Given as goal
 
 abbrev pub invariant-loop-n : goal.invariant-loop-n

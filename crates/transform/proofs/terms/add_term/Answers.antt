@@ -1,5 +1,4 @@
 -- H's cell gains x for each life. D's cell gains nothing where v is 0, and else what `shift` adds or subtracts, by the parity of n.
-use borrow.Author.Rules.{rules}
 use mathlib.Core.Path.{◌≡◌, refl, ◌∙◌, ap}
 use Prim.Native.Nat.{◌*◌, ◌≤◌, ◌<◌}
 use native.Mathlib.Nat.{mul-le-mul, mul-zero}

@@ -1,5 +1,4 @@
 -- The sum before the division is below 5×10^17, and both products with it.
-use borrow.Author.Rules.{rules}
 use mathlib.Core.Path.{sym, ◌∙◌, ap}
 use Prim.Native.Nat.{ℕ}
 use native.Mathlib.Omega.{arith}

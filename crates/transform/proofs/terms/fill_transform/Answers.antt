@@ -17,8 +17,7 @@ add_point-requires c =
 pub loop-k-preserved : goal.loop-k-preserved
 loop-k-preserved c =
     let a = c.args in
-    let l = c.loop-k in
-    (
+    let l = c.loop-k in (
       omega arith,
       c.add_point.auto.transform ∙ l.invariant.1,
       c.add_point.auto.h ∙ l.invariant.2,

@@ -1,5 +1,4 @@
 -- The cell with the amount is the number itself: sizes up to 2^62 fit.
-use borrow.Author.Rules.{rules}
 use Rattle.widths.specs.Signed.{shifted_up, shifted_down}
 use Rattle.transform.proofs.terms.moved.Goals as goal
 

@@ -1,14 +1,11 @@
 -- The columns before l are those of row n + 1, and zeros stand from there; the number on the left is that of row n.
 use mathlib.Core.Path.{◌≡◌, refl, ◌∙◌}
-use Prim.Native.Nat.{◌+◌, ◌-◌, ◌≤◌, ◌<◌}
+use Prim.Native.Nat.{◌+◌}
 use native.Mathlib.Numerals.{add-one}
 use native.Mathlib.Omega.{arith}
-use lib.ListN.{length, length-set}
-use Rattle.fund.specs.Limits.{half_rate}
-use Rattle.fund.specs.Folding.{claim}
-use Rattle.fund.specs.Transform.{row as row_of}
-use Rattle.laws.specs.Triangle.{v as vOf, left as left_of, v_step, sum_below_lem}
-use Rattle.widths.specs.Triangle.{row_up_to, row_goes_on, row_made}
+use lib.ListN.{length-set}
+use Rattle.laws.specs.Triangle.{v as vOf, v_step, sum_below_lem}
+use Rattle.widths.specs.Triangle.{row_goes_on, row_made}
 use Rattle.transform.proofs.terms.next_row.Goals as goal
 
 pub overflow_add-last : goal.overflow_add-last

@@ -1,14 +1,12 @@
 -- The columns before l are those of row n + 1, and zeros stand from there; the number on the left is that of row n.
-use mathlib.Core.Path.{◌≡◌, refl, ◌∙◌}
+use mathlib.Core.Path.{◌≡◌}
 use Prim.Native.Nat.{◌+◌, ◌-◌, ◌≤◌, ◌<◌}
-use native.Mathlib.Numerals.{add-one}
-use native.Mathlib.Omega.{arith}
-use lib.ListN.{length, length-set}
+use lib.ListN.{length}
 use Rattle.fund.specs.Limits.{half_rate}
 use Rattle.fund.specs.Folding.{claim}
 use Rattle.fund.specs.Transform.{row as row_of}
-use Rattle.laws.specs.Triangle.{v as vOf, left as left_of, v_step, sum_below_lem}
-use Rattle.widths.specs.Triangle.{row_up_to, row_goes_on, row_made}
+use Rattle.laws.specs.Triangle.{left as left_of}
+use Rattle.widths.specs.Triangle.{row_up_to}
 use Rattle.transform.proofs.terms.next_row.Given as goal
 
 abbrev pub invariant-loop-l : goal.invariant-loop-l

@@ -1,5 +1,5 @@
 -- What is stored is what `moved` gives of the cell as it was read.
-use borrow.Author.Rules.{rules, sfits_of}
+use borrow.Author.Rules.{sfits_of}
 use mathlib.Core.Path.{◌∙◌, ap}
 use lib.IntN.{pos, ◌+ℤ◌}
 use lib.ListN.{get_or, set}
