@@ -1,5 +1,7 @@
 // The valuation of a fund: from its model points to the transform, the start, the recursion, the premium and their bounds, or the first of
 // the refusals 7 to 10.
+#![tactic(auto)]
+
 mod premium;
 mod sums;
 
