@@ -1,5 +1,7 @@
 // What the figures of two funds say of the premium's move from the old one to the new one, and what differs between their files beside the
 // editions and the rate lines.
+#![tactic(auto)]
+
 mod files;
 
 ghost use Rattle.std.specs.Prelude.{◌≡◌, ◌+◌, ◌^◌, ◌≤◌, pos, nat_abs, ◌+ℤ◌, ◌-ℤ◌};
@@ -74,6 +76,7 @@ fn below(z: i64, n: u64) -> i64
 }
 
 // The move of figures within the limits.
+#[tactic(auto, using(crate::proofs::GrossExcess::excess_small, crate::proofs::GrossExcess::gross_small))]
 fn move_of(old: Fund, before: Figures, new: Fund, after: Figures) -> Move
     requires { FiguresIn old before × FiguresIn new after }
     ensures { result ≡ move_of old before new after }
