@@ -21,7 +21,7 @@ const MOST_GROSS: u64 = 100000000000000000;
 
 // The premium's move, the most that arithmetic can have to do with it, and the ends of the interval in which the exact move lies, in units of
 // 10^-12; the move of the gross premium, and the ends of the interval in which that of the exact premium's loaded worth lies, in centimes.
-#[derive(Drop)]
+#[derive(Clone, Copy)]
 pub struct Move {
     pub premium: i64,
     pub arithmetic: u64,
