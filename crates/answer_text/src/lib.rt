@@ -1,5 +1,7 @@
 // The bytes of a listing, and of the line of an answer at a level. Each private function writes one piece into a text from a place on,
 // and returns the place behind it.
+#![tactic(auto)]
+
 ghost use Rattle.std.specs.Prelude.{◌≡◌, ◌*◌, ◌≤◌, length};
 ghost use Rattle.fund.specs.Listing.{cell_lines, refused_line};
 ghost use Rattle.writing.specs.Writing.{Puts, Written};

@@ -1,11 +1,16 @@
--- The excess of a gross premium is what the tariff answers for the bound with itself, and a centime (excess_is); and how large it is (excess_most).
+-- The excess of a gross premium is what the tariff answers for the bound with itself, and a centime (excess_is); and how large it is (excess_most,
+-- excess_small). And how large the gross premium's move is (gross_small).
 use mathlib.Core.Path.{◌≡◌, ◌∙◌, ap}
 use Prim.Native.Nat.{ℕ, ◌+◌, ◌*◌, ◌^◌, ◌≤◌}
 use native.Mathlib.Nat as N
 use native.Mathlib.Omega.{arith}
-use lib.IntN.{pos}
+use lib.IntN.{pos, nat_abs, ◌-ℤ◌}
+use mir.Syntax.{w64}
+use mir.Val.{to_z, of_z}
+use Rattle.std.proofs.lemmas.Int.{ints}
 use Rattle.rounding.specs.Rounding.{up}
 use Rattle.rounding.proofs.Laws.{up_least}
+use Rattle.fund.specs.declared.Figures.{Figures}
 use Rattle.fund.specs.declared.Fund.{Fund}
 use Rattle.fund.specs.Limits.{most_worth, least_worth, fourth_loading}
 use Rattle.fund.specs.Tariff.{loading, gross}
@@ -13,7 +18,7 @@ use Rattle.laws.specs.Tariff.{loading_le, with_bound_pos}
 use Rattle.tariff.specs.declared.Gross.TheVariants.{Centimes, Outside}
 use Rattle.tariff.specs.Gross.{gross_of}
 use Rattle.tariff.proofs.GrossAnswers.{gross_inside}
-use Rattle.moves.specs.Move.{excess, most_within}
+use Rattle.moves.specs.Move.{excess, most_within, most_gross, FiguresIn}
 
 module _ (fund : Fund) (within : ℕ) (low : least_worth ≤ fund.worth) (high : fund.worth ≤ most_worth) where
   twice : gross fund.deductible fund.worth (pos within) within ≡ up (2 * within * fund.worth * loading fund.deductible) (10 ^ 15)
@@ -36,3 +41,11 @@ module _ (fund : Fund) (within : ℕ) (low : least_worth ≤ fund.worth) (high :
       let b : 2 * within * fund.worth * loading fund.deductible ≤ 2 * most_within * most_worth * fourth_loading = N.mul-le-mul a (loading_le fund.deductible) in
       let k = up_least (2 * within * fund.worth * loading fund.deductible) (10 ^ 15) 42000000000 (omega arith) (omega (arith, b)) in
       omega arith
+
+-- Of figures within the limits.
+pub excess_small : (fund : Fund) (a : Figures) → FiguresIn fund a → excess fund a.within ≤ 100000000000
+excess_small fund a p = excess_most fund a.within p.worth_least p.worth_most p.within
+
+-- The gross premium's move, in a word.
+pub gross_small : (a b : ℕ) → a ≤ most_gross → b ≤ most_gross → nat_abs (to_z w64 (of_z w64 (to_z w64 a -ℤ pos b))) ≤ 200000000000000000
+gross_small a b h g = omega (arith, ints)

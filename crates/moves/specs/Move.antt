@@ -1,5 +1,5 @@
 -- METHOD 11: the move of the premium from an old fund to a new one, and the most that arithmetic can have to do with it.
-use Rattle.std.specs.Prelude.{Bool, ◌&&◌, ℕ, suc, ◌+◌, ◌*◌, ◌^◌, ◌≤◌, leb, ℤ, pos, nat_abs, ◌+ℤ◌, ◌-ℤ◌}
+use Rattle.std.specs.Prelude.{Bool, ◌&&◌, ℕ, suc, ◌+◌, ◌*◌, ◌^◌, ◌≤◌, leb, pos, nat_abs, ◌+ℤ◌, ◌-ℤ◌}
 use Rattle.rounding.specs.Rounding.{up}
 use Rattle.fund.specs.declared.Fund.{Fund}
 use Rattle.fund.specs.declared.Figures.{Figures}

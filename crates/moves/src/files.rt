@@ -10,7 +10,7 @@ use rows::FileRead;
 
 // The first header line from line 3 on that differs, and the first member line, counted from 1 among the member lines, with its line in the
 // old file and in the new one. 0 where none does.
-#[derive(Drop)]
+#[derive(Clone, Copy)]
 pub struct Differences {
     pub header: u64,
     pub member: u64,

@@ -1,5 +1,7 @@
 // What the figures of two funds say of the premium's move from the old one to the new one, and what differs between their files beside the
 // editions and the rate lines.
+#![tactic(auto)]
+
 mod files;
 
 ghost use Rattle.std.specs.Prelude.{◌≡◌, ◌+◌, ◌^◌, ◌≤◌, pos, nat_abs, ◌+ℤ◌, ◌-ℤ◌};
@@ -19,7 +21,7 @@ const MOST_GROSS: u64 = 100000000000000000;
 
 // The premium's move, the most that arithmetic can have to do with it, and the ends of the interval in which the exact move lies, in units of
 // 10^-12; the move of the gross premium, and the ends of the interval in which that of the exact premium's loaded worth lies, in centimes.
-#[derive(Drop)]
+#[derive(Clone, Copy)]
 pub struct Move {
     pub premium: i64,
     pub arithmetic: u64,
@@ -74,6 +76,7 @@ fn below(z: i64, n: u64) -> i64
 }
 
 // The move of figures within the limits.
+#[tactic(auto, using(crate::proofs::GrossExcess::excess_small, crate::proofs::GrossExcess::gross_small))]
 fn move_of(old: Fund, before: Figures, new: Fund, after: Figures) -> Move
     requires { FiguresIn old before × FiguresIn new after }
     ensures { result ≡ move_of old before new after }
