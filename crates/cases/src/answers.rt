@@ -3,9 +3,10 @@
 use crate::write;
 use fund_printing::Asked;
 use rows::FileRead;
+use std::io::Print;
 
 // Slices of one cell do for the line: the refusals that have one come before short.
-fn write_line(text: &[u8], found: FileRead) -> bool {
+fn write_line(rt: &impl Print, text: &[u8], found: FileRead) -> bool {
     let mut transform = [0i64; 1];
     let mut h = [0u64; 1];
     let mut f = [0i64; 1];
@@ -21,37 +22,49 @@ fn write_line(text: &[u8], found: FileRead) -> bool {
         &mut r,
         &mut sums,
     );
-    write(b"line=") && write(pricing::line(text, priced)) && write(b"\n")
+    write(rt, b"line=") && write(rt, pricing::line(text, priced)) && write(rt, b"\n")
 }
 
-fn write_of_file(asked: Asked, file: &[u8]) -> bool {
+fn write_of_file(rt: &impl Print, asked: Asked, file: &[u8]) -> bool {
     let mut text = [0u8; answer_text::ROOM];
     let size = fund_printing::print(asked, file, &mut text);
-    write(&text[..size])
+    write(rt, &text[..size])
 }
 
-pub(crate) fn write_file(file: &[u8], level: u64) -> bool {
-    write_of_file(Asked::Listing, file)
-        && write_line(file, reader::read(file))
-        && write_of_file(Asked::AtLevel(level), file)
-        && write(b"\n")
+pub(crate) fn write_file(rt: &impl Print, file: &[u8], level: u64) -> bool {
+    write_of_file(rt, Asked::Listing, file)
+        && write_line(rt, file, reader::read(file))
+        && write_of_file(rt, Asked::AtLevel(level), file)
+        && write(rt, b"\n")
 }
 
-fn write_of_sheets(asked: Asked, header: &[u8], rates: &[u8], members: &[u8]) -> bool {
+fn write_of_sheets(
+    rt: &impl Print,
+    asked: Asked,
+    header: &[u8],
+    rates: &[u8],
+    members: &[u8],
+) -> bool {
     let mut text = [0u8; answer_text::ROOM];
     let size = fund_printing::print_sheets(asked, header, rates, members, &mut text);
-    write(&text[..size])
+    write(rt, &text[..size])
 }
 
-pub(crate) fn write_sheets(header: &[u8], rates: &[u8], members: &[u8], level: u64) -> bool {
-    write_of_sheets(Asked::Listing, header, rates, members)
-        && write_line(header, sheet_reader::read(header, rates, members))
-        && write_of_sheets(Asked::AtLevel(level), header, rates, members)
-        && write(b"\n")
+pub(crate) fn write_sheets(
+    rt: &impl Print,
+    header: &[u8],
+    rates: &[u8],
+    members: &[u8],
+    level: u64,
+) -> bool {
+    write_of_sheets(rt, Asked::Listing, header, rates, members)
+        && write_line(rt, header, sheet_reader::read(header, rates, members))
+        && write_of_sheets(rt, Asked::AtLevel(level), header, rates, members)
+        && write(rt, b"\n")
 }
 
-pub(crate) fn write_comparison(old: &[u8], new: &[u8]) -> bool {
+pub(crate) fn write_comparison(rt: &impl Print, old: &[u8], new: &[u8]) -> bool {
     let mut text = [0u8; comparison_printing::ROOM];
     let size = comparison_printing::print(old, new, &mut text);
-    write(&text[..size]) && write(b"\n")
+    write(rt, &text[..size]) && write(rt, b"\n")
 }

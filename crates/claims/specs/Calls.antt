@@ -1,8 +1,7 @@
 -- What the public calls leave, as an outcome.
-use Rattle.std.specs.Prelude.{◌≡◌, ◌&&◌, List, [], ℕ, zero, suc, ◌+◌, ◌-◌, ◌≤◌, leb, ℤ, length, get_or, take, drop}
+use Rattle.std.specs.Prelude.{◌≡◌, ◌&&◌, List, [], ℕ, zero, suc, ◌+◌, ◌-◌, ◌≤◌, leb, ℤ, length, get_or, take, drop, if◌then◌else◌}
 use Rattle.fund.specs.declared.Quantile.{Quantile}
 use Rattle.fund.specs.declared.Quantile.TheVariants.{At, None}
-use Rattle.fund.specs.Base.{if◌then◌else◌}
 use Rattle.fund.specs.Refusals.{number_in, place_in}
 use Rattle.pricing.specs.declared.Priced.{Priced}
 use Rattle.miguepo.specs.Bits.{read_signed}

@@ -1,6 +1,5 @@
 -- METHOD 3 (§8): what a call that prices a file leaves, compared with the file whose member lines are written out as copies with lives 1.
-use Rattle.std.specs.Prelude.{◌≡◌, ◌||◌, List, ℕ, eqb}
-use Rattle.fund.specs.Base.{if◌then◌else◌}
+use Rattle.std.specs.Prelude.{◌≡◌, ◌||◌, List, ℕ, eqb, if◌then◌else◌}
 use Rattle.fund.specs.Reading.{FundFile, read, reading}
 use Rattle.fund.specs.Refusals.{Lengths, number_in, place_in}
 use Rattle.fund.specs.Quantile.{quantile_of}

@@ -1,6 +1,9 @@
 // What a customer may hold us to. Each function makes one public call and promises, in the plain words of specs/, what follows from
 // that call's contract alone; how near a listing and a line at a level are to the exact figures follows from the theorem over the
 // definitions. So a clause that is dropped from a contract fails here, where specs/ says it in words of its own; nothing stands on these words.
+
+#![tactic(auto)]
+
 mod comparing;
 mod reading;
 mod sheets;
@@ -20,6 +23,7 @@ use fund_printing::{Asked, PrintedInput};
 use input::Source;
 use pricing::Priced;
 use rows::FileRead;
+use std::io::{Empty, Read};
 
 // Demands 1, 2 and 3 of the pricing call, what its answer at the level says, and that a file is priced as the file with its member lines written out.
 pub fn claimed_price(
@@ -97,10 +101,15 @@ pub fn claimed_print(asked: Asked, file: &[u8], text: &mut [u8]) -> usize
 }
 
 // The same of standard input.
-pub fn claimed_input(asked: Asked, buffer: &mut [u8], text: &mut [u8]) -> PrintedInput
+pub fn claimed_input<R: Read + Drop>(
+    asked: Asked,
+    reader: R,
+    buffer: &mut [u8],
+    text: &mut [u8],
+) -> PrintedInput
     ensures { PrintsRead (Prints asked) buffer.new text.old text.new result.failed result.read result.size }
 {
-    fund_printing::print_input(asked, buffer, text)
+    fund_printing::print_input(asked, reader, buffer, text)
 }
 
 // The same of a file in memory, which is read as standard input is.
@@ -113,5 +122,5 @@ pub fn claimed_memory(
 ) -> PrintedInput
     ensures { PrintsFile (Prints asked) file.now pieces.now buffer.new text.old text.new result.failed result.read result.size }
 {
-    fund_printing::print_source(asked, Source::memory(), file, pieces, buffer, text)
+    fund_printing::print_source(asked, Source::<Empty>::memory(), file, pieces, buffer, text)
 }

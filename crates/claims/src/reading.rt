@@ -2,24 +2,35 @@
 ghost use Rattle.input.specs.Input.{ReadBytes, ReadDescriptor, ReadSource};
 
 use input::{FileBytes, Source};
+use std::io::{Eprint, Read};
+use std::rt::{Env, Files};
 
 // A file in memory, or a descriptor.
-pub fn claimed_source(source: Source, file: &[u8], pieces: &[u32], buffer: &mut [u8]) -> FileBytes
+pub fn claimed_source<R: Read + Drop>(
+    source: Source<R>,
+    file: &[u8],
+    pieces: &[u32],
+    buffer: &mut [u8],
+) -> FileBytes
     ensures { ReadSource source file.now pieces.now buffer.old buffer.new result }
 {
     input::read_source(source, file, pieces, buffer)
 }
 
-// A descriptor, below 0 that of a file that could not be opened.
-pub fn claimed_bytes(fd: i32, buffer: &mut [u8]) -> FileBytes
-    ensures { ReadDescriptor fd buffer.old buffer.new result }
+// A descriptor's reader, of a file that could not be opened none.
+pub fn claimed_bytes<R: Read + Drop>(reader: Option<R>, buffer: &mut [u8]) -> FileBytes
+    ensures { ReadDescriptor reader buffer.old buffer.new result }
 {
-    input::read_bytes(fd, buffer)
+    input::read_bytes(reader, buffer)
 }
 
 // The file that an argument names.
-pub fn claimed_argument_bytes(i: usize, buffer: &mut [u8]) -> FileBytes
+pub fn claimed_argument_bytes<R: Env + Files + Eprint>(
+    rt: &R,
+    i: usize,
+    buffer: &mut [u8],
+) -> FileBytes
     ensures { ReadBytes buffer.old buffer.new result }
 {
-    input::read_argument(i, buffer)
+    input::read_argument(rt, i, buffer)
 }

@@ -20,7 +20,8 @@ use Rattle.fund.specs.declared.Rate.{Rate}
 use Rattle.fund.specs.declared.Member.{Member}
 use Rattle.fund.specs.declared.Life.{Life}
 use Rattle.fund.specs.declared.ModelPoint.{ModelPoint}
-use Rattle.fund.specs.Base.{if◌then◌else◌, total}
+use Rattle.std.specs.Prelude.{if◌then◌else◌}
+use Rattle.fund.specs.Base.{total}
 use Rattle.fund.specs.Reading.{FundFile}
 use Rattle.fund.specs.Folding.{rate_in_force, folded, life, point, points, copies, lives, single}
 use Rattle.fund.specs.Transform.{mean}

@@ -11,7 +11,8 @@ use mir.Syntax.{w64}
 use mir.Val.{SFits}
 use Rattle.fund.specs.declared.Figures.{Figures}
 use Rattle.fund.specs.declared.Refusal.{Refusal}
-use Rattle.fund.specs.Base.{if◌then◌else◌, bytes}
+use Rattle.std.specs.Prelude.{if◌then◌else◌}
+use Rattle.fund.specs.Base.{bytes}
 use Rattle.fund.specs.Refusals.{number_of}
 use Rattle.fund.specs.Listing.{decimal, joined, refused_line}
 use Rattle.writing.proofs.NumberSizes.{decimal_word, pointed_word_2, pointed_word_12, signed_pointed_word_2, signed_pointed_word_12}

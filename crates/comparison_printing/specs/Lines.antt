@@ -1,9 +1,9 @@
 -- METHOD 11: the listing of a comparison: the lines of the old fund, those of the new one, and where both are accepted those of the move.
-use Rattle.std.specs.Prelude.{Bool, ◌&&◌, List, [], ◌∷◌, ◌++◌, ℕ, eqb, ℤ}
+use Rattle.std.specs.Prelude.{Bool, ◌&&◌, List, [], ◌∷◌, ◌++◌, ℕ, eqb, ℤ, if◌then◌else◌}
 use Rattle.fund.specs.declared.Figures.{Figures}
 use Rattle.fund.specs.declared.Verdict.{Verdict}
 use Rattle.fund.specs.declared.Verdict.TheVariants.{Accepted, Refused}
-use Rattle.fund.specs.Base.{if◌then◌else◌, bytes}
+use Rattle.fund.specs.Base.{bytes}
 use Rattle.fund.specs.Listing.{decimal, joined, refused_line}
 use Rattle.writing.specs.Pointed.{pointed, signed_pointed}
 use Rattle.moves.specs.declared.Move.{Move}

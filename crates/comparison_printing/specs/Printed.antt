@@ -1,6 +1,5 @@
 -- What `listing` and `print` write, where the text has room for every listing of a comparison; and what is said of the exact move.
-use Rattle.std.specs.Prelude.{◌≡◌, List, [], ℕ, leb, length}
-use Rattle.fund.specs.Base.{if◌then◌else◌}
+use Rattle.std.specs.Prelude.{◌≡◌, List, [], ℕ, leb, length, if◌then◌else◌}
 use Rattle.fund.specs.Reading.{FundFile, read, reading}
 use Rattle.fund.specs.Answer.{answer}
 use Rattle.fund.specs.Listing.{enough}

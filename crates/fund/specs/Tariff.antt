@@ -7,8 +7,8 @@ use Rattle.fund.specs.Limits.{second_step, third_step, fourth_step, first_loadin
 unfoldable pub loading : ℕ → ℕ
 loading M =
     if ltb M second_step then first_loading else
-    (if ltb M third_step then second_loading else
-    (if ltb M fourth_step then third_loading else fourth_loading))
+    if ltb M third_step then second_loading else
+    if ltb M fourth_step then third_loading else fourth_loading
 
 abbrev pub not_negative : ℤ → ℕ
 not_negative (pos n) = n

@@ -2,4 +2,3 @@ pub mod Bounded
 pub mod ShownListing
 pub mod Level
 pub mod ShownAsked
-pub mod Input

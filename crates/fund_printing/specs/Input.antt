@@ -18,7 +18,7 @@ pub record ReadsFirst (file pieces buffer : List ℕ) (size : ℕ) (failed : Boo
   pub reads : most_bytes ≤ length buffer → Reads file pieces (length buffer) 0 size failed
   pub bytes : take size buffer ≡ take size file
 
-pub record ReadFirst (source : Source) (file pieces before after : List ℕ) (r : FileBytes) : Type 0 where
+pub record ReadFirst {R : Type 0} (source : Source R) (file pieces before after : List ℕ) (r : FileBytes) : Type 0 where
   pub read : ReadBytes before after r
   pub holds : r.failed ≡ false → HoldsFirst after r.size
   pub memory : InMemory source → ReadsFirst file pieces after r.size r.failed

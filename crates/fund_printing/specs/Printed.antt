@@ -1,6 +1,5 @@
 -- What is printed of a fund: what is asked of it, its listing or the line of its answer at a level.
-use Rattle.std.specs.Prelude.{List, [], ℕ, leb, ℤ}
-use Rattle.fund.specs.Base.{if◌then◌else◌}
+use Rattle.std.specs.Prelude.{List, [], ℕ, leb, ℤ, if◌then◌else◌}
 use Rattle.fund.specs.Reading.{Reading, reading}
 use Rattle.fund.specs.Quantile.{quantile_of}
 use Rattle.fund.specs.Answer.{Answer, answer_to}

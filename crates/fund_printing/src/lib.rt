@@ -1,5 +1,8 @@
 // From a fund file's bytes, from standard input, or from a header text and two sheets, to the bytes of what is asked of the fund: its listing, or the
 // line of its answer at a level.
+
+#![tactic(auto)]
+
 mod sheets;
 
 ghost use Rattle.std.specs.Prelude.{◌≡◌, ◌≤◌, length, take};
@@ -10,9 +13,9 @@ ghost use Rattle.input.specs.Input.{InMemory};
 
 use fund::Fund;
 use input::{FileBytes, Source};
-use libc::STDIN_FILENO;
 use pricing::Priced;
 pub use sheets::print_sheets;
+use std::io::Read;
 
 // Cells enough for every horizon.
 pub(crate) const CELLS: usize = Fund::MOST_HORIZON as usize + 1;
@@ -21,7 +24,7 @@ pub(crate) const CELLS: usize = Fund::MOST_HORIZON as usize + 1;
 pub const MOST_BYTES: usize = 65536;
 
 // What is asked of a fund: its listing, or its answer at a level.
-#[derive(Drop)]
+#[derive(Clone, Copy)]
 pub enum Asked {
     Listing,
     AtLevel(u64),
@@ -104,7 +107,12 @@ fn print_first(asked: Asked, buffer: &[u8], size: usize, text: &mut [u8]) -> usi
 }
 
 // Reads into a buffer that has room for all that is read of a file; it fails where a read does, or where the buffer has no such room.
-fn read_first(source: Source, file: &[u8], pieces: &[u32], buffer: &mut [u8]) -> FileBytes
+fn read_first<R: Read + Drop>(
+    source: Source<R>,
+    file: &[u8],
+    pieces: &[u32],
+    buffer: &mut [u8],
+) -> FileBytes
     ensures { ReadFirst source file.now pieces.now buffer.old buffer.new result }
 {
     let found = input::read_source(source, file, pieces, buffer);
@@ -118,9 +126,9 @@ fn read_first(source: Source, file: &[u8], pieces: &[u32], buffer: &mut [u8]) ->
 }
 
 // What is asked of the fund that a source gives, which is read into the buffer.
-pub fn print_source(
+pub fn print_source<R: Read + Drop>(
     asked: Asked,
-    source: Source,
+    source: Source<R>,
     file: &[u8],
     pieces: &[u32],
     buffer: &mut [u8],
@@ -146,14 +154,19 @@ pub fn print_source(
     }
 }
 
-// What is asked of the fund of the file on standard input.
-pub fn print_input(asked: Asked, buffer: &mut [u8], text: &mut [u8]) -> PrintedInput
+// What is asked of the fund of the file on standard input, which the reader reads.
+pub fn print_input<R: Read + Drop>(
+    asked: Asked,
+    reader: R,
+    buffer: &mut [u8],
+    text: &mut [u8],
+) -> PrintedInput
     ensures shows_input { ShowsInput (shown asked) buffer.new text.old text.new result }
     ensures size_in_bounds { (result.size ≤ length text.new) × (result.size ≡ length (take result.size text.new)) }
 {
     print_source(
         asked,
-        Source::descriptor(STDIN_FILENO),
+        Source::descriptor(Some(reader)),
         b"",
         &[1u32],
         buffer,

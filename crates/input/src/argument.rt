@@ -1,9 +1,10 @@
 // Files that a program's arguments name.
+ghost use Rattle.std.specs.Prelude.{IsNone};
 ghost use Rattle.input.specs.Input.{ReadBytes, ReadDescriptor, opened_reader};
 
 use crate::{FileBytes, Noted, read_bytes, say};
 use std::env::{Env, FillError};
-use std::io::{Eprint, Error, Read};
+use std::io::{Eprint, Error, ErrorKind, Read};
 use std::rt::Files;
 use std::{fs, io};
 
@@ -17,6 +18,24 @@ pub fn argument_count(rt: &impl Env) -> usize {
     usize::MAX
 }
 
+// The argument i, in the buffer; of one that is missing or has no room there, nothing.
+pub fn argument_text<'a>(rt: &impl Env, i: usize, buffer: &'a mut [u8]) -> &'a [u8] {
+    match rt.arg(i, buffer) {
+        Ok(size) => &buffer[..size],
+        Err(_) => &[],
+    }
+}
+
+// What reads an open file; and why there is nothing that does.
+fn reader_of<F>(opened: io::Result<F>) -> (Option<Noted<F>>, Error)
+    ensures { IsNone (opened_reader opened) → IsNone result.0 }
+{
+    match opened {
+        Ok(file) => (Some(Noted::new(file)), Error::from(ErrorKind::Other)),
+        Err(error) => (None, error),
+    }
+}
+
 // Reads an open file and closes it; of one that cannot be opened or read, standard error says why.
 fn read_named<F: Read + Drop>(
     rt: &impl Eprint,
@@ -26,23 +45,16 @@ fn read_named<F: Read + Drop>(
 ) -> FileBytes
     ensures { ReadDescriptor (opened_reader opened) buffer.old buffer.new result }
 {
-    match opened {
-        Ok(file) => {
-            let mut file = Noted::new(file);
-            let read = read_bytes(Some(&mut file), buffer);
-            if read.failed {
-                say(rt, name, file.error());
-            }
-            read
-        }
-        Err(error) => {
-            let read = read_bytes::<F>(None, buffer);
-            if read.failed {
-                say(rt, name, error);
-            }
-            read
-        }
+    let (mut reader, refusal) = reader_of(opened);
+    let read = read_bytes(reader.as_mut(), buffer);
+    if read.failed {
+        let error = match &reader {
+            Some(reader) => reader.error(),
+            None => refusal,
+        };
+        say(rt, name, error);
     }
+    read
 }
 
 // The system's numbers of the errors of an argument that is missing, of one that is too long, and of one that is no text.

@@ -8,7 +8,7 @@ mod source;
 
 ghost use Rattle.input.specs.Input.{ReadSource, ReadDescriptor};
 
-pub use argument::{argument_count, read_argument};
+pub use argument::{argument_count, argument_text, read_argument};
 pub use said::{Noted, say};
 pub use source::Source;
 use std::io::Read;

@@ -13,7 +13,7 @@ pub loading_le : (M : ℕ) → loading M ≤ fourth_loading
 unfolding loading
 loading_le M = go (ltb M second_step) (ltb M third_step) (ltb M fourth_step)
   where
-    go : (a b c : Bool) → (if a then first_loading else (if b then second_loading else (if c then third_loading else fourth_loading))) ≤ fourth_loading
+    go : (a b c : Bool) → (if a then first_loading else if b then second_loading else if c then third_loading else fourth_loading) ≤ fourth_loading
     go true b c = omega arith
     go false true c = omega arith
     go false false true = omega arith

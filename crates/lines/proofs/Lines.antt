@@ -10,7 +10,7 @@ use borrow.Author.Tests.{lt-ltb, le-ltb}
 use lib.Dec.{eqb, ltb, leb-suc-suc}
 use lib.ListN.{length, take, drop, get_or, length-drop, drop_of_length-le}
 use lib.Seq.{drop-drop, length-take-le, take_all}
-use Rattle.fund.specs.Base.{if◌then◌else◌}
+use Rattle.std.specs.Prelude.{if◌then◌else◌}
 use Rattle.fund.specs.Lines.{Line as FundLine, begun, lines_from, lines}
 use Rattle.fund.specs.Spelling.{behind, numbers, spelled}
 use Rattle.fund.specs.Answer.{empty, line_at}

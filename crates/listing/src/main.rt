@@ -1,17 +1,22 @@
 // Prints the listing of the fund file on standard input, or the refusal's line.
-use fund_printing::Asked;
-use libc::STDOUT_FILENO;
 
-fn main() {
+#![tactic(auto)]
+
+use fund_printing::Asked;
+use input::Noted;
+use std::io::Print;
+
+fn main(rt: HostRuntime) {
     let mut file = [0u8; fund_printing::MOST_BYTES];
     let mut text = [0u8; answer_text::ROOM];
-    let printed = fund_printing::print_input(Asked::Listing, &mut file, &mut text);
+    let mut reader = Noted::new(rt.stdin());
+    let printed = fund_printing::print_input(Asked::Listing, &mut reader, &mut file, &mut text);
     if printed.failed {
-        os::fail(b"standard input");
+        input::say(&rt, "standard input", reader.error());
         return;
     }
     let size = printed.size;
-    if !io::write_all(STDOUT_FILENO, &text[..size]) {
-        os::fail(b"standard output");
+    if let Err(error) = rt.write_all(&text[..size]) {
+        input::say(&rt, "standard output", error);
     }
 }

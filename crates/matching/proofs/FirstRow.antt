@@ -12,7 +12,7 @@ use lib.Dec.{eqb, leb, eqb-suc-zero}
 use lib.ListN.{length, take, drop, get_or, drop_of_length-le}
 use lib.Seq.{drop-cons, length-take-le, get_or-take}
 use Rattle.fund.specs.declared.Rate.{Rate}
-use Rattle.fund.specs.Base.{if◌then◌else◌}
+use Rattle.std.specs.Prelude.{if◌then◌else◌}
 use Rattle.fund.specs.Folding.{held_until}
 use Rattle.fund.specs.Refusals.{first}
 use Rattle.laws.specs.Rows.{blank_rate}

@@ -16,7 +16,7 @@ use Rattle.fund.specs.declared.Life.{Life}
 use Rattle.fund.specs.declared.ModelPoint.{ModelPoint}
 use Rattle.fund.specs.declared.Refusal.TheVariants.{Unmatched, Half}
 use Rattle.fund.specs.declared.Verdict.TheVariants.{Accepted, Refused}
-use Rattle.fund.specs.Base.{if◌then◌else◌}
+use Rattle.std.specs.Prelude.{if◌then◌else◌}
 use Rattle.fund.specs.Limits.{most_members}
 use Rattle.fund.specs.Folding.{held_until, rate_in_force, folded, life, point}
 use Rattle.fund.specs.Refusals.{first, unmatched, half, half_line, refuse}

@@ -1,5 +1,5 @@
 -- What the matching of members with rates answers.
-use Rattle.std.specs.Prelude.{◌&&◌, List, [], ℕ, leb, take}
+use Rattle.std.specs.Prelude.{◌&&◌, List, [], ℕ, leb, take, if◌then◌else◌}
 use Rattle.fund.specs.declared.Fund.{Fund}
 use Rattle.fund.specs.declared.Rate.{Rate}
 use Rattle.fund.specs.declared.Member.{Member}
@@ -7,7 +7,6 @@ use Rattle.fund.specs.declared.ModelPoint.{ModelPoint}
 use Rattle.fund.specs.declared.Refusal.TheVariants.{Range}
 use Rattle.fund.specs.declared.Verdict.{Verdict}
 use Rattle.fund.specs.declared.Verdict.TheVariants.{Accepted, Refused}
-use Rattle.fund.specs.Base.{if◌then◌else◌}
 use Rattle.fund.specs.Limits.{most_rates, most_members}
 use Rattle.fund.specs.Reading.{FundFile}
 use Rattle.fund.specs.Folding.{points}

@@ -1,6 +1,5 @@
 // 6: "group 1, q + i at least 500,000 after folding".
-ghost use Rattle.std.specs.Prelude.{◌≡◌, eqb};
-ghost use Rattle.fund.specs.Base.{if◌then◌else◌};
+ghost use Rattle.std.specs.Prelude.{◌≡◌, eqb, if◌then◌else◌};
 ghost use Rattle.fund.specs.Refusals.{half};
 
 use fund::{Fund, Life};

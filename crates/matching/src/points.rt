@@ -1,7 +1,6 @@
 // The model point of each member line: its amounts and the folded rates in force at its age, and how many lives it stands for.
-ghost use Rattle.std.specs.Prelude.{◌≡◌, ◌+◌, ◌^◌, ◌≤◌, ◌<◌, eqb, take};
+ghost use Rattle.std.specs.Prelude.{◌≡◌, ◌+◌, ◌^◌, ◌≤◌, ◌<◌, eqb, take, if◌then◌else◌};
 ghost use Rattle.std.proofs.Math.Option.{some};
-ghost use Rattle.fund.specs.Base.{if◌then◌else◌};
 ghost use Rattle.fund.specs.Limits.{most_rates, most_members};
 ghost use Rattle.fund.specs.Folding.{folded as folded_of};
 ghost use Rattle.matching.specs.Points.{by_member};

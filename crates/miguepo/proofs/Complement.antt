@@ -9,7 +9,7 @@ use lib.Signed.{lt_z}
 use mir.Syntax.{w64}
 use mir.Val.{SFits, to_z, of_z}
 use Rattle.whole.proofs.Signs.{sign}
-use Rattle.fund.specs.Base.{if◌then◌else◌}
+use Rattle.std.specs.Prelude.{if◌then◌else◌}
 use Rattle.miguepo.specs.Bits.{bits_of, read_signed}
 
 below_at : (z : ℤ) → lt_z z (pos 0) ≡ true → 0xffff_ffff_ffff_ffff - (nat_abs z - 1) ≡ bits_of z

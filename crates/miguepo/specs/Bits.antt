@@ -1,6 +1,5 @@
 -- The bits of a signed word.
-use Rattle.std.specs.Prelude.{ℕ, ◌-◌, ◌^◌, ltb, ℤ, pos, negsuc}
-use Rattle.fund.specs.Base.{if◌then◌else◌}
+use Rattle.std.specs.Prelude.{ℕ, ◌-◌, ◌^◌, ltb, ℤ, pos, negsuc, if◌then◌else◌}
 
 -- Two's complement.
 unfoldable pub bits_of : ℤ → ℕ

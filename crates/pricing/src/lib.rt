@@ -1,4 +1,6 @@
 // One call prices a fund: from the bytes of its file, or of its header text and two sheets, to its figures and cells, or to the refusal and its place.
+#![tactic(auto)]
+
 ghost use Rattle.std.specs.Prelude.{◌≡◌};
 ghost use Rattle.fund.specs.Reading.{reading};
 ghost use Rattle.fund.specs.Quantile.{quantile_of};
@@ -15,7 +17,7 @@ use valuation::{Valued, refuse};
 
 // What a call answers beside the result slices: the verdict, where the part of the host's bytes that goes with it starts and
 // ends, the horizon of a fund that is accepted, the figures, and the answer at the level.
-#[derive(Drop)]
+#[derive(Clone, Copy)]
 pub struct Priced {
     pub verdict: Verdict,
     pub start: usize,

@@ -10,7 +10,8 @@ use borrow.Author.Tests.{lt-ltb}
 use lib.IntN.{ℤ, pos, nat_abs}
 use lib.ListN.{length, drop, replicate, set, length-replicate}
 use lib.Seq.{get_or-set_same}
-use Rattle.fund.specs.Base.{if◌then◌else◌, table}
+use Rattle.std.specs.Prelude.{if◌then◌else◌}
+use Rattle.fund.specs.Base.{table}
 use Rattle.fund.specs.Recursion.{Cell}
 use Rattle.fund.specs.Refusals.{wide}
 use Rattle.fund.specs.Answer.{lent}

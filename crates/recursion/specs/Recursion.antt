@@ -1,6 +1,5 @@
 -- What a call of the recursion answers and leaves, for any transform, any start and any lengths of the slices for f and R.
-use Rattle.std.specs.Prelude.{List, [], ◌∷◌, map, reverse, ℕ, suc, ℤ, pos, replicate}
-use Rattle.fund.specs.Base.{if◌then◌else◌}
+use Rattle.std.specs.Prelude.{List, [], ◌∷◌, map, reverse, ℕ, suc, ℤ, pos, replicate, if◌then◌else◌}
 use Rattle.fund.specs.Recursion.{Cell, cells}
 use Rattle.fund.specs.Refusals.{wide}
 use Rattle.fund.specs.Answer.{lent}

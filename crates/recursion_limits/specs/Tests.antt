@@ -1,7 +1,7 @@
 -- The tests of the limits in their order, and what they tell.
-use Rattle.std.specs.Prelude.{◌≡◌, Bool, ◌||◌, ◌⊎◌, List, [], ◌∷◌, ℕ, suc, ◌<◌, ◌≤◌, ltb, ℤ, nat_abs, length, get_or}
+use Rattle.std.specs.Prelude.{◌≡◌, Bool, ◌||◌, ◌⊎◌, List, [], ◌∷◌, ℕ, suc, ◌<◌, ◌≤◌, ltb, ℤ, nat_abs, length, get_or, if◌then◌else◌}
 use Rattle.std.proofs.Math.Option.{Option, none, some}
-use Rattle.fund.specs.Base.{if◌then◌else◌, table}
+use Rattle.fund.specs.Base.{table}
 use Rattle.fund.specs.Limits.{most_horizon}
 use Rattle.fund.specs.Recursion.{Cell}
 use Rattle.fund.specs.Refusals.{first, wide, any_short}

@@ -1,4 +1,7 @@
 // From a header text and two sheets of binary64 cells to a fund's header, rate rows and member rows, or the refusal and its place.
+
+#![tactic(auto)]
+
 mod body;
 
 ghost use Rattle.std.specs.Prelude.{◌≡◌};

@@ -1,12 +1,14 @@
 // Prints the listing of a fund in a header text and two sheets, or the refusal's line. The arguments are the paths of the header text, of
 // the rates and of the members.
-use fund_printing::Asked;
-use libc::STDERR_FILENO;
 
-fn main() {
-    if os::arg_count() != 4 {
-        io::write_all(STDERR_FILENO, b"usage: sheets HEADER RATES MEMBERS\n");
+#![tactic(auto)]
+
+use fund_printing::Asked;
+
+fn main(rt: HostRuntime) {
+    if input::argument_count(&rt) != 4 {
+        let _ = eprintln!(rt; "usage: sheets HEADER RATES MEMBERS");
         return;
     }
-    sheet_files::print_files(Asked::Listing);
+    sheet_files::print_files(&rt, Asked::Listing);
 }

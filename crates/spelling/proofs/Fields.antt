@@ -10,7 +10,7 @@ use borrow.Author.Tests.{eqb-true, eqb-false, eq-eqb, ne_eqb}
 use lib.Dec.{eqb, eqb-suc-suc}
 use lib.ListN.{length, take, drop, set, length-drop}
 use lib.Seq.{take-suc-set, take_all, drop-drop}
-use Rattle.fund.specs.Base.{if◌then◌else◌}
+use Rattle.std.specs.Prelude.{if◌then◌else◌}
 use Rattle.fund.specs.Spelling.{is_number, value, in_first, fields, all_numbers, numbers}
 use Rattle.spelling.specs.declared.Number.TheVariants.{Value, Misspelled}
 use Rattle.spelling.specs.Text.{before, read_number}

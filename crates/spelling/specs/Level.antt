@@ -1,6 +1,5 @@
 -- The level that an argument says.
-use Rattle.std.specs.Prelude.{Bool, ◌&&◌, List, ℕ, ◌^◌, ltb, length}
-use Rattle.fund.specs.Base.{if◌then◌else◌}
+use Rattle.std.specs.Prelude.{Bool, ◌&&◌, List, ℕ, ◌^◌, ltb, length, if◌then◌else◌}
 use Rattle.fund.specs.Spelling.{digits, value}
 use Rattle.spelling.specs.declared.level.Argument.{Argument}
 use Rattle.spelling.specs.declared.level.Argument.TheVariants.{Level, Misspelled}

@@ -1,7 +1,6 @@
 -- What the functions on a text answer, in the words of the fund's definitions.
-use Rattle.std.specs.Prelude.{◌≡◌, Bool, true, false, List, [], ◌∷◌, ℕ, suc, eqb, leb, take, drop, replicate}
+use Rattle.std.specs.Prelude.{◌≡◌, Bool, true, false, List, [], ◌∷◌, ℕ, suc, eqb, leb, take, drop, replicate, if◌then◌else◌}
 use Rattle.std.proofs.Math.Option.{Option, none, some}
-use Rattle.fund.specs.Base.{if◌then◌else◌}
 use Rattle.fund.specs.Spelling.{is_number, value, numbers}
 use Rattle.spelling.specs.declared.Number.{Number}
 use Rattle.spelling.specs.declared.Number.TheVariants.{Value, Misspelled}

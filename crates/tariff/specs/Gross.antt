@@ -1,7 +1,6 @@
 -- What the tariff answers for any terms, premium and bound.
-use Rattle.std.specs.Prelude.{◌≡◌, ℕ, ◌+◌, ◌*◌, ◌^◌, ◌<◌, ◌≤◌, ℤ}
+use Rattle.std.specs.Prelude.{◌≡◌, ℕ, ◌+◌, ◌*◌, ◌^◌, ◌<◌, ◌≤◌, ℤ, if◌then◌else◌}
 use Rattle.fund.specs.declared.Fund.{Fund}
-use Rattle.fund.specs.Base.{if◌then◌else◌}
 use Rattle.fund.specs.Limits.{least_worth, most_worth}
 use Rattle.fund.specs.Reading.{between}
 use Rattle.fund.specs.Tariff.{with_bound, gross}

@@ -1,6 +1,6 @@
 -- What `a && b` tells: b where a holds (followed), and nothing where it fails (skipped).
 use mathlib.Core.Path.{◌≡◌, sym, ◌∙◌}
-use mathlib.Core.Bool.{Bool, true, false, true≢false}
+use mathlib.Core.Bool.{Bool, false, true≢false}
 use Prim.Native.Nat.{ℕ, ◌≤◌}
 use lib.Dec.{leb}
 use Rattle.laws.specs.Tells.{Tells, tells_le}

@@ -1,5 +1,6 @@
-pub mod PointElement
-mod PointSums
+pub mod PointSums
+mod PointProduct
+mod InsideSoFar
 mod Caps
 mod Conjunctions
 mod StartProduct

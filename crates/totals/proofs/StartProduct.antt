@@ -12,7 +12,7 @@ use Rattle.rounding.proofs.Laws.{near_below}
 use Rattle.whole.specs.Sign.{signed}
 use Rattle.whole.proofs.Signs.{nearest_times}
 use Rattle.fund.specs.declared.Life.{Life}
-use Rattle.fund.specs.Base.{if◌then◌else◌}
+use Rattle.std.specs.Prelude.{if◌then◌else◌}
 use Rattle.fund.specs.Folding.{stay, single}
 use Rattle.fund.specs.Limits.{most_rate}
 use Rattle.fund.specs.Recursion.{multiplied}

@@ -1,8 +1,8 @@
 -- What the functions of the module product say: the product with p of each group 1 member.
-use Rattle.std.specs.Prelude.{◌≡◌, Bool, List, ℕ, ◌+◌, ◌*◌, ◌≤◌, length, replicate}
+use Rattle.std.specs.Prelude.{◌≡◌, Bool, List, ℕ, ◌+◌, ◌*◌, ◌≤◌, length, replicate, if◌then◌else◌}
 use Rattle.fund.specs.declared.Life.{Life}
 use Rattle.fund.specs.declared.ModelPoint.{ModelPoint}
-use Rattle.fund.specs.Base.{if◌then◌else◌, total}
+use Rattle.fund.specs.Base.{total}
 use Rattle.fund.specs.Folding.{single}
 use Rattle.fund.specs.Recursion.{multiplied}
 use Rattle.whole.specs.Sign.{signed}

@@ -1,10 +1,9 @@
 -- The ranges and the refusals 7, 8 and 9, of the totals.
-use Rattle.std.specs.Prelude.{◌≡◌, true, false, ◌≤◌, ltb}
+use Rattle.std.specs.Prelude.{◌≡◌, true, false, ◌≤◌, ltb, if◌then◌else◌}
 use Rattle.fund.specs.declared.Fund.{Fund}
 use Rattle.fund.specs.declared.Refusal.TheVariants as refusal
 use Rattle.fund.specs.declared.Verdict.{Verdict}
 use Rattle.fund.specs.declared.Verdict.TheVariants.{Accepted, Refused}
-use Rattle.fund.specs.Base.{if◌then◌else◌}
 use Rattle.fund.specs.Limits.{most_load, most_truncation}
 use Rattle.fund.specs.Refusals.{Lengths, short, refuse, at0}
 use Rattle.totals.specs.declared.Totals.{Totals}

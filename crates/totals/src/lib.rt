@@ -1,4 +1,6 @@
 // What the first lines of a table add up to: the load, the truncation figure, the mean, and the start; and the refusals that these decide.
+#![tactic(auto)]
+
 mod figures;
 mod inside;
 mod product;
@@ -22,7 +24,7 @@ use whole::Signed;
 const TOO_MANY_LIVES: u64 = Fund::MOST_LIVES + 1;
 
 // What a table adds up to, or that it or the header is outside its ranges. `cell` and `bound` are f(0) and R(0).
-#[derive(Drop)]
+#[derive(Clone, Copy)]
 pub struct Totals {
     pub inside: bool,
     pub load: u64,

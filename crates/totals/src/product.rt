@@ -10,7 +10,7 @@ ghost use Rattle.totals.specs.Product.{SizeWith, Times, Multiplied};
 use fund::{Fund, Life, ModelPoint};
 
 // The magnitude of the product so far, and how many group 1 members are in it.
-#[derive(Drop)]
+#[derive(Clone, Copy)]
 pub(crate) struct Product {
     pub(crate) size: u64,
     pub(crate) singles: u64,

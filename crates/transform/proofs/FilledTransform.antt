@@ -1,18 +1,15 @@
 -- From the totals of a table and cleared slices: a refusal leaves zeros (refused_transform); where the totals pass the tests the table can be filled
 -- (table_fits), and its transform is the answer's (filled_transform).
 use mathlib.Core.Path.{◌≡◌, refl, subst}
-use mathlib.Core.List.{List, [], ◌∷◌}
+use mathlib.Core.List.{List}
 use Prim.Native.Nat.{ℕ, ◌≤◌}
 use native.Mathlib.Omega.{arith}
 use lib.IntN.{ℤ, pos}
 use lib.ListN.{replicate, length-replicate, get_or-replicate}
-use types.Run.{OneOf}
-use denote.Enum.Declared as Declared
 use Rattle.fund.specs.declared.Fund.{Fund}
 use Rattle.fund.specs.declared.ModelPoint.{ModelPoint}
 use Rattle.fund.specs.declared.Verdict.{Verdict}
 use Rattle.fund.specs.declared.Verdict.TheVariants.{Accepted, Refused}
-use Rattle.fund.specs.contracts.Verdict as Ver
 use Rattle.fund.specs.Limits.{most_members}
 use Rattle.fund.specs.Folding.{copies}
 use Rattle.fund.specs.Refusals.{Lengths}
@@ -36,12 +33,12 @@ module _ (fund : Fund) (count : ℕ) (ps : List ModelPoint) (t : Totals) (for : 
   abbrev h₀ : List ℕ
   h₀ = replicate n.H 0
 
-  pub refused_transform : OneOf (1 ∷ []) (Declared.tag_of Ver.the_type w) → TransformedFor fund count ps n (record { verdict = w; totals = t }) d₀ h₀
+  pub refused_transform : (w ≡ Accepted → ⊥) → TransformedFor fund count ps n (record { verdict = w; totals = t }) d₀ h₀
   unfolding refused
   refused_transform o = record { totals_are = for; verdict_is = tested; d_is = (zeros w o).0; h_is = (zeros w o).1 }
     where
-      zeros : (v : Verdict) → OneOf (1 ∷ []) (Declared.tag_of Ver.the_type v) → (d₀ ≡ (outcome fund (copies ps) n v).D) × (h₀ ≡ (outcome fund (copies ps) n v).H)
-      zeros Accepted o = absurd (let e : ◌≡◌ {A = ℕ} 0 1 = o in omega arith)
+      zeros : (v : Verdict) → (v ≡ Accepted → ⊥) → (d₀ ≡ (outcome fund (copies ps) n v).D) × (h₀ ≡ (outcome fund (copies ps) n v).H)
+      zeros Accepted o = absurd (o refl)
       zeros (Refused why place) o = (refl, refl)
 
   module _ (e : w ≡ Accepted) where

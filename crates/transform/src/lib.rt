@@ -1,4 +1,6 @@
 // The transform of a table of model points: D and H, from the terms of each line's lives, once the totals have passed the refusals 7, 8 and 9.
+#![tactic(auto)]
+
 mod points;
 mod terms;
 

@@ -9,7 +9,7 @@ use fund::{Fund, ModelPoint, Verdict};
 use totals::Totals;
 
 // The first refusal of the totals, or none, and the totals.
-#[derive(Drop)]
+#[derive(Clone, Copy)]
 pub struct Transformed {
     pub verdict: Verdict,
     pub totals: Totals,

@@ -17,7 +17,7 @@ use rounding::UNIT;
 use whole::nearest;
 
 // How the cells are filled: up to which horizon, by which order and at which frequencies.
-#[derive(Drop)]
+#[derive(Clone, Copy)]
 pub(crate) struct Filling {
     pub(crate) horizon: u64,
     pub(crate) order: u64,

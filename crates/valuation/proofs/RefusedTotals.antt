@@ -1,15 +1,13 @@
 -- The ranges and the refusals 7, 8 and 9, from the totals: what is left where one of them refuses (left_judged), and where none does (left_answered).
 use mathlib.Core.Path.{◌≡◌, refl, sym, ◌∙◌, ap}
 use mathlib.Core.Bool.{Bool, true, false}
-use mathlib.Core.List.{List, [], ◌∷◌}
+use mathlib.Core.List.{List, []}
 use Prim.Native.Nat.{ℕ, min, ◌+◌}
 use native.Mathlib.Omega.{arith}
 use borrow.Author.Tests.{lt-ltb, le-ltb, ltb-true, ltb-false}
 use lib.Dec.{ltb}
 use lib.IntN.{ℤ, pos}
 use lib.ListN.{replicate}
-use types.Run.{OneOf}
-use denote.Enum.Declared as Declared
 use Rattle.fund.specs.declared.Fund.{Fund}
 use Rattle.fund.specs.declared.Life.{Life}
 use Rattle.fund.specs.declared.ModelPoint.{ModelPoint}
@@ -17,7 +15,6 @@ use Rattle.fund.specs.declared.Refusal.{Refusal}
 use Rattle.fund.specs.declared.Refusal.TheVariants as refusal
 use Rattle.fund.specs.declared.Verdict.{Verdict}
 use Rattle.fund.specs.declared.Verdict.TheVariants.{Accepted, Refused}
-use Rattle.fund.specs.contracts.Verdict as Ver
 use Rattle.fund.specs.Limits.{most_load, most_truncation}
 use Rattle.fund.specs.Folding.{copies}
 use Rattle.fund.specs.Transform.{load, truncation}
@@ -107,9 +104,9 @@ module _ (fund : Fund) (count : ℕ) (ps : List ModelPoint) (t : Totals) (for : 
 
 -- a verdict that is not `Accepted`, with the transform's zeros and the others
 pub left_judged : (fund : Fund) (count : ℕ) (ps : List ModelPoint) (n : Lengths) (t : Totals) (w : Verdict) (v : Valued) (d : List ℤ) (h : List ℕ) (f : List ℤ) (r : List ℕ) (s : List ℤ) →
-    OneOf (1 ∷ []) (Declared.tag_of Ver.the_type w) → TransformedFor fund count ps n (record { verdict = w; totals = t }) d h → v ≡ record { verdict = w; figures = no_figures } →
+    (w ≡ Accepted → ⊥) → TransformedFor fund count ps n (record { verdict = w; totals = t }) d h → v ≡ record { verdict = w; figures = no_figures } →
     (f ≡ replicate n.f (pos 0)) × (r ≡ replicate n.R 0) × (s ≡ replicate n.F (pos 0)) → left_valued v d h f r s ≡ valuation fund count ps n
 unfolding refused
-left_judged fund count ps n t Accepted v d h f r s o k e frs = absurd (let e : ◌≡◌ {A = ℕ} 0 1 = o in omega arith)
+left_judged fund count ps n t Accepted v d h f r s o k e frs = absurd (o refl)
 left_judged fund count ps n t (Refused why place) v d h f r s o k e frs =
     left_refused fund count ps t k.totals_are n _ why place (left_zeros v (Refused why place) n d h f r s e (k.d_is, k.h_is) frs) k.verdict_is

@@ -1,15 +1,13 @@
 -- What follows the recursion of a fund: refusal 10 with its zeros (answers_wide), or cells that stand (Stands), from which the premium's sums are had (below_deductible)
 -- and the fund's figures (answers_accepted).
-use mathlib.Core.Path.{◌≡◌, refl, sym, ◌∙◌, ap, ap₂, subst}
+use mathlib.Core.Path.{◌≡◌, refl, sym, ◌∙◌, ap, ap₂}
 use mathlib.Core.Bool.{Bool, false}
-use mathlib.Core.List.{List, [], ◌∷◌}
+use mathlib.Core.List.{List, []}
 use mathlib.Core.Option.{Option, none, some}
 use Prim.Native.Nat.{ℕ, zero, suc, min, ◌<◌, ◌≤◌}
 use native.Mathlib.Omega.{arith}
 use lib.IntN.{ℤ, pos, nat_abs}
 use lib.ListN.{length, get_or, replicate}
-use types.Run.{OneOf}
-use denote.Enum.Declared as Declared
 use Rattle.algebra.specs.NatSum.{sum_n_ext}
 use Rattle.fund.specs.declared.Fund.{Fund}
 use Rattle.fund.specs.declared.Frequencies.{Frequencies}
@@ -20,7 +18,7 @@ use Rattle.fund.specs.declared.Verdict.TheVariants.{Accepted, Refused}
 use Rattle.fund.specs.Base.{table}
 use Rattle.fund.specs.Limits.{most_bound, most_load}
 use Rattle.fund.specs.Folding.{copies}
-use Rattle.fund.specs.Transform.{lambda, load, mean, truncation}
+use Rattle.fund.specs.Transform.{lambda, load, mean}
 use Rattle.fund.specs.Recursion.{Cell, start, start_bound}
 use Rattle.fund.specs.Premium.{premium, within}
 use Rattle.fund.specs.Tariff.{gross}
@@ -40,11 +38,9 @@ use Rattle.widths.specs.Sums.{total_le}
 use Rattle.recursion_limits.specs.declared.Recursed.{Recursed}
 use Rattle.recursion_limits.specs.declared.Recursed.TheVariants as recursed
 use Rattle.recursion_limits.specs.Limits.{most_cell}
-use Rattle.recursion_limits.specs.contracts.Recursed as R
 use Rattle.recursion.specs.Slices.{cell_in}
 use Rattle.recursion.specs.Recursion.{Left, leaves}
 use Rattle.recursion.specs.Recursion as Rec
-use Rattle.recursion.proofs.Outcomes.{not_done}
 use Rattle.valuation.specs.declared.Valued.{Valued}
 use Rattle.valuation.specs.declared.premium.StopLoss.{StopLoss}
 use Rattle.tariff.specs.Gross.{gross_of}
@@ -150,7 +146,7 @@ module _ (fund : Fund) (count : ℕ) (ps : List ModelPoint) (t : Totals) (d : Li
       ∙ recursion_is fund ms fits d h _ _ k.d_is k.h_is (omega (arith, ap (λ (y : Cell). y.R) start_is, sums.bound_within)) (length f) (length r) long.f_long long.r_long
 
   -- ---- a wide cell
-  pub answers_wide : (a : Recursed) → OneOf (1 ∷ 2 ∷ 3 ∷ 4 ∷ []) (Declared.tag_of R.the_type a) → RecursionLeft fund t a d h f r → (v : Valued) (d' : List ℤ) (h' : List ℕ) (s' : List ℤ) →
+  pub answers_wide : (a : Recursed) → (a ≡ recursed.Done → ⊥) → RecursionLeft fund t a d h f r → (v : Valued) (d' : List ℤ) (h' : List ℕ) (s' : List ℤ) →
       v ≡ record { verdict = refusal_of a; figures = no_figures } → d' ≡ replicate (length d) (pos 0) → h' ≡ replicate (length h) 0 → s' ≡ replicate ns (pos 0) → ValuedAnswer fund ms n (left_valued v d' h' f r s')
   unfolding leaves refuse refused part
   answers_wide a o e v d' h' s' v-is d_is h_is s-is = go found refl
@@ -159,7 +155,7 @@ module _ (fund : Fund) (count : ℕ) (ps : List ModelPoint) (t : Totals) (d : Li
       go none s =
           let e' = leaves_is a e ∙ ap (λ x. leaves (fund_cells fund ms) (length f) (length r) (answer_of x)) s in
           let done = ap (λ (l : Left). l.answer) e' in
-          absurd (not_done (subst (λ b. OneOf (1 ∷ 2 ∷ 3 ∷ 4 ∷ []) (Declared.tag_of R.the_type b)) done o))
+          absurd (o done)
       go (some x) s =
           let e' = leaves_is a e ∙ ap (λ x. leaves (fund_cells fund ms) (length f) (length r) (answer_of x)) s in
           let w : v ≡ record { verdict = Refused refusal.Wide x; figures = no_figures } = v-is ∙ ap (λ b. record { verdict = refusal_of b; figures = no_figures }) (ap (λ (l : Left). l.answer) e') in

@@ -1,11 +1,10 @@
 -- What the valuation of a fund's model points answers and leaves: the refusals 7 to 10 or the fund's figures, with the five result slices.
-use Rattle.std.specs.Prelude.{List, ℕ, ℤ, length}
+use Rattle.std.specs.Prelude.{List, ℕ, ℤ, length, if◌then◌else◌}
 use Rattle.fund.specs.declared.Fund.{Fund}
 use Rattle.fund.specs.declared.ModelPoint.{ModelPoint}
 use Rattle.fund.specs.declared.Refusal.TheVariants.{Range}
 use Rattle.fund.specs.declared.Verdict.{Verdict}
 use Rattle.fund.specs.declared.Verdict.TheVariants.{Refused}
-use Rattle.fund.specs.Base.{if◌then◌else◌}
 use Rattle.fund.specs.Folding.{copies}
 use Rattle.fund.specs.Refusals.{Lengths, valued}
 use Rattle.fund.specs.Answer.{empty, Answer, fund_cells}

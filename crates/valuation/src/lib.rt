@@ -1,5 +1,7 @@
 // The valuation of a fund: from its model points to the transform, the start, the recursion, the premium and their bounds, or the first of
 // the refusals 7 to 10.
+#![tactic(auto)]
+
 mod premium;
 mod sums;
 
@@ -14,7 +16,7 @@ use tariff::Gross;
 use totals::Totals;
 
 // What a valuation answers beside the result slices.
-#[derive(Drop)]
+#[derive(Clone, Copy)]
 pub struct Valued {
     pub verdict: Verdict,
     pub figures: Figures,

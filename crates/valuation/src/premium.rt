@@ -8,7 +8,7 @@ ghost use Rattle.valuation.specs.Premium.{Cells, CellWeighed, BelowTo, StopLossI
 use rounding::UNIT;
 use whole::Sums;
 
-#[derive(Drop)]
+#[derive(Clone, Copy)]
 pub(crate) struct StopLoss {
     pub(crate) premium: i64,
     pub(crate) within: u64,
