@@ -1,5 +1,4 @@
 -- `comparison::told_priced`: what is told of the files as they are read, where both verdicts accept.
-use borrow.Author.Rules.{rules}
 use Rattle.comparison.proofs.told_priced.Goals as goal
 
 pub returns : goal.returns

@@ -1,6 +1,5 @@
 -- `comparison::told_read`: the move of the figures, with what differs between the files.
 use mathlib.Core.Path.{sym, ◌∙◌, ap, ap₂}
-use borrow.Author.Rules.{rules}
 use Rattle.moves.specs.Differences.{differences, file_in}
 use Rattle.comparison.specs.Steps.{with_differences, told_of}
 use Rattle.comparison.proofs.told_read.Goals as goal
