@@ -7,7 +7,7 @@ use Rattle.fund.specs.declared.Quantile.{Quantile}
 use Rattle.fund.specs.declared.Refusal.{Refusal}
 use Rattle.fund.specs.declared.Verdict.{Verdict}
 use Rattle.fund.specs.declared.Verdict.TheVariants.{Accepted, Refused}
-use Rattle.fund.specs.Base.{if◌then◌else◌}
+use Rattle.std.specs.Prelude.{if◌then◌else◌}
 use Rattle.fund.specs.Listing.{refused_line}
 use Rattle.answer_text.specs.Level.{quantile_line, answer_line, level_room, level_line_of}
 

@@ -1,10 +1,10 @@
 -- The line of an answer at a level, which `level_line` writes where there is room for it.
-use Rattle.std.specs.Prelude.{List, [], ◌++◌, ℕ, leb}
+use Rattle.std.specs.Prelude.{List, [], ◌++◌, ℕ, leb, if◌then◌else◌}
 use Rattle.fund.specs.declared.Quantile.{Quantile}
 use Rattle.fund.specs.declared.Quantile.TheVariants.{At, None}
 use Rattle.fund.specs.declared.Verdict.{Verdict}
 use Rattle.fund.specs.declared.Verdict.TheVariants.{Accepted, Refused}
-use Rattle.fund.specs.Base.{if◌then◌else◌, bytes}
+use Rattle.fund.specs.Base.{bytes}
 use Rattle.fund.specs.Listing.{decimal, joined, refused_line}
 
 -- The place where the sums first reach the level, or `none`.

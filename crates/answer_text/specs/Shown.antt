@@ -1,8 +1,7 @@
 -- What `listing` writes: the listing of the figures that it is given, where they are in range and there is room for it.
-use Rattle.std.specs.Prelude.{Bool, true, ◌&&◌, List, [], ◌∷◌, ℕ, suc, ◌+◌, ◌*◌, leb, ltb, ℤ, length, take}
+use Rattle.std.specs.Prelude.{Bool, true, ◌&&◌, List, [], ◌∷◌, ℕ, suc, ◌+◌, ◌*◌, leb, ltb, ℤ, length, take, if◌then◌else◌}
 use Rattle.fund.specs.declared.Figures.{Figures}
 use Rattle.fund.specs.declared.Verdict.{Verdict}
-use Rattle.fund.specs.Base.{if◌then◌else◌}
 use Rattle.fund.specs.Limits.{most_horizon, most_truncation, most_bound}
 use Rattle.fund.specs.Answer.{Answer, empty}
 use Rattle.fund.specs.Listing.{printed}

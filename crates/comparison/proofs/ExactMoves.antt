@@ -1,7 +1,7 @@
 -- The exact move of two funds that are accepted lies where the move of their figures says (exact_move_lem): each premium is within its bound of the exact one, and each gross premium
 -- at most its excess above the exact loaded worth; all scaled by the other fund's denominator.
 use mathlib.Core.Path.{◌≡◌, sym, ap}
-use Prim.Native.Nat.{ℕ, ◌+◌, ◌*◌, ◌^◌, ◌≤◌}
+use Prim.Native.Nat.{ℕ, ◌*◌, ◌^◌, ◌≤◌}
 use native.Mathlib.Nat as N
 use lib.IntN.{ℤ, pos, nat_abs, ◌+ℤ◌, ◌-ℤ◌, ◌*ℤ◌}
 use lib.Signed.{◌≤ℤ◌}

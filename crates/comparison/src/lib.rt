@@ -1,5 +1,7 @@
 // One call compares two fund files, an old one and a new one: both are priced, and where both are accepted, the premium's move is told, the most
 // that arithmetic can have to do with it, and what differs between the files beside the editions and the rate lines.
+#![tactic(auto)]
+
 ghost use Rattle.std.specs.Prelude.{◌≡◌};
 ghost use Rattle.valuation.specs.Valued.{lengths};
 ghost use Rattle.pricing.specs.Priced.{left_priced};
@@ -12,14 +14,14 @@ use pricing::Priced;
 use rows::FileRead;
 
 // The premium's move and what differs between the files; or one of the funds is refused.
-#[derive(Drop)]
+#[derive(Clone, Copy)]
 pub enum Comparison {
     Moved(Move, Differences),
     Refused,
 }
 
 // What the pricing of each file answers, and the comparison of both.
-#[derive(Drop)]
+#[derive(Clone, Copy)]
 pub struct Compared {
     pub old: Priced,
     pub new: Priced,

@@ -11,7 +11,7 @@ use lib.Dec.{eqb}
 use lib.ListN.{length, get_or, drop, drop_of_length-le, take}
 use lib.Seq.{drop-cons}
 use Rattle.fund.specs.declared.Member.{Member}
-use Rattle.fund.specs.Base.{if◌then◌else◌}
+use Rattle.std.specs.Prelude.{if◌then◌else◌}
 use Rattle.fund.specs.Reading.{header_lines}
 use Rattle.fund.specs.Refusals.{first_member}
 use Rattle.laws.specs.Rows.{blank_member}

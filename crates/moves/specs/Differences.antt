@@ -1,8 +1,7 @@
 -- METHOD 11: what differs between two fund files beside the editions and the rate lines.
-use Rattle.std.specs.Prelude.{Bool, not, ◌&&◌, List, [], ◌∷◌, ℕ, zero, suc, ◌+◌, eqb, take}
+use Rattle.std.specs.Prelude.{Bool, not, ◌&&◌, List, [], ◌∷◌, ℕ, zero, suc, ◌+◌, eqb, take, if◌then◌else◌}
 use Rattle.fund.specs.declared.Fund.{Fund}
 use Rattle.fund.specs.declared.Member.{Member}
-use Rattle.fund.specs.Base.{if◌then◌else◌}
 use Rattle.fund.specs.Reading.{FundFile}
 use Rattle.fund.specs.Refusals.{first_member}
 use Rattle.rows.specs.declared.FileRead.{FileRead}

@@ -1,9 +1,8 @@
 -- METHOD 11: the move of the premium from an old fund to a new one, and the most that arithmetic can have to do with it.
-use Rattle.std.specs.Prelude.{Bool, ◌&&◌, ℕ, suc, ◌+◌, ◌*◌, ◌^◌, ◌≤◌, leb, pos, nat_abs, ◌+ℤ◌, ◌-ℤ◌}
+use Rattle.std.specs.Prelude.{Bool, ◌&&◌, ℕ, suc, ◌+◌, ◌*◌, ◌^◌, ◌≤◌, leb, pos, nat_abs, ◌+ℤ◌, ◌-ℤ◌, if◌then◌else◌}
 use Rattle.rounding.specs.Rounding.{up}
 use Rattle.fund.specs.declared.Fund.{Fund}
 use Rattle.fund.specs.declared.Figures.{Figures}
-use Rattle.fund.specs.Base.{if◌then◌else◌}
 use Rattle.fund.specs.Limits.{least_worth, most_worth}
 use Rattle.fund.specs.Reading.{between}
 use Rattle.fund.specs.Tariff.{loading}

@@ -1,6 +1,5 @@
 // What differs between two files that were read: the first header line behind the editions' lines, and the first member line.
-ghost use Rattle.std.specs.Prelude.{◌≡◌, ◌+◌, ◌≤◌, not, eqb, length, take};
-ghost use Rattle.fund.specs.Base.{if◌then◌else◌};
+ghost use Rattle.std.specs.Prelude.{◌≡◌, ◌+◌, ◌≤◌, not, eqb, length, take, if◌then◌else◌};
 ghost use Rattle.fund.specs.Limits.{most_members};
 ghost use Rattle.fund.specs.Reading.{header_lines};
 ghost use Rattle.moves.specs.Differences.{first_header_line, same_member, first_member_line, differences, file_in};

@@ -13,7 +13,7 @@ pub use ranges::{member_in_range, rate_in_range, within};
 
 // What reading found: the verdict of 1, 2 and 11, the header's figures, and the tables of the rate rows and of the member
 // rows with the number of rows at their start. The rows behind these are blank, and so is all but the verdict of a refusal.
-#[derive(Drop)]
+#[derive(Clone, Copy)]
 pub struct FileRead {
     pub verdict: Verdict,
     pub fund: Fund,
