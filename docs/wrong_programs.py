@@ -50,7 +50,7 @@ What a contract, a theorem or a table of worked funds refuses, and no edit tries
 def crates():
     """In the order of crates.txt."""
     lines = (line.split("#")[0].strip() for line in (ROOT / "crates.txt").read_text(encoding="utf-8").split("\n"))
-    return [line.split(":")[0] for line in lines if line]
+    return [line.split(":")[0].split()[0] for line in lines if line]
 
 
 def statement(path):

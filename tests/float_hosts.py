@@ -137,7 +137,7 @@ def main(arguments):
         archive = Path(arguments[0])
     else:
         archive = ROOT / "target" / "staticlib" / "libmiguepo.a"
-        subprocess.run(["rt", "staticlib", "miguepo"], cwd=ROOT, check=True, stdout=subprocess.DEVNULL, stderr=subprocess.STDOUT)
+        subprocess.run([ROOT / "scripts" / "archive", "miguepo"], check=True, stdout=subprocess.DEVNULL)
     checks, made = Checks(), hosts(archive)
     check_subnormals(checks, made)
     check_sheets(checks, made)

@@ -68,10 +68,9 @@ def quantile_of(got):
 
 
 def build(crate):
-    """A shared library made of the archive that `rt staticlib` writes for the crate."""
+    """A shared library made of the archive that `scripts/archive` builds of the crate's exports."""
     archive = ROOT / "target" / "staticlib" / f"lib{crate}.a"
-    subprocess.run(["rt", "staticlib", crate], cwd=ROOT, check=True,
-                   stdout=subprocess.DEVNULL, stderr=subprocess.STDOUT)
+    subprocess.run([ROOT / "scripts" / "archive", crate], check=True, stdout=subprocess.DEVNULL)
     shared = archive.with_suffix(".so")
     subprocess.run(["cc", "-shared", "-o", shared, "-Wl,--whole-archive", archive,
                     "-Wl,--no-whole-archive"], check=True)
