@@ -1,4 +1,7 @@
-// The pricing calls for C, as include/miguepo.h declares them, and what an answer is handed over as.
+// What the pricing calls for C do, and what an answer is handed over as. The calls themselves, as include/miguepo.h declares them, are the exports of miguepo_c, whose
+// clauses are these.
+#![tactic(auto)]
+
 ghost use Rattle.std.specs.Prelude.{◌≡◌, ◌-◌};
 ghost use Rattle.fund.specs.Reading.{reading};
 ghost use Rattle.fund.specs.Refusals.{number_in, place_in};
@@ -101,8 +104,7 @@ pub fn hand_over(priced: Priced, res: &mut [u64; FIELDS])
 }
 
 // Prices the fund of a file into the five result slices, answers at a level, and fills the struct.
-#[unsafe(no_mangle)]
-pub extern "C" fn miguepo_price(
+pub fn miguepo_price(
     file: &[u8],
     level: u64,
     transform: &mut [i64],
@@ -121,8 +123,7 @@ pub extern "C" fn miguepo_price(
 }
 
 // The same of a header text and two sheets of binary64 cells, of rates and of members.
-#[unsafe(no_mangle)]
-pub extern "C" fn miguepo_price_sheets(
+pub fn miguepo_price_sheets(
     header: &[u8],
     rates: &[u8],
     members: &[u8],

@@ -1,0 +1,8 @@
+-- What `pricing::price_sheets` answers is handed over.
+use Rattle.miguepo.proofs.HostedFields.{hosts}
+use Rattle.miguepo.proofs.miguepo_price_sheets.Goals as goal
+
+pub returns : goal.returns
+returns c =
+    let p = c.price_sheets-priced in
+    hosts _ _ _ _ p.result _ _ _ _ _ p.ensures _ c.hand_over.ensures
