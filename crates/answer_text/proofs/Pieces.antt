@@ -31,9 +31,10 @@ unfolding cell_text bounded_text joined
 cell_pieces x f within F bound = simp append_assoc
 
 -- The code holds f and F as words.
-pub cell_words : {text : List ℕ} {at : ℕ} (x : ℕ) (f : ℤ) (within : ℕ) (F : ℤ) (bound : ℕ) {after : List ℕ} {next : ℕ} → SFits w64 f → SFits w64 F
-    → Puts text at (cell_text x (to_z w64 (of_z w64 f)) within (to_z w64 (of_z w64 F)) bound) after next → Puts text at (cell_text x f within F bound) after next
-cell_words x f within F bound g G p = rw (to_z-of_z g, to_z-of_z G) at p
+pub cell_words : {text : List ℕ} {at : ℕ} (x : ℕ) (f : ℤ) (within : ℕ) (F : ℤ) (bound : ℕ) {after : List ℕ} {next : ℕ}
+    → Puts text at (cell_text x (to_z w64 (of_z w64 f)) within (to_z w64 (of_z w64 F)) bound) after next → SFits w64 f → SFits w64 F
+    → Puts text at (cell_text x f within F bound) after next
+cell_words x f within F bound p g G = rw (to_z-of_z g, to_z-of_z G) at p
 
 pub refusal_pieces : (why : Refusal) (place n : ℕ) → n ≡ number_of why
     → refused_line why place ≡ bytes "refused=" ++ ((decimal n ++ (44 ∷ [])) ++ (decimal place ++ (10 ∷ [])))

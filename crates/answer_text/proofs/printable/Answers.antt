@@ -1,8 +1,7 @@
 -- `answer_text::printable` meets its contract: each test that fails decides.
 use mathlib.Core.Path.{ap, ◌∙◌}
-use native.Mathlib.Omega.{arith}
 use native.Mathlib.Numerals.{add-one}
-use borrow.Author.Tests.{lt-ltb, le-ltb, le-leb, lt-leb}
+use borrow.Author.Tests.{lt-ltb, le-leb}
 use borrow.Author.Rules.{rules}
 use lib.ListN.{take}
 use Rattle.answer_text.specs.Shown.{bounded, printable}
@@ -35,7 +34,12 @@ returns-then-room-lt-ROOM c = search rules
 pub returns : goal.returns
 unfolding printable
 returns c =
-    simp
-    (le-leb _ _ c.if-horizon-gt-MOST_HORIZON.false, lt-ltb _ _ c.if-cells-horizon.false, lt-ltb _ _ c.if-r-horizon.false, lt-ltb _ _ c.if-sums-horizon.false,
-    le-leb _ _ c.if-truncation-gt-MOST_TRUNCATION.false, le-leb _ _ c.if-room-lt-ROOM.false)
+    simp (
+      le-leb _ _ c.if-horizon-gt-MOST_HORIZON.false,
+      lt-ltb _ _ c.if-cells-horizon.false,
+      lt-ltb _ _ c.if-r-horizon.false,
+      lt-ltb _ _ c.if-sums-horizon.false,
+      le-leb _ _ c.if-truncation-gt-MOST_TRUNCATION.false,
+      le-leb _ _ c.if-room-lt-ROOM.false,
+    )
     (c.all_bounded.ensures ∙ ap (λ n. bounded (take n c.args.r.now)) (add-one c.args.horizon))

@@ -3,7 +3,7 @@ use mathlib.Core.Path.{◌≡◌}
 use Prim.Native.Nat.{◌≤◌, ◌+◌, ◌*◌}
 use native.Mathlib.Omega.{arith}
 use lib.ListN.{get_or}
-use borrow.Author.Rules.{rules, sfits_of}
+use borrow.Author.Rules.{rules}
 use Rattle.fund.specs.Base.{sum}
 use Rattle.fund.specs.Limits.{most_horizon, most_truncation, most_bound}
 use Rattle.fund.specs.Listing.{cell_lines}
@@ -34,9 +34,12 @@ loop-x-preserved c =
     let s = c.args in
     let l = c.loop-x in
     let b = bounds (goal.at.loop-x-preserved c).In-loop-x in
-    let p = c.put_cell-next.ensures in
-    let step = cells_step s.truncation s.f.now s.r.now s.sums.now l.x l.bound l.invariant.1 in
-    ?
+    let step = cells_step s.truncation s.f.now s.r.now s.sums.now l.x l.bound l.invariant.1 in (
+      omega arith,
+      omega (arith, bound_step s.truncation s.r.now l.x),
+      rw step (puts_then l.invariant.2 (cell_words _ _ _ _ _ c.put_cell-next.ensures (search rules) (search rules))),
+      cells_size s.truncation s.f.now s.r.now s.sums.now l.x l.bound l.invariant.1 l.invariant.3 (omega arith) (search rules) (omega arith) (search rules) (omega arith),
+    )
 
 pub returns : goal.returns
 returns c =
