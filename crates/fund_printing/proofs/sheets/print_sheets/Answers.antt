@@ -11,5 +11,5 @@ returns c =
     let p = c.price_sheets-priced in
     let o = p.new in
     let w = written a.header.now _ (sheet_ranges a.header.now a.rates.now a.members.now) p.result o.transform o.h o.f o.r o.sums (p.auto.f ∙ signed_length) (p.auto.r ∙ cells_length) (p.auto.sums ∙ signed_length)
-        a.asked c.level_of-level.ensures p.ensures.answers c.write_asked.ensures in
+    a.asked c.level_of-level.ensures p.ensures.answers c.write_asked.ensures in
     record { written = w.0; upper_bound = w.1 }
