@@ -1,24 +1,14 @@
--- What a comparison answers, handed over (hosts_comparison), and that C reads its signed fields (move_read, refused_read).
+-- What a comparison answers, handed over (hosts_comparison).
 use mathlib.Core.Path.{◌≡◌, ◌∙◌, ap₂, subst}
 use mathlib.Core.List.{List}
 use Prim.Native.Nat.{ℕ}
-use native.Mathlib.Omega.{arith}
 use Rattle.fund.specs.Reading.{reading}
 use Rattle.fund.specs.Refusals.{Lengths}
 use Rattle.fund.specs.Answer.{Answer, answer_to}
-use Rattle.moves.specs.declared.Move.{Move}
-use Rattle.moves.specs.declared.files.Differences.{Differences}
-use Rattle.comparison.specs.declared.Comparison.TheVariants.{Moved, Refused}
 use Rattle.comparison.specs.declared.Compared.{Compared}
 use Rattle.comparison.specs.Comparison.{compared, Compares}
 use Rattle.miguepo.specs.Host.{Hosts}
-use Rattle.miguepo_comparison.specs.HostComparison.{comparison_fields, SignedFields, ReadBack, Handed, comparison_of, HostsComparison}
-
-pub move_read : (m : Move) (d : Differences) → SignedFields m → ReadBack (Moved m d)
-move_read m d s v e h = let is : m ≡ v = cc h in subst SignedFields is s
-
-pub refused_read : ReadBack Refused
-refused_read v d h = let z : ◌≡◌ {A = ℕ} 0 1 = cc h in absurd (omega arith)
+use Rattle.miguepo_comparison.specs.HostComparison.{comparison_fields, ReadBack, Handed, comparison_of, HostsComparison}
 
 module _ (old new : List ℕ) (level : ℕ) (n m : Lengths) (c : Compared) (a b : Answer) (k : Compares old new level n m c a b) where
   old_same : a ≡ answer_to old n (reading old)

@@ -1,5 +1,7 @@
-// The call for C that compares two fund files, as include/miguepo.h declares it. It stands in a library of its own, so that the pricing calls keep the code that the
-// compiler makes of them where nothing else calls what they call.
+// What the call for C that compares two fund files does. The call itself, as include/miguepo.h declares it, is the export of miguepo_comparison_c, whose clause is this
+// one's. It stands in a library of its own, so that the pricing calls keep the code that the compiler makes of them where nothing else calls what they call.
+#![tactic(auto)]
+
 ghost use Rattle.std.specs.Prelude.{◌≡◌};
 ghost use Rattle.valuation.specs.Valued.{lengths};
 ghost use Rattle.miguepo_comparison.specs.HostComparison.{handed, moved_fields, SignedFields, comparison_fields, ReadBack, HostsComparison};
@@ -47,8 +49,7 @@ fn comparison_fields(comparison: Comparison) -> [u64; COMPARISON_FIELDS]
 }
 
 // Prices an old fund file and a new one, each into five result slices of its own, compares them, and fills the three structs.
-#[unsafe(no_mangle)]
-pub extern "C" fn miguepo_compare(
+pub fn miguepo_compare(
     old: &[u8],
     new: &[u8],
     level: u64,

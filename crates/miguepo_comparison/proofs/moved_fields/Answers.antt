@@ -9,8 +9,7 @@ use mir.Facts.{to_z-of_z}
 use Rattle.moves.specs.declared.Move.{Move}
 use Rattle.miguepo.specs.Bits.{bits_of}
 use Rattle.miguepo.proofs.Complement.{bits_read}
-use Rattle.miguepo_comparison.proofs.moved_fields.Statement.{statement}
-use Rattle.miguepo_comparison.proofs.moved_fields.Tie as tie
+use Rattle.miguepo_comparison.proofs.moved_fields.Goals as goal
 
 record Words (v : Move) : Type 0 where
   premium : SFits w64 v.premium
@@ -20,27 +19,26 @@ record Words (v : Move) : Type 0 where
   gross_least : SFits w64 v.gross_least
   gross_most : SFits w64 v.gross_most
 
-words : (s : tie.Start) → Words s.args.m
-words s = record { premium = search rules; least = search rules; most = search rules; gross = search rules; gross_least = search rules; gross_most = search rules }
-
 bits_of_lem : {z : ℤ} {n : ℕ} → SFits w64 z → n ≡ bits_of (to_z w64 (of_z w64 z)) → n ≡ bits_of z
 bits_of_lem fits e = e ∙ ap bits_of (to_z-of_z fits)
 
-returns : tie.Need-returns
+pub returns : goal.returns
 returns c =
-    let gross_least = c.before.before in
-    let gross = gross_least.before.before in
-    let most = gross.before.before in
-    let least = most.before.before in
-    let premium = least.before.before in
-    let w = words premium.before.before in (
+    let w : Words c.args.m = record {
+      premium = search rules;
+      least = search rules;
+      most = search rules;
+      gross = search rules;
+      gross_least = search rules;
+      gross_most = search rules;
+    } in (
       rw (
-        bits_of_lem w.premium premium.bits.ensures,
-        bits_of_lem w.least least.bits2.ensures,
-        bits_of_lem w.most most.bits3.ensures,
-        bits_of_lem w.gross gross.bits4.ensures,
-        bits_of_lem w.gross_least gross_least.bits5.ensures,
-        bits_of_lem w.gross_most c.bits6.ensures,
+        bits_of_lem w.premium c.bits-premium.ensures,
+        bits_of_lem w.least c.bits-least.ensures,
+        bits_of_lem w.most c.bits-most.ensures,
+        bits_of_lem w.gross c.bits-gross.ensures,
+        bits_of_lem w.gross_least c.bits-gross_least.ensures,
+        bits_of_lem w.gross_most c.bits-gross_most.ensures,
       ),
       record {
         premium = bits_read _ w.premium;
@@ -51,8 +49,3 @@ returns c =
         gross_most = bits_read _ w.gross_most;
       },
     )
-
-pub moved-fields-spec : {M : Type 1} → statement M
-moved-fields-spec =
-    tie.close
-    (tie.spec (λ c κs. search rules) (λ c κs. search rules) (λ c κs. search rules) (λ c κs. search rules) (λ c κs. search rules) (λ c κs. search rules) returns)

@@ -1,0 +1,13 @@
+-- What `comparison::compare` answers is handed over.
+use Rattle.miguepo.proofs.HostedFields.{hosts}
+use Rattle.miguepo_comparison.proofs.HostingComparison.{hosts_comparison}
+use Rattle.miguepo_comparison.proofs.miguepo_compare.Goals as goal
+
+pub returns : goal.returns
+returns c =
+    let p = c.compare-compared in
+    let k = p.ensures in
+    hosts_comparison _ _ _ _ _ p.result _ _ k _ _ _
+    (hosts _ _ _ _ p.result.old _ _ _ _ _ k.old_priced _ c.hand_over.ensures)
+    (hosts _ _ _ _ p.result.new _ _ _ _ _ k.new_priced _ c.hand_over-2.ensures)
+    c.comparison_fields.ensures.0 c.comparison_fields.ensures.1
