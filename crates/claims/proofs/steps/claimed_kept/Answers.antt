@@ -4,14 +4,10 @@ use mir.Syntax.{w64}
 use mir.Val.{to_z, of_z}
 use borrow.Author.Rules.{rules}
 use Rattle.claims.proofs.Tested.{kept_as}
-use Rattle.claims.proofs.steps.claimed_kept.Statement.{statement}
-use Rattle.claims.proofs.steps.claimed_kept.Tie as tie
+use Rattle.claims.proofs.steps.claimed_kept.Goals as goal
 
-returns : tie.Need-returns
+pub returns : goal.returns
 returns c =
-    let first = c.before.before.args.first in
+    let first = c.args.first in
     let same : to_z w64 (of_z w64 first) ≡ first = search rules in
     kept_as _ _ _ _ _ _ _ (rw same at c.tested.ensures)
-
-pub claimed-kept-spec : {M : Type 1} → statement M
-claimed-kept-spec = tie.close (tie.spec (λ c κs. search rules) returns)
