@@ -27,18 +27,18 @@ What a contract, a theorem or a table of worked funds refuses, and no edit tries
   outside: the contract of `pricing::line`
 - a quantile that takes the last x, or counts from the last: the rows of
   `tables/specs/Levels.levels`
-- a last rate row that does not hold to 120: the rows of `fund/specs/Starred.someAges`;
-  exact values with another rate: `tables/proofs/ExactRows.every-exact-row`
+- a last rate row that does not hold to 120: the rows of `fund/specs/Starred.some_ages`;
+  exact values with another rate: `tables/proofs/ExactRows.every_exact_row`
 - a triangle whose two neighbours are exchanged, or whose left one is taken from the row
   that is made: the contract of `next_row` in `transform`
 - exact values whose weights take one frequency for both:
-  `distance/specs/Transform.transform-close`
-- an F that only rises, or ends at 10^12: the row of `fund/specs/Starred.wrongTurns` with
+  `distance/specs/Transform.transform_close`
+- an F that only rises, or ends at 10^12: the row of `fund/specs/Starred.wrong_turns` with
   f(6) = -1, the first row of `fund/specs/Distributions.distributions`
 - a start that raises p to a power and rounds once: the contract of `repeated` in `totals`,
-  the row of `fund/specs/SeveralLives.severalLives` with q = 55 and four lives
+  the row of `fund/specs/SeveralLives.several_lives` with q = 55 and four lives
 - a term, a load or a truncation figure that is rounded once for all lives of a line: the
-  contracts of the steps, the rows of `fund/specs/SeveralLives.severalLives`
+  contracts of the steps, the rows of `fund/specs/SeveralLives.several_lives`
 - 5 or 6 answered at the copy's place: the contract of `matching::matched`
 - a valuation that answers zeros for every fund, values the first life alone, or leaves the
   cells of a refused fund as they are: the contract of `valuation::value`

@@ -1,5 +1,5 @@
 -- What a host has after a call that compares two files, and what is printed of it, in plain words.
-use Rattle.std.specs.Prelude.{◌≡◌, List, ℕ, zero, suc, ◌+◌, ◌<◌, ℤ, pos, ◌+ℤ◌, ◌-ℤ◌, length, get_or, replicate}
+use Rattle.std.specs.Prelude.{◌≡◌, List, ℕ, zero, suc, ◌+◌, ◌<◌, pos, ◌+ℤ◌, ◌-ℤ◌, length, get_or, replicate}
 use Rattle.fund.specs.Reading.{FundFile, read, reading}
 use Rattle.fund.specs.Refusals.{Lengths}
 use Rattle.moves.specs.declared.Move.{Move}

@@ -1,4 +1,6 @@
 // The listing of a comparison, from two fund files to its bytes.
+#![tactic(auto)]
+
 ghost use Rattle.std.specs.Prelude.{◌≡◌, ◌++◌, ◌+◌, ◌*◌, ◌≤◌, length, take};
 ghost use Rattle.fund.specs.Listing.{refused_line};
 ghost use Rattle.writing.specs.Writing.{Puts, Written};

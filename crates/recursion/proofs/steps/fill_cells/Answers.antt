@@ -76,7 +76,7 @@ returns-then-bound-gt-MOST_BOUND c =
     (record {
       within = omega arith;
       fit = λ y g. l.invariant.3.fit y (omega arith);
-      wide = omega (arith, bound_is (goal.at.returns-then-bound-gt-MOST_BOUND c).After-bound_of-bound, c.if-bound-gt-MOST_BOUND.true);
+      wide = omega (arith, bound_is (goal.at.returns-then-bound-gt-MOST_BOUND c).After-bound_of-bound);
     })
 
 pub cell_of-cell-requires : goal.cell_of-cell-requires
@@ -94,8 +94,8 @@ returns-then-magnitude-gt-MOST_CELL c =
     (record {
       within = omega arith;
       fit = λ y g. l.invariant.3.fit y (omega arith);
-      narrow = omega (arith, bound_is (goal.at.returns-then-magnitude-gt-MOST_CELL c).After-bound_of-bound, c.if-bound-gt-MOST_BOUND.false);
-      large = omega (arith, c.magnitude.ensures, ap nat_abs (cell_is (goal.at.returns-then-magnitude-gt-MOST_CELL c).After-cell_of-cell), c.if-magnitude-gt-MOST_CELL.true);
+      narrow = omega (arith, bound_is (goal.at.returns-then-magnitude-gt-MOST_CELL c).After-bound_of-bound);
+      large = omega (arith, c.magnitude.ensures, ap nat_abs (cell_is (goal.at.returns-then-magnitude-gt-MOST_CELL c).After-cell_of-cell));
     })
 
 pub loop-last-preserved : goal.loop-last-preserved
@@ -106,7 +106,7 @@ loop-last-preserved c =
     let l = c.loop-last in
     let R_is = bound_is (goal.at.loop-last-preserved c).After-bound_of-bound in
     let limited : CellFits (cell_of c.args.horizon c.args.transform.now c.args.h.now c.args.f.now c.args.r.now (suc l.last)) =
-    record { narrow = omega (arith, R_is, c.if-bound-gt-MOST_BOUND.false); level = omega (arith, c.magnitude.ensures, ap nat_abs (cell_is (goal.at.loop-last-preserved c).After-cell_of-cell), c.if-magnitude-gt-MOST_CELL.false) } in (
+    record { narrow = omega (arith, R_is); level = omega (arith, c.magnitude.ensures, ap nat_abs (cell_is (goal.at.loop-last-preserved c).After-cell_of-cell)) } in (
       omega arith,
       simp length-set l.invariant.1,
       simp length-set l.invariant.2,

@@ -1,0 +1,7 @@
+-- `pricing::line` says the same by its own definition.
+use Rattle.pricing.specs.Priced.{line_of}
+use Rattle.claims.proofs.claimed_line.Goals as goal
+
+pub returns : goal.returns
+unfolding line_of
+returns c = c.line.ensures
