@@ -3,7 +3,7 @@
     python3 tests/compare_program.py N SEED [PROGRAM]
 
 Writes N generated pairs and those worked by hand to a folder, runs the program (target/bin/compare, built by
-`rt check compare`) on one pair, on several and on files that are not there, and compares what it prints with the
+`scripts/build compare`) on one pair, on several and on files that are not there, and compares what it prints with the
 independent calculation.
 """
 

@@ -2,7 +2,7 @@
 
     python3 tests/test_scripts.py
 
-It needs the programs listing, level, sheets, sheets_level and compare, which `rt check listing level sheets sheets_level compare` builds. They and the scripts
+It needs the programs listing, level, sheets, sheets_level and compare, which `scripts/build NAME` builds, one by one. They and the scripts
 are copied to a folder of their own, so nothing of the repository is touched. What they should write comes from the independent
 calculation.
 
@@ -946,7 +946,9 @@ def link_checks(room, folder):
     yield "links: the same lines in all scripts", len(same[0]) == 1 and same == same[:1] * 3
     program = room.root / "target" / "bin" / "listing"
     kept = program.rename(folder / "listing program")
-    (folder / "rt").write_text(f'#!/bin/sh\npwd -P\ncp "{kept}" "{program}"\n')
+    built = room.root / "crates" / "listing" / "out" / "listing"
+    built.parent.mkdir(parents=True)
+    (folder / "rt").write_text(f'#!/bin/sh\npwd -P\ncp "{kept}" "{built}"\n')
     (folder / "rt").chmod(0o755)
     (far / "build link").symlink_to(room.root / "scripts" / "build")
     environment = {**os.environ, "PATH": f"{folder}:{os.environ['PATH']}"}
@@ -962,10 +964,11 @@ def link_checks(room, folder):
 # scripts/build
 
 PROVER = """#!/bin/sh
-[ "$1 $2" = "check listing" ] || exit 2
+[ "$#$1" = 1run ] && [ "${{PWD##*/}}" = listing ] || exit 2
 echo 'fn whole::least: proved'
 for crate in {crates}; do
-    echo "rt: $crate proved ({took})"
+    echo "crate $crate: modules loaded=1 checked=1"
+    echo "logic=proved functions=1"
 done
 {end}
 """
@@ -974,7 +977,7 @@ done
 def crates_of(name):
     """The crates that a program is made of, each behind those that it names, and the program last."""
     lines = (line.split("#")[0].split(":") for line in (ROOT / "crates.txt").read_text().splitlines())
-    named = {line[0].strip(): line[1].split() for line in lines if len(line) == 2}
+    named = {line[0].split()[0]: line[1].split() for line in lines if len(line) == 2}
     found = []
 
     def visit(crate):
@@ -993,19 +996,23 @@ def build_checks(room, folder):
     kept = program.rename(folder / "listing program")
     tools = folder / "tools"
     tools.mkdir()
+    out = room.root / "crates" / "listing" / "out"
+    out.mkdir(parents=True)
+    built = out / "listing"
 
-    def prover(end, took="3 s"):
-        (tools / "rt").write_text(PROVER.format(crates=" ".join(crates), took=took, end=end))
+    def prover(end, proved=crates):
+        built.unlink(missing_ok=True)
+        (tools / "rt").write_text(PROVER.format(crates=" ".join(proved), end=end))
         (tools / "rt").chmod(0o755)
 
     good, listing = EXAMPLES / "one-member.fund", pricing.listing(pricing.price(GOOD)).encode()
     prover("exit 1")
     answer = room.run("price", good, path=tools)
     yield "build: failed: status, no listing", answer[:2] == (2, b"")
-    yield "build: failed: what the prover said", f"fn whole::least: proved\nrt: {crates[0]} proved (3 s)\n" in answer[2]
+    yield "build: failed: what the prover said", f"fn whole::least: proved\ncrate {crates[0]}: modules loaded=1 checked=1\nlogic=proved functions=1\n" in answer[2]
     prover("exit 0")
     yield "build: no program: status", room.run("price", good, path=tools)[:2] == (2, b"")
-    prover(f'cp "{kept}" "{program}"')
+    prover(f'cp "{kept}" "{built}"')
     answer = room.run("price", good, path=tools)
     yield "build: status and listing", answer[:2] == (0, listing)
     count = len(crates)
@@ -1015,21 +1022,20 @@ def build_checks(room, folder):
     yield "build: how long is left", f"{count} crates, about 4 minutes left" in lines[0] and all(" left" in line for line in lines[1:-1])
     yield "build: what the prover says else is not shown", "whole::least" not in answer[2]
     program.unlink()
-    prover(f'cp "{kept}" "{program}"', "unchanged since it was last proved")
+    prover(f'cp "{kept}" "{built}"', [])
     yield "build: unchanged crates are not shown", room.run("price", good, path=tools)[2].count("\n") == 1
-    stamps = room.root / "target" / "stamp"
-    stamps.mkdir()
-    for name in crates:
-        (stamps / name).touch()
+    for name in crates[:-1]:
+        (room.root / "crates" / name / "out" / "rlib").mkdir(parents=True)
     program.unlink()
     answer = room.run("price", good, path=tools)
     yield "build: proved before, all but the program", answer[2].startswith("building the listing program, with its proof: "
                                                                             f"{count} crates, about 20 seconds left (first: listing)\n")
     program.unlink()
-    prover(f'cp "{kept}" "{program}"')
+    prover(f'cp "{kept}" "{built}"')
     answer = room.run("price", good, path=tools)
     yield "build: proved before, and changed since", answer[:2] == (0, listing) and answer[2].count("\n") == count + 1 and "4 minutes left" in answer[2]
-    shutil.rmtree(stamps)
+    for name in crates[:-1]:
+        shutil.rmtree(room.root / "crates" / name)
     program.unlink()
     shown = on_terminal([room.root / "scripts" / "build", "listing"], tools)
     yield "build: one line on a terminal", shown.count(b"\n") == 1 and shown.count(b"\r\x1b[K[") == count
@@ -1072,7 +1078,7 @@ def checks():
 def main():
     missing = [program.name for program in PROGRAMS if not program.exists()]
     if missing:
-        print(f"not built: {' '.join(missing)}; rt check listing level sheets sheets_level compare builds them", file=sys.stderr)
+        print(f"not built: {' '.join(missing)}; scripts/build NAME builds each", file=sys.stderr)
         return 2
     found = checks()
     skipped = [name for name, holds in found if holds is None]
