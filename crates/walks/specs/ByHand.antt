@@ -4,7 +4,7 @@ pub use seplogic.Ra.Ura.{Ura}
 pub use mir.Fields.{get_v, set_v}
 pub use mir.Syntax.{named, w64, Lifetime, Callee, Ty, Opd as Operand, Body, place, seq, call, ty_ptr, deref, copy, rv_opd, assign, Local, local, Fn, value_local, erased, imm, ty_array, ty_int, ty_ref, addr_of, aggregate, ty_bool, Tys, Sym, mut, ty_struct, field, Rv as RValue, unsigned, int, skip, block, loop, cond, exit, return, op2, add, mul, lt, offset, Place, Step as PStep}
 pub use mir.Val.{Val, vint, vunit, bits, vptr, WT, has_ty, vbool, Vals, vstruct}
-pub use base.Fml.{Lft, Share, GName, fat, flft, ftrue, Fml, fsep, fdead, fobs, fauth, flent, fobor, feq, froom, fhide, fdies}
+pub use base.Fml.{Lft, Share, GName, fat, flft, ftrue, Fml, fsep, fdead, fobs, fauth, flent, fobor, feq, froom, fshr_bor, fres, fhide, fdies}
 pub use base.Logic.{SProp, ent, emp, id⊢, sep, ex, via, mono_l, mono_r, assoc', fst∗, snd∗, emp∗}
 pub use prog.Memory.{field_at}
 pub use prog.Model.{Model}
@@ -22,7 +22,7 @@ pub use types.Part.{whole, sub, look_in, agg, Part}
 pub use types.Run.{look, init, stop, fld, from, load, lit, of_opd, unit_lit, and_then, no_more, assigns, land, returns, enter, params1, pass1, pass0, free0, Opds, look_raw, hop, alloc1, alloc0, addr, Reads, Opd, Rv, store, forget, bin, assigns_last, first, blocks, branches, skips, jumps, exec, loops, again, Below, Walks, returns_within}
 pub use types.SemTy.{cells, Arr}
 pub use types.Share.{arr_parts, parts}
-pub use types.Tokens.{lft_new, lft_end, lent_back}
+pub use types.Tokens.{lft_new, lft_end, lent_back, bor_new, bor_fracture, name_new, name_done}
 pub use denote.Array.{Array, array_vals, Array-Tells, Array-Lawful}
 pub use denote.ArrayMemory.{Single, Array-whole, Array-apart}
 pub use denote.Builtin.{i64, u64, bool, SliceRefOf}
