@@ -2,7 +2,7 @@
 
     python3 tests/test_pages.py
 
-Of every page but docs/CHANGES.md, whose notes name things as they were then: paths into a crate
+Of every page but docs/CHANGES.md and docs/PORT.md, which name things as they were then: paths into a crate
 (crates/NAME/.., NAME/specs/Module.name, NAME/must-fail/edit), functions `crate::name`, definitions
 of docs/METHOD.md (`Module.name` of crates/fund/specs), every other name between backticks, commands,
 files and folders of this repository, links to other pages.  Of all pages: prose is wrapped and no
@@ -23,6 +23,8 @@ import wrong_programs
 CRATES = ROOT / "crates"
 DOCS = ROOT / "docs"
 HISTORY = DOCS / "CHANGES.md"
+# Sets old words beside new ones, as they stand.
+PORT = DOCS / "PORT.md"
 METHOD = DOCS / "METHOD.md"
 # The pages about the wording of the two documents that the method was asked for in.
 ABOUT_WORDING = (METHOD, DOCS / "READINGS.md", DOCS / "FORMS.md")
@@ -179,9 +181,10 @@ def pages():
 def faults():
     for page in pages():
         name = page.relative_to(ROOT)
-        if page != HISTORY:
+        if page not in (HISTORY, PORT):
             yield from (f"{name}:{number}: {what} leads nowhere" for number, what in lost(page))
-        yield from (f"{name}:{number}: {what}" for number, what in long_ones(page))
+        if page != PORT:
+            yield from (f"{name}:{number}: {what}" for number, what in long_ones(page))
     for path in [*pages(), *sources()]:
         yield from (f"{path.relative_to(ROOT)}:{number}: {what} leads nowhere" for number, what in references(path))
     yield from too_long()

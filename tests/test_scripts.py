@@ -947,7 +947,7 @@ def link_checks(room, folder):
     program = room.root / "target" / "bin" / "listing"
     kept = program.rename(folder / "listing program")
     built = room.root / "crates" / "listing" / "out" / "listing"
-    built.parent.mkdir(parents=True)
+    built.parent.mkdir(parents=True, exist_ok=True)
     (folder / "rt").write_text(f'#!/bin/sh\npwd -P\ncp "{kept}" "{built}"\n')
     (folder / "rt").chmod(0o755)
     (far / "build link").symlink_to(room.root / "scripts" / "build")
@@ -997,7 +997,7 @@ def build_checks(room, folder):
     tools = folder / "tools"
     tools.mkdir()
     out = room.root / "crates" / "listing" / "out"
-    out.mkdir(parents=True)
+    out.mkdir(parents=True, exist_ok=True)
     built = out / "listing"
 
     def prover(end, proved=crates):
