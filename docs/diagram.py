@@ -1,6 +1,6 @@
 """What the pictures of this folder are drawn with: listings of a fund, and diagrams in powers of ten.
 
-The listing program is built by `rt check listing`.
+The listing program is built by `scripts/build listing`.
 """
 
 import re

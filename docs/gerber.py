@@ -2,7 +2,7 @@
 
     python3 docs/gerber.py
 
-It runs the listing program (built by `rt check listing`) once for each order. The exact values, and the
+It runs the listing program (built by `scripts/build listing`) once for each order. The exact values, and the
 truncation figures of the orders that are refused, are those of the independent calculation in tests/.
 """
 

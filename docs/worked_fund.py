@@ -2,7 +2,7 @@
 
     python3 docs/worked_fund.py
 
-It runs the listing program (built by `rt check listing`) once for each
+It runs the listing program (built by `scripts/build listing`) once for each
 deductible from 0 to the horizon and one.
 """
 

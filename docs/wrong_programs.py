@@ -42,8 +42,9 @@ What a contract, a theorem or a table of worked funds refuses, and no edit tries
 - 5 or 6 answered at the copy's place: the contract of `matching::matched`
 - a valuation that answers zeros for every fund, values the first life alone, or leaves the
   cells of a refused fund as they are: the contract of `valuation::value`
-- a promise that is dropped from a public call, of Rattle or of C, because nothing above
-  relies on it: `crates/claims`, whose functions derive theirs from these contracts
+- a promise that is dropped from a public call, because nothing above relies on it:
+  `crates/claims`, whose functions derive theirs from these contracts. The exports for C
+  repeat the clauses of the libraries' calls; `claims` does not name them, their edits do
 """
 
 

@@ -47,7 +47,7 @@ def printed(program, data, cuts):
 
 
 def main():
-    subprocess.run(["rt", "check", "listing"], cwd=ROOT, check=True, stdout=subprocess.DEVNULL, stderr=subprocess.STDOUT)
+    subprocess.run([ROOT / "scripts" / "build", "listing"], check=True, stdout=subprocess.DEVNULL, stderr=subprocess.DEVNULL)
     program, count, bad = ROOT / "target" / "bin" / "listing", 0, 0
     for name, data in files().items():
         cuts = cuts_of(len(data))

@@ -13,18 +13,17 @@ TARGET = pathlib.Path(__file__).resolve().parent.parent / "crates/tables/specs/E
 
 HEAD = """-- Small funds with their exact values as fractions in lowest terms, from an independent calculation (tests/exact.py).
 -- Written by tests/write_exact_rows.py.
-use mathlib.Core.List.{List, [], _∷_}
-use Prim.Native.Nat.{ℕ}
-use Rattle·fund.specs.Starred.{text}
+use Rattle.std.specs.Prelude.{List, [], ◌∷◌, ℕ}
+use Rattle.fund.specs.Starred.{text}
 
 pub record Fraction : Type 0 where
   pub num : ℕ
   pub den : ℕ
 
-abbrev pub _∕_ : ℕ → ℕ → Fraction
-_∕_ a b = record { num = a; den = b }
+abbrev pub ◌∕◌ : ℕ → ℕ → Fraction
+◌∕◌ a b = record { num = a; den = b }
 
-infix 90 _∕_
+infix 90 ◌∕◌
 -- The exact values at 0 to X; the exact premium and, where lambda is 0, the average excess, both in units.
 pub record ExactRow : Type 0 where
   pub file : List ℕ
@@ -32,8 +31,8 @@ pub record ExactRow : Type 0 where
   pub premium : Fraction
   pub average : List Fraction
 
-unfoldable pub exactRows : List ExactRow
-exactRows =
+unfoldable pub exact_rows : List ExactRow
+exact_rows =
 """
 
 

@@ -47,10 +47,10 @@ other_lines d = if nothing_else d then bytes "other=none\n" else other_header d 
 
 -- The key of an interval says `rates` where nothing else differs: there the exact move is that of the rates.
 unfoldable pub interval_lines : Bool → Move → List ℕ
-interval_lines ratesAlone m =
-    interval_line (if ratesAlone then bytes "rates=" else bytes "exact=") 12 m.least m.most
+interval_lines rates_alone m =
+    interval_line (if rates_alone then bytes "rates=" else bytes "exact=") 12 m.least m.most
     ++ (signed_line (bytes "gross-move=") 2 m.gross
-    ++ interval_line (if ratesAlone then bytes "gross-rates=" else bytes "gross-exact=") 2 m.gross_least m.gross_most)
+    ++ interval_line (if rates_alone then bytes "gross-rates=" else bytes "gross-exact=") 2 m.gross_least m.gross_most)
 
 unfoldable pub move_lines : Comparison → List ℕ
 move_lines Unpriced = []

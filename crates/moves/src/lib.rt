@@ -6,7 +6,7 @@ mod files;
 
 ghost use Rattle.std.specs.Prelude.{◌≡◌, ◌+◌, ◌^◌, ◌≤◌, pos, nat_abs, ◌+ℤ◌, ◌-ℤ◌};
 ghost use Rattle.fund.specs.Limits.{least_worth, most_worth};
-ghost use Rattle.moves.specs.Move.{excess as excessOf, move_of, most_within, FiguresIn, figures_in, moved_of};
+ghost use Rattle.moves.specs.Move.{excess as excess_of, move_of, most_within, FiguresIn, figures_in, moved_of};
 
 pub use files::{Differences, differing};
 use fund::{Figures, Fund};
@@ -53,7 +53,7 @@ fn is_inside(fund: Fund, figures: Figures) -> bool
 // The bound loaded twice, as the tariff loads a premium with its bound, and a centime.
 fn excess(fund: Fund, within: u64) -> u64
     requires { (least_worth ≤ fund.worth) × (fund.worth ≤ most_worth) × (within ≤ most_within) }
-    ensures { result ≡ excessOf fund within }
+    ensures { result ≡ excess_of fund within }
 {
     match tariff::gross_premium(fund, within as i64, within) {
         Gross::Centimes(centimes) => centimes + 1,

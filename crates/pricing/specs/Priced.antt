@@ -89,7 +89,7 @@ abbrev pub read_answer : List ℕ → FileRead → Lengths → Answer
 read_answer text found n = read_by text found n found.verdict
 
 -- The contract of the call on what was read, whatever it is: each step's definition, one after the other. Of what a reading of a fund in its ranges gives it is that of the call on the
--- text (proofs/PricedRead.prices-read).
+-- text (proofs/PricedRead.prices_read).
 pub record PricesRead (text : List ℕ) (found : FileRead) (level : ℕ) (n : Lengths) (p : Priced) (a : Answer) : Type 0 where
   pub answer : a ≡ read_answer text found n
   pub horizon : p.horizon ≡ horizon_with p.verdict found.fund.horizon

@@ -1,11 +1,11 @@
 // The figures of a fund that add up over its lives: lambda, load, truncation figure and mean. Each is one walk over the table, and takes
 // what a life of a line adds times the line's lives.
 ghost use Rattle.std.specs.Prelude.{◌≡◌, min, ◌+◌, ◌-◌, ◌*◌, ◌^◌, ◌<◌, ◌≤◌};
-ghost use Rattle.rounding.specs.Rounding.{up as upOf};
+ghost use Rattle.rounding.specs.Rounding.{up as up_of};
 ghost use Rattle.fund.specs.Base.{total};
 ghost use Rattle.fund.specs.Limits.{most_order, most_truncation, half_rate};
 ghost use Rattle.fund.specs.Folding.{copies, claim, stay};
-ghost use Rattle.fund.specs.Transform.{lambda as lambdaOf, truncation as truncationOf, mean as meanOf, unit, w};
+ghost use Rattle.fund.specs.Transform.{lambda as lambda_of, truncation as truncation_of, mean as mean_of, unit, w};
 ghost use Rattle.laws.specs.Ranges.{FrequenciesOk};
 ghost use Rattle.widths.specs.Lives.{InRange};
 ghost use Rattle.widths.specs.Parts.{lambda_part, single_load, truncation_part, mean_part};
@@ -43,7 +43,7 @@ fn lambda_step(sum: u64, p: ModelPoint, ab: Frequencies) -> u64
 // Lambda, in units: at most 5,000,000 × 10^6 for each of 1,000 lives.
 pub(crate) fn lambda(points: &[ModelPoint], ab: Frequencies) -> u64
     requires { Points points.now × FrequenciesOk ab }
-    ensures { result ≡ lambdaOf ab (copies points.now) }
+    ensures { result ≡ lambda_of ab (copies points.now) }
 {
     let mut sum: u64 = 0;
     let mut k: usize = 0;
@@ -91,7 +91,7 @@ pub(crate) fn load(points: &[ModelPoint], lambda: u64) -> u64
 // w(n) from w(n-1).
 fn next_weight(m: Life, last: u64) -> u64
     requires { (claim m < half_rate) × (last ≤ unit) }
-    ensures { result ≡ upOf (last * claim m) (stay m) }
+    ensures { result ≡ up_of (last * claim m) (stay m) }
 {
     let claim = m.q + m.i;
     up(last * claim, Fund::MOST_RATE - claim)
@@ -137,7 +137,7 @@ fn truncation_step(sum: u64, p: ModelPoint, r: u64) -> u64
 // The truncation figure of order r, or one more than its largest where it is larger.
 pub(crate) fn truncation(points: &[ModelPoint], r: u64) -> u64
     requires { Points points.now × (r ≤ most_order) }
-    ensures { result ≡ min (truncationOf r (copies points.now)) (most_truncation + 1) }
+    ensures { result ≡ min (truncation_of r (copies points.now)) (most_truncation + 1) }
 {
     let mut sum: u64 = 0;
     let mut k: usize = 0;
@@ -180,7 +180,7 @@ fn mean_step(sum: u64, p: ModelPoint, ab: Frequencies) -> u64
 // The mean, in units, or the largest of a fund that is not refused where it is larger.
 pub(crate) fn mean(points: &[ModelPoint], ab: Frequencies) -> u64
     requires { Points points.now × FrequenciesOk ab }
-    ensures { result ≡ min (meanOf ab (copies points.now)) most_mean }
+    ensures { result ≡ min (mean_of ab (copies points.now)) most_mean }
 {
     let mut sum: u64 = 0;
     let mut k: usize = 0;

@@ -4,7 +4,7 @@
 mod cells;
 
 ghost use Rattle.std.specs.Prelude.{◌≡◌, ◌+◌, ◌≤◌, min, pos, ◌-ℤ◌, nat_lt, unsigned_abs};
-ghost use Rattle.rounding.specs.Rounding.{near, up as upOf};
+ghost use Rattle.rounding.specs.Rounding.{near, up as up_of};
 ghost use Rattle.whole.specs.Sign.{most_value, signed};
 ghost use Rattle.whole.specs.Sums.{with_part};
 
@@ -93,7 +93,7 @@ pub fn least(x: u64, y: u64) -> u64
 
 // a / b, up; a division by 0 is 0.
 pub fn up(a: u64, b: u64) -> u64
-    ensures { result ≡ upOf a b }
+    ensures { result ≡ up_of a b }
 {
     if b == 0 {
         return 0;

@@ -1,4 +1,4 @@
--- `fill` meets its contract. The loop's invariant: the slices are filled up to `last`, and as they were beyond; the measure
+-- `fill_cells` meets its contract. The loop's invariant: the slices are filled up to `last`, and as they were beyond; the measure
 -- is how many cells are left.
 use mathlib.Core.Path.{◌≡◌}
 use Prim.Native.Nat.{◌-◌, ◌≤◌}

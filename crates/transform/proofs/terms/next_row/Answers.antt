@@ -4,7 +4,7 @@ use Prim.Native.Nat.{◌+◌}
 use native.Mathlib.Numerals.{add-one}
 use native.Mathlib.Omega.{arith}
 use lib.ListN.{length-set}
-use Rattle.laws.specs.Triangle.{v as vOf, v_step, sum_below_lem}
+use Rattle.laws.specs.Triangle.{v as v_of, v_step, sum_below_lem}
 use Rattle.widths.specs.Triangle.{row_goes_on, row_made}
 use Rattle.transform.proofs.terms.next_row.Goals as goal
 
@@ -31,7 +31,7 @@ loop-l-preserved c =
     let l = c.loop-l in
     let v = l.invariant in
     let a = c.args in
-    let made : c.entry.result ≡ vOf a.m (a.n + 1) l.l = rw (add-one a.n, v_step a.m a.n l.l (omega arith), ← v.6, ← v.3) c.entry.ensures in (
+    let made : c.entry.result ≡ v_of a.m (a.n + 1) l.l = rw (add-one a.n, v_step a.m a.n l.l (omega arith), ← v.6, ← v.3) c.entry.ensures in (
       v.0,
       v.1,
       v.2,
