@@ -51,7 +51,8 @@ class Room:
 
     def run(self, *words, given=b"", path=None, **options):
         """Status, standard output, standard error."""
-        environment = {**os.environ, "TMPDIR": str(self.temporary), "PYTHONDONTWRITEBYTECODE": "1"}
+        # Two crates at a time, as scripts/seconds.txt has them: how long is left is the same on each machine.
+        environment = {**os.environ, "TMPDIR": str(self.temporary), "PYTHONDONTWRITEBYTECODE": "1", "RT_JOBS": "2"}
         if path:
             environment["PATH"] = f"{path}:{environment['PATH']}"
         command = [os.path.join(os.fsencode(self.root), os.fsencode(words[0])), *words[1:]]
@@ -1033,7 +1034,7 @@ def build_checks(room, folder):
     program.unlink()
     prover(f'cp "{kept}" "{built}"')
     answer = room.run("price", good, path=tools)
-    yield "build: proved before, and changed since", answer[:2] == (0, listing) and answer[2].count("\n") == count + 1 and "4 minutes left" in answer[2]
+    yield "build: proved before, and changed since", answer[:2] == (0, listing) and answer[2].count("\n") == count + 1 and "3 minutes left" in answer[2]
     for name in crates[:-1]:
         shutil.rmtree(room.root / "crates" / name)
     program.unlink()
