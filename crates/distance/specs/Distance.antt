@@ -1,7 +1,7 @@
 -- Demand 3 at the definitions: whatever was read and whatever slice lengths the definitions accept, the answer is within its bounds of the exact
 -- values (distance), the answer at a level says so much of the exact distribution function (level_within), and the gross premium is not below the exact premium's
 -- loaded worth (never_below); and with lambda 0 the exact premium is the average excess over M of all outcomes of group 1 (average).
-use Rattle.std.specs.Prelude.{◌≡◌, false, ℕ, zero, suc, ◌+◌, ◌*◌, ◌^◌, ◌<◌, ◌≤◌, ◌*ℤ◌, ◌-ℤ◌}
+use Rattle.std.specs.Prelude.{◌≡◌, false, ℕ, zero, suc, ◌+◌, ◌*◌, ◌^◌, ◌<◌, ◌≤◌, ◌*ℤ◌, ◌-ℤ◌, None, Ok, Option, Some}
 use Rattle.std.proofs.Common.{sym, ◌∙◌, le_trans, mul-pos, arith}
 use Rattle.std.proofs.Math.Path.{ap, subst}
 use mathlib.Core.List.{List}
@@ -9,9 +9,6 @@ use Rattle.std.proofs.Math.Nat.{one-le-pow}
 use Rattle.std.proofs.Math.IntN.{pos, nat_abs}
 use Rattle.std.proofs.Math.ListN.{get_or}
 use Rattle.algebra.specs.RationalSum.{sum_n_ext}
-use Rattle.fund.specs.declared.Quantile.{Quantile}
-use Rattle.fund.specs.declared.Quantile.TheVariants.{At, None}
-use Rattle.fund.specs.declared.Verdict.TheVariants.{Accepted}
 use Rattle.fund.specs.Base.{sum}
 use Rattle.fund.specs.Limits.{most_level}
 use Rattle.fund.specs.Reading.{FundFile, Reading, read}
@@ -101,7 +98,7 @@ module _ (fund : FundFile) (n : Lengths) (ok : FundOk fund) (a : Accepts fund n 
   unfolding exact_loaded_worth fund_figures accepted
   covers_exact = record { gross = gross_covers (file_denominator fund) fund.header.deductible fund.header.worth A.figures.within A.figures.premium (exact_premium_of fund) close_premium }
 
-pub distance : (text : List ℕ) (n : Lengths) (r : Reading) (fund : FundFile) → FundOk fund → r ≡ read fund → (answer_to text n r).verdict ≡ Accepted → WithinBounds fund (answer_to text n r)
+pub distance : (text : List ℕ) (n : Lengths) (r : Reading) (fund : FundFile) → FundOk fund → r ≡ read fund → (answer_to text n r).verdict ≡ Ok tt → WithinBounds fund (answer_to text n r)
 distance text n r fund ok is e =
     let c = answer_accepted text n r fund is e in
     let a = accepts fund n (fund_cells fund.header (lives fund)) c.verdict_is in
@@ -113,28 +110,28 @@ module _ (fund : FundFile) (a : Answer) (w : WithinBounds fund a) (level : ℕ) 
   below : (y : ℕ) → y ≤ fund.header.horizon → reaches level (get_or a.F y (pos 0)) ≡ false → BelowAt fund a level y
   below y l e = below_near (file_denominator fund) level (bound_at fund a y) (get_or a.F y (pos 0)) (pos unit *ℤ exact_sum fund y) (denominator_pos fund) (w.sums y l) e
 
-  quantile_within : (q : Quantile) → QuantileSays level fund.header.horizon a.F q → QuantileWithin fund a level q
-  quantile_within (At x) s =
+  quantile_within : (q : Option ℕ) → QuantileSays level fund.header.horizon a.F q → QuantileWithin fund a level q
+  quantile_within (Some x) s =
       record {
         reached = reached_near (file_denominator fund) level (bound_at fund a x) (get_or a.F x (pos 0)) (pos unit *ℤ exact_sum fund x) (w.sums x s.inside) s.reached;
         before = λ y l. below y (omega (arith, s.inside)) (s.before y l);
       }
   quantile_within None s = λ y l. below y l (s y l)
 
-pub level_within : (text : List ℕ) (n : Lengths) (r : Reading) (fund : FundFile) → FundOk fund → r ≡ read fund → (answer_to text n r).verdict ≡ Accepted → (level : ℕ) → level ≤ most_level →
+pub level_within : (text : List ℕ) (n : Lengths) (r : Reading) (fund : FundFile) → FundOk fund → r ≡ read fund → (answer_to text n r).verdict ≡ Ok tt → (level : ℕ) → level ≤ most_level →
     QuantileWithin fund (answer_to text n r) level (quantile_of level (horizon_in r) (answer_to text n r).F (answer_to text n r).verdict)
 unfolding horizon_in
 level_within text n r fund ok is e level l =
     let a = answer_to text n r in
     rw (ap horizon_in is) (quantile_within fund a (distance text n r fund ok is e) level (quantile_of level fund.header.horizon a.F a.verdict) (level_says text n r fund is e level l))
 
-pub never_below : (text : List ℕ) (n : Lengths) (r : Reading) (fund : FundFile) → FundOk fund → r ≡ read fund → (answer_to text n r).verdict ≡ Accepted → NeverBelow fund (answer_to text n r)
+pub never_below : (text : List ℕ) (n : Lengths) (r : Reading) (fund : FundFile) → FundOk fund → r ≡ read fund → (answer_to text n r).verdict ≡ Ok tt → NeverBelow fund (answer_to text n r)
 never_below text n r fund ok is e =
     let c = answer_accepted text n r fund is e in
     let a = accepts fund n (fund_cells fund.header (lives fund)) c.verdict_is in
     subst (λ (x : Answer). NeverBelow fund x) (sym c.answer_is) (covers_exact fund n ok a)
 
-pub average : (text : List ℕ) (n : Lengths) (r : Reading) (fund : FundFile) → r ≡ read fund → (answer_to text n r).verdict ≡ Accepted → AverageExcess fund
+pub average : (text : List ℕ) (n : Lengths) (r : Reading) (fund : FundFile) → r ≡ read fund → (answer_to text n r).verdict ≡ Ok tt → AverageExcess fund
 unfolding exact_premium_of file_denominator fund_mean unit
 average text n r fund is e z =
     let c = answer_accepted text n r fund is e in

@@ -1,7 +1,6 @@
 -- The lives of a fund in the terms of the expansion: group 1 as its members, group 2 as the weights of its compound Poisson part.
-use Rattle.std.specs.Prelude.{◌≡◌, refl, true, List, [], ◌∷◌, ℕ, suc, ◌-◌, ◌*◌, eqb, if◌then◌else◌}
+use Rattle.std.specs.Prelude.{◌≡◌, refl, true, List, [], ◌∷◌, ℕ, suc, ◌-◌, ◌*◌, eqb, if◌then◌else◌, None, Option, Some}
 use Rattle.std.proofs.Common.{ap, arith}
-use Rattle.std.proofs.Math.Option.{Option, none, some}
 use Rattle.algebra.specs.Q.{ℚ}
 use Rattle.algebra.specs.Embedding.{nat}
 use Rattle.algebra.specs.Quotient.{over}
@@ -47,8 +46,8 @@ fold_rate d q h = ap (λ x. if eqb x 0 then 0 else q) h
 
 folded_life : (o : Option Rate) (m : MemberRow) → FoldedLife (folded o m)
 unfolding folded
-folded_life none m = record { q_folded = λ h. refl; i_folded = λ h. refl }
-folded_life (some r) m = record { q_folded = fold_rate m.d r.q; i_folded = fold_rate m.e r.i }
+folded_life None m = record { q_folded = λ h. refl; i_folded = λ h. refl }
+folded_life (Some r) m = record { q_folded = fold_rate m.d r.q; i_folded = fold_rate m.e r.i }
 
 pub all_folded : (file : FundFile) → All FoldedLife (lives file)
 unfolding life

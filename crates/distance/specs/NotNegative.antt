@@ -1,6 +1,6 @@
 -- The premium and its bound are together not negative, for every fund that is accepted (not_negative_lem). The exact premium is not below half a
 -- unit under 0, the premium is within its bound of it, and premium and bound are whole numbers.
-use Rattle.std.specs.Prelude.{◌≡◌, List, ℕ, suc, ◌<◌, ◌≤◌ as ◌≤ⁿ◌, ◌*◌ as ◌*ⁿ◌, ℤ, pos, negsuc, nat_abs, ◌+ℤ◌, ◌-ℤ◌, ◌*ℤ◌, ◌≤ℤ◌}
+use Rattle.std.specs.Prelude.{◌≡◌, List, ℕ, suc, ◌<◌, ◌≤◌ as ◌≤ⁿ◌, ◌*◌ as ◌*ⁿ◌, ℤ, pos, negsuc, nat_abs, ◌+ℤ◌, ◌-ℤ◌, ◌*ℤ◌, ◌≤ℤ◌, Ok}
 use Rattle.std.proofs.Common.{sym, ◌∙◌, ap, arith, le→leb}
 use Rattle.algebra.specs.Order as O
 use Rattle.algebra.specs.Solver.{con, 𝟏, ⊖◌, ◌⊕◌, ◌⊗◌, ◌⊝◌}
@@ -8,7 +8,6 @@ use Rattle.algebra.specs.Linear.{lin1, lin4, ◌≼◌, ◌⋅◌, rest, ◌∣�
 use Rattle.algebra.specs.Q.{ℚ_ring, ℚ_ord, neg_q, one_q, ◌-ℚ◌, ◌*ℚ◌, ◌≤ℚ◌, ≤_trans, ≤_of_eq}
 use Rattle.algebra.specs.Embedding.{ofℤ, nat, ofℤ_add, ofℤ_neg, ofℤ_sub, ofℤ_mul, nat_mul, nat_le, nat_reflect, abs_ofℤ}
 use Rattle.algebra.specs.Quotient.{cancel}
-use Rattle.fund.specs.declared.Verdict.TheVariants.{Accepted}
 use Rattle.fund.specs.Limits.{most_deductible, most_amount}
 use Rattle.fund.specs.Reading.{FundFile, Reading, read}
 use Rattle.fund.specs.Folding.{lives}
@@ -57,7 +56,7 @@ exact_low fund n ok a =
     exact_premium_low fund.header.horizon fund.header.order fund.header.frequency (lives fund) ok.header.order_most (priceable fund n a)
     fund.header.deductible a.deductible (suc most_amount) (amounts_below fund ok.rows.members) (omega arith) few
 
-pub not_negative_lem : (text : List ℕ) (n : Lengths) (r : Reading) (fund : FundFile) → FundOk fund → r ≡ read fund → (answer_to text n r).verdict ≡ Accepted →
+pub not_negative_lem : (text : List ℕ) (n : Lengths) (r : Reading) (fund : FundFile) → FundOk fund → r ≡ read fund → (answer_to text n r).verdict ≡ Ok tt →
     pos 0 ≤ℤ ((answer_to text n r).figures.premium +ℤ pos (answer_to text n r).figures.within)
 not_negative_lem text n r fund ok is e =
     let c = answer_accepted text n r fund is e in

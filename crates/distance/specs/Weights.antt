@@ -1,11 +1,10 @@
 -- Group 2's weights: their first moment is at most group 2's part of the mean (moment_within), and with amounts below B they add to
 -- lambda below B (weights_reach); in ℚ: moment, reach. The amounts of a fund that is read are below 65536 (amounts_below). The mean is group
 -- 1's claims and group 2's part (mean_parts).
-use Rattle.std.specs.Prelude.{◌≡◌, Bool, List, [], ◌∷◌, eqb, if◌then◌else◌}
+use Rattle.std.specs.Prelude.{◌≡◌, Bool, List, [], ◌∷◌, eqb, if◌then◌else◌, None, Option, Some}
 use Rattle.std.proofs.Math.Path.{refl, ap}
 use Rattle.std.proofs.Common.{sym, ◌∙◌, mul_comm, mul-add, mul-zero, zero-add, arith, eqb-true, eq-eqb}
 use Rattle.std.proofs.Math.Bool.{true, false}
-use Rattle.std.proofs.Math.Option.{Option, none, some}
 use Prim.Native.Nat.{ℕ, zero, suc, ◌<◌, ◌≤◌ as ◌≤ⁿ◌, ◌+◌ as ◌+ⁿ◌, ◌*◌ as ◌*ⁿ◌, ◌^◌}
 use Rattle.algebra.specs.Solver.{ring3, ◌⊗◌, ◌:=◌}
 use Rattle.algebra.specs.Q.{ℚ_ring, ◌*ℚ◌, ◌≤ℚ◌, ≤_trans, ≤_of_eq}
@@ -129,8 +128,8 @@ unfolding life folded
 amounts_below file h = all_lives (Below (suc most_amount)) file (go file.members h)
   where
     one : (o : Option Rate) (m : MemberRow) → MemberOk m → Below (suc most_amount) (folded o m)
-    one none m k = (omega (arith, k.d), omega (arith, k.e))
-    one (some r) m k = (omega (arith, k.d), omega (arith, k.e))
+    one None m k = (omega (arith, k.d), omega (arith, k.e))
+    one (Some r) m k = (omega (arith, k.d), omega (arith, k.e))
 
     go : (l : List MemberRow) → All MemberOk l → All (λ m. Below (suc most_amount) (life file.rates m)) l
     go [] h = tt

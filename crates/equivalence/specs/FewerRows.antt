@@ -1,7 +1,6 @@
 -- A file without one of its rate lines is read, as the fund without that row (read_without).
-use Rattle.std.specs.Prelude.{◌≡◌, refl, true, false, List, [], ◌∷◌, ◌++◌, ℕ, zero, suc, ◌+◌, ◌<◌, leb, ltb, length}
+use Rattle.std.specs.Prelude.{◌≡◌, refl, true, false, List, [], ◌∷◌, ◌++◌, ℕ, zero, suc, ◌+◌, ◌<◌, leb, ltb, length, None, Option, Some}
 use Rattle.std.proofs.Common.{sym, ◌∙◌, ap, subst, true≢false, append-nil, append_assoc, arith, ltb-true, lt-ltb, length-append}
-use Rattle.std.proofs.Math.Option.{Option, none, some}
 use Rattle.fund.specs.declared.Fund.{Fund}
 use Rattle.fund.specs.declared.Rate.{Rate}
 use Rattle.fund.specs.declared.Member.{Member}
@@ -124,8 +123,8 @@ header_left (h ∷ hs) j n ns (l ∷ ls) fund few e =
     go : (o : Option (List ℕ)) → spelled h.key (length h.ranges) l ≡ o → read_header file_rows (h ∷ hs) n ns (l ∷ ls) ≡ read fund →
         ((vs : List ℕ) → read_header file_rows hs (suc n) vs ls ≡ read fund → read_header file_rows hs (suc n) vs (drop_at (length hs + j) ls) ≡ read (fewer j fund)) →
         read_header file_rows (h ∷ hs) n ns (l ∷ drop_at (length hs + j) ls) ≡ read (fewer j fund)
-    go none s w ih = absurd (never Form n fund (rw (s, read_header) at w))
-    go (some vs) s w ih =
+    go None s w ih = absurd (never Form n fund (rw (s, read_header) at w))
+    go (Some vs) s w ih =
         let h2 = pass (in_ranges h.ranges vs) Range n (read_header file_rows hs (suc n) (ns ++ vs) ls) fund (rw (s, read_header) at w) in
         rw (s, read_header) (rw h2.0 (ih (ns ++ vs) h2.1))
 

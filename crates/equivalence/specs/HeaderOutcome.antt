@@ -1,7 +1,6 @@
 -- The header decides by itself: its lines stop reading, whatever follows them, or what follows them is read with their figures (header_outcome).
-use Rattle.std.specs.Prelude.{◌≡◌, refl, ◌⊎◌, Bool, true, false, List, [], ◌∷◌, ◌++◌, ℕ, suc, ◌+◌, eqb, length, if◌then◌else◌}
+use Rattle.std.specs.Prelude.{◌≡◌, refl, ◌⊎◌, Bool, true, false, List, [], ◌∷◌, ◌++◌, ℕ, suc, ◌+◌, eqb, length, if◌then◌else◌, None, Option, Some}
 use Rattle.std.proofs.Common.{sym, ◌∙◌, ap, inl, inr, true≢false, arith}
-use Rattle.std.proofs.Math.Option.{Option, none, some}
 use Rattle.fund.specs.declared.Fund.{Fund}
 use Rattle.fund.specs.declared.Refusal.{Refusal}
 use Rattle.fund.specs.declared.Refusal.TheVariants.{Form, Range, Cell as CellRefusal}
@@ -43,11 +42,11 @@ form_not_cell e = let z : ◌≡◌ {A = ℕ} 0 1 = cc in omega arith
 pub range_not_cell : Range ≡ CellRefusal → ⊥
 range_not_cell e = let z : ◌≡◌ {A = ℕ} 0 1 = cc in omega arith
 
-spelled_ended : (key : List ℕ) (count : ℕ) (l : Line) (v : List ℕ) → spelled key count l ≡ some v → l.ended ≡ true
+spelled_ended : (key : List ℕ) (count : ℕ) (l : Line) (v : List ℕ) → spelled key count l ≡ Some v → l.ended ≡ true
 unfolding spelled
 spelled_ended key count l v e = go l.ended e
   where
-    go : (b : Bool) → elim b [ true ↦ elim (behind key l.text) [ none ↦ none | some t ↦ numbers count t ] | false ↦ none ] ≡ some v → b ≡ true
+    go : (b : Bool) → elim b [ true ↦ elim (behind key l.text) [ None ↦ None | Some t ↦ numbers count t ] | false ↦ None ] ≡ Some v → b ≡ true
     go true h = refl
     go false h = let z : ◌≡◌ {A = ℕ} 0 1 = cc in absurd (omega arith)
 
@@ -59,7 +58,7 @@ header_outcome [] n ns ls =
 header_outcome (h ∷ hs) n ns [] = inl (record { why = Form; place = n; stops = λ after. refl; not_cell = form_not_cell })
 header_outcome (h ∷ hs) n ns (l ∷ ls) = go (spelled h.key (length h.ranges) l) refl (λ vs. header_outcome hs (suc n) vs ls)
   where
-    more_lines : (v : List ℕ) → spelled h.key (length h.ranges) l ≡ some v → in_ranges h.ranges v ≡ true → Stops hs (suc n) (ns ++ v) ls ⊎ Passes hs (suc n) (ns ++ v) ls →
+    more_lines : (v : List ℕ) → spelled h.key (length h.ranges) l ≡ Some v → in_ranges h.ranges v ≡ true → Stops hs (suc n) (ns ++ v) ls ⊎ Passes hs (suc n) (ns ++ v) ls →
         Stops (h ∷ hs) n ns (l ∷ ls) ⊎ Passes (h ∷ hs) n ns (l ∷ ls)
     more_lines v s t (inl k) =
         inl (record { why = k.why; place = k.place; stops = λ after. rw (s, read_header) (rw t (k.stops after)); not_cell = k.not_cell })
@@ -75,15 +74,15 @@ header_outcome (h ∷ hs) n ns (l ∷ ls) = go (spelled h.key (length h.ranges) 
           goes_on = λ after more. rw (s, read_header) (rw t (k.goes_on after more ∙ ap (λ m. after m k.fund more) e));
         })
 
-    in_range : (v : List ℕ) → spelled h.key (length h.ranges) l ≡ some v → (b : Bool) → in_ranges h.ranges v ≡ b → Stops hs (suc n) (ns ++ v) ls ⊎ Passes hs (suc n) (ns ++ v) ls →
+    in_range : (v : List ℕ) → spelled h.key (length h.ranges) l ≡ Some v → (b : Bool) → in_ranges h.ranges v ≡ b → Stops hs (suc n) (ns ++ v) ls ⊎ Passes hs (suc n) (ns ++ v) ls →
         Stops (h ∷ hs) n ns (l ∷ ls) ⊎ Passes (h ∷ hs) n ns (l ∷ ls)
     in_range v s true t k = more_lines v s t k
     in_range v s false t k = inl (record { why = Range; place = n; stops = λ after. rw (s, read_header) (rw t); not_cell = range_not_cell })
 
     go : (o : Option (List ℕ)) → spelled h.key (length h.ranges) l ≡ o → ((vs : List ℕ) → Stops hs (suc n) vs ls ⊎ Passes hs (suc n) vs ls) →
         Stops (h ∷ hs) n ns (l ∷ ls) ⊎ Passes (h ∷ hs) n ns (l ∷ ls)
-    go none s ih = inl (record { why = Form; place = n; stops = λ after. rw (s, read_header); not_cell = form_not_cell })
-    go (some v) s ih = in_range v s (in_ranges h.ranges v) refl (ih (ns ++ v))
+    go None s ih = inl (record { why = Form; place = n; stops = λ after. rw (s, read_header); not_cell = form_not_cell })
+    go (Some v) s ih = in_range v s (in_ranges h.ranges v) refl (ih (ns ++ v))
 
 -- ---- the text
 -- A byte in front of lines that all end with their line feed, and of lines behind those.

@@ -1,10 +1,9 @@
 -- METHOD 3 (§2): the new edition "leaves out ages whose rates equal those of the age before". A rate row that is equal, but for its age, to
 -- the row in force before it can be left out: at every age the rates in force are alike (still_alike), and the answer is the same but for
 -- places (row_left_out); the file without that line is such a file (line_left_out).
-use Rattle.std.specs.Prelude.{◌≡◌, Bool, true, false, List, [], ◌∷◌, ◌++◌, ℕ, ◌+◌, ◌≤◌, ◌<◌, leb, length, if◌then◌else◌}
+use Rattle.std.specs.Prelude.{◌≡◌, Bool, true, false, List, [], ◌∷◌, ◌++◌, ℕ, ◌+◌, ◌≤◌, ◌<◌, leb, length, if◌then◌else◌, None, Option, Some}
 use Rattle.std.proofs.Math.Path.{refl}
 use Rattle.std.proofs.Common.{sym, ◌∙◌, ap, append-nil, arith, leb-true, leb-false, length-append}
-use Rattle.std.proofs.Math.Option.{Option, none, some}
 use Rattle.fund.specs.declared.Fund.{Fund}
 use Rattle.fund.specs.declared.Rate.{Rate}
 use Rattle.fund.specs.declared.Member.{Member}
@@ -29,11 +28,11 @@ unfolding held_until
 alike_held o p [] age k = k
 alike_held o p (r ∷ rs) age k = go (leb r.age age)
   where
-    go : (b : Bool) → Alike (if b then held_until (some r) rs age else o) (if b then held_until (some r) rs age else p)
-    go true = alike_refl (held_until (some r) rs age)
+    go : (b : Bool) → Alike (if b then held_until (Some r) rs age else o) (if b then held_until (Some r) rs age else p)
+    go true = alike_refl (held_until (Some r) rs age)
     go false = k
 
-module _ (before after : List Rate) (r : Rate) (rise : Rising (before ++ (r ∷ after))) (equal : Alike (some r) (rate_in_force before r.age)) where
+module _ (before after : List Rate) (r : Rate) (rise : Rising (before ++ (r ∷ after))) (equal : Alike (Some r) (rate_in_force before r.age)) where
   pub still_alike : (age : ℕ) → Alike (rate_in_force (before ++ (r ∷ after)) age) (rate_in_force (before ++ after) age)
   unfolding rate_in_force held_until
   still_alike age = go (leb r.age age) refl
@@ -41,18 +40,18 @@ module _ (before after : List Rate) (r : Rate) (rise : Rising (before ++ (r ∷ 
       not_above : (older : ℕ) → r.age ≤ older → NotAbove before older
       not_above older le = all_map (λ s h. omega arith) before (before_below before after r rise)
 
-      last : Alike (some r) (last_or none before)
-      last = rw (sym (held_through none before [] r.age (not_above r.age (omega arith))), append-nil before) equal
+      last : Alike (Some r) (last_or None before)
+      last = rw (sym (held_through None before [] r.age (not_above r.age (omega arith))), append-nil before) equal
 
-      go : (b : Bool) → leb r.age age ≡ b → Alike (held_until none (before ++ (r ∷ after)) age) (held_until none (before ++ after) age)
+      go : (b : Bool) → leb r.age age ≡ b → Alike (held_until None (before ++ (r ∷ after)) age) (held_until None (before ++ after) age)
       go true e =
           let le : r.age ≤ age = leb-true r.age age e in
-          rw (held_through none before (r ∷ after) age (not_above age le), held_through none before after age (not_above age le), e)
-          (alike_held (some r) (last_or none before) after age last)
+          rw (held_through None before (r ∷ after) age (not_above age le), held_through None before after age (not_above age le), e)
+          (alike_held (Some r) (last_or None before) after age last)
       go false e =
           let above : age < r.age = leb-false r.age age e in
           let later : Below age after = all_map (λ s h. omega arith) after (after_above before after r rise) in
-          rw (held_above none before (r ∷ after) age (above, later), held_above none before after age later) (alike_refl (held_until none before age))
+          rw (held_above None before (r ∷ after) age (above, later), held_above None before after age later) (alike_refl (held_until None before age))
 
 -- The file with the row, and the file without it.
 module _ (header : Fund) (before after : List Rate) (r : Rate) (members : List Member) where
@@ -62,7 +61,7 @@ module _ (header : Fund) (before after : List Rate) (r : Rate) (members : List M
   abbrev pub without : FundFile
   without = record { header = header; rates = before ++ after; members = members }
 
-  module _ (file : List ℕ) (is : reading file ≡ read whole) (equal : Alike (some r) (rate_in_force before r.age)) where
+  module _ (file : List ℕ) (is : reading file ≡ read whole) (equal : Alike (Some r) (rate_in_force before r.age)) where
     alike : AlikeFor (rate_in_force (before ++ (r ∷ after))) (rate_in_force (before ++ after)) members
     alike = go members
       where

@@ -1,6 +1,6 @@
 -- METHOD 4 (§5): "A file with a = b gives the old figures." Where both frequencies are a, the answer is the one that the formulas for
 -- group 2 with one frequency give (as_before), and the exact values and the exact premium are those of its weights (exact_as_before, premium_as_before).
-use Rattle.std.specs.Prelude.{◌≡◌, Bool, true, false, eqb, ltb, ℤ, pos, neg_ℤ, ◌+ℤ◌, ◌-ℤ◌, ◌*ℤ◌, if◌then◌else◌}
+use Rattle.std.specs.Prelude.{◌≡◌, Bool, true, false, eqb, ltb, ℤ, pos, neg_ℤ, ◌+ℤ◌, ◌-ℤ◌, ◌*ℤ◌, if◌then◌else◌, Err, Ok}
 use Rattle.std.proofs.Math.Path.{refl, ap, ap₂, fun_ext}
 use Rattle.std.proofs.Common.{sym, ◌∙◌, mul_assoc, mul_comm, arith}
 use mathlib.Core.List.{List, [], ◌∷◌, ◌++◌, map, reverse}
@@ -12,8 +12,7 @@ use Rattle.fund.specs.declared.Frequencies.{Frequencies}
 use Rattle.fund.specs.declared.Life.{Life}
 use Rattle.fund.specs.declared.Figures.{Figures}
 use Rattle.fund.specs.declared.Refusal.TheVariants.{Load, Order, Short, Wide}
-use Rattle.fund.specs.declared.Verdict.{Verdict}
-use Rattle.fund.specs.declared.Verdict.TheVariants.{Accepted, Refused}
+use Rattle.fund.specs.Verdict.{Verdict, refused_at}
 use Rattle.fund.specs.Base.{total, table, sumℤ}
 use Rattle.fund.specs.Limits.{most_load, most_truncation}
 use Rattle.fund.specs.Reading.{FundFile, Reading, read, stopped, reading}
@@ -131,12 +130,12 @@ module _ (fund : Fund) (ms : List Life) (g : Formulas) where
       refuse Load (at0 (ltb most_load g.load))
       (refuse Order (at0 (ltb most_truncation (truncation fund.order ms)))
       (refuse Short (at0 (short n fund.horizon))
-      (refuse Wide (first wide 0 cells_by) Accepted)))
+      (refuse Wide (first wide 0 cells_by) (Ok tt))))
 
   abbrev pub accepted_by : Lengths → Answer
   accepted_by n =
       record {
-        verdict = Accepted;
+        verdict = (Ok tt);
         part = empty;
         figures = figures_by;
         D = lent (pos 0) n.D (table (suc fund.horizon) (D g.terms));
@@ -147,15 +146,15 @@ module _ (fund : Fund) (ms : List Life) (g : Formulas) where
       }
 
 abbrev pub fund_answer_by : Formulas → List ℕ → Lengths → FundFile → Verdict → Answer
-fund_answer_by g file n fund Accepted = accepted_by fund.header (lives fund) g n
-fund_answer_by g file n fund (Refused why place) = refused file n (Refused why place)
+fund_answer_by g file n fund (Ok tt) = accepted_by fund.header (lives fund) g n
+fund_answer_by g file n fund (Err stop) = refused file n (Err stop)
 
 abbrev pub fund_answered_by : Formulas → List ℕ → Lengths → FundFile → Answer
 fund_answered_by g file n fund = fund_answer_by g file n fund (matched fund (valued_by fund.header (lives fund) g n))
 
 abbrev pub answer_by : (Fund → List Life → Formulas) → List ℕ → Lengths → Reading → Answer
 answer_by given file n (read fund) = fund_answered_by (given fund.header (lives fund)) file n fund
-answer_by given file n (stopped why place) = refused file n (Refused why place)
+answer_by given file n (stopped why place) = refused file n (refused_at why place)
 
 -- today's, and the first delivery's of a frequency a
 abbrev pub formulas : ℕ → ℕ → Frequencies → List Life → Formulas
@@ -175,8 +174,8 @@ document01 a fund ms = formulas₁ fund.horizon fund.order a ms
 
 fund_answer_is : (file : List ℕ) (n : Lengths) (fund : FundFile) (v : Verdict) → answer_of file n fund v ≡ fund_answer_by (today fund.header (lives fund)) file n fund v
 unfolding answer_of accepted fund_figures fund_premium fund_within fund_mean fund_truncation fund_cells fund_start fund_terms
-fund_answer_is file n fund Accepted = refl
-fund_answer_is file n fund (Refused why place) = refl
+fund_answer_is file n fund (Ok tt) = refl
+fund_answer_is file n fund (Err stop) = refl
 
 answer_by_lem : (file : List ℕ) (n : Lengths) (r : Reading) → answer_to file n r ≡ answer_by today file n r
 unfolding answer_to verdict valued fund_cells fund_start fund_terms

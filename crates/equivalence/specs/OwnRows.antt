@@ -1,17 +1,15 @@
 -- METHOD 3 (§2): "A file with all ages gives what it gave." Where every member's age has a row of its own, the rate in force is that row's
 -- (own_in_force), and the answer is that of a search for the row of the age (as_before); so it is for every member of a table with a row for each age (every_age), as every table of
 -- 121 rows is (all_rows).
-use Rattle.std.specs.Prelude.{◌≡◌, Bool, true, false, List, [], ◌∷◌, map, ℕ, suc, ◌+◌, ◌≤◌, ◌<◌, eqb, leb, length, if◌then◌else◌}
+use Rattle.std.specs.Prelude.{◌≡◌, Bool, true, false, List, [], ◌∷◌, map, ℕ, suc, ◌+◌, ◌≤◌, ◌<◌, eqb, leb, length, if◌then◌else◌, Err, None, Ok, Option, Some}
 use Rattle.std.proofs.Math.Path.{refl, ap}
 use Rattle.std.proofs.Common.{sym, ◌∙◌, subst, arith, eqb-true, leb-true, leb-false, le-leb}
-use Rattle.std.proofs.Math.Option.{Option, none, some}
 use Rattle.std.proofs.lemmas.Bool.{eqb-false}
 use Rattle.fund.specs.declared.Rate.{Rate}
 use Rattle.fund.specs.declared.Member.{Member}
 use Rattle.fund.specs.declared.Life.{Life}
 use Rattle.fund.specs.declared.ModelPoint.{ModelPoint}
-use Rattle.fund.specs.declared.Verdict.{Verdict}
-use Rattle.fund.specs.declared.Verdict.TheVariants.{Accepted, Refused}
+use Rattle.fund.specs.Verdict.{Verdict, refused_at}
 use Rattle.fund.specs.Limits.{most_age, most_rates}
 use Rattle.fund.specs.Reading.{FundFile, Reading, read, stopped, reading}
 use Rattle.fund.specs.Folding.{held_until, rate_in_force, life, point, points, copies, lives}
@@ -24,8 +22,8 @@ use Rattle.equivalence.specs.SameRates.{alike_refl, point_at, AlikeFor, same_poi
 
 -- The first delivery's search: the row that has the age.
 unfoldable pub own_row : List Rate → ℕ → Option Rate
-own_row [] age = none
-own_row (r ∷ rs) age = if eqb r.age age then some r else own_row rs age
+own_row [] age = None
+own_row (r ∷ rs) age = if eqb r.age age then Some r else own_row rs age
 
 -- The answer of a call as the definitions give it, with the search of a member's rate left open: all that asks for a rate is here.
 module _ (search : List Rate → ℕ → Option Rate) where
@@ -36,25 +34,25 @@ module _ (search : List Rate → ℕ → Option Rate) where
   lives_by file = copies (points_by file)
 
   abbrev pub unmatched_by : List Rate → Member → Bool
-  unmatched_by rates m = elim (search rates m.age) [ none ↦ true | some r ↦ false ]
+  unmatched_by rates m = elim (search rates m.age) [ None ↦ true | Some r ↦ false ]
 
   abbrev pub verdict_by : FundFile → Lengths → Verdict
   verdict_by file n =
       verdict_for file.header n (first (unmatched_by file.rates) (first_member file) file.members) (first half_line (first_member file) (points_by file)) (lives_by file)
 
   abbrev pub fund_answer_by : List ℕ → Lengths → FundFile → Verdict → Answer
-  fund_answer_by file n fund Accepted = accepted fund.header (lives_by fund) n
-  fund_answer_by file n fund (Refused why place) = refused file n (Refused why place)
+  fund_answer_by file n fund (Ok tt) = accepted fund.header (lives_by fund) n
+  fund_answer_by file n fund (Err stop) = refused file n (Err stop)
 
   abbrev pub answer_by : List ℕ → Lengths → Reading → Answer
   answer_by file n (read fund) = fund_answer_by file n fund (verdict_by fund n)
-  answer_by file n (stopped why place) = refused file n (Refused why place)
+  answer_by file n (stopped why place) = refused file n (refused_at why place)
 
 -- With the rate in force it is today's answer.
 fund_answer_is : (file : List ℕ) (n : Lengths) (fund : FundFile) (v : Verdict) → answer_of file n fund v ≡ fund_answer_by rate_in_force file n fund v
 unfolding answer_of lives points point life
-fund_answer_is file n fund Accepted = refl
-fund_answer_is file n fund (Refused why place) = refl
+fund_answer_is file n fund (Ok tt) = refl
+fund_answer_is file n fund (Err stop) = refl
 
 answer_by_lem : (file : List ℕ) (n : Lengths) (r : Reading) → answer_to file n r ≡ answer_by rate_in_force file n r
 unfolding answer_to verdict matched unmatched lives points point life
@@ -67,41 +65,41 @@ answer_is file n = answer_by_lem file n (reading file)
 -- ---- one search and the other
 -- the age has a row of its own, or every row is above it
 abbrev pub OwnOrBelow : List Rate → ℕ → Type 0
-OwnOrBelow rates age = own_row rates age ≡ none → Below age rates
+OwnOrBelow rates age = own_row rates age ≡ None → Below age rates
 
-own_all : (P : Rate → Type 0) (rates : List Rate) (age : ℕ) (r : Rate) → All P rates → own_row rates age ≡ some r → P r × (r.age ≡ age)
+own_all : (P : Rate → Type 0) (rates : List Rate) (age : ℕ) (r : Rate) → All P rates → own_row rates age ≡ Some r → P r × (r.age ≡ age)
 unfolding own_row
 own_all P [] age r k e = let z : ◌≡◌ {A = ℕ} 0 1 = cc in absurd (omega arith)
 own_all P (s ∷ rs) age r k e = go (eqb s.age age) refl e (own_all P rs age r k.1)
   where
-    go : (b : Bool) → eqb s.age age ≡ b → (if b then some s else own_row rs age) ≡ some r → (own_row rs age ≡ some r → P r × (r.age ≡ age)) → P r × (r.age ≡ age)
+    go : (b : Bool) → eqb s.age age ≡ b → (if b then Some s else own_row rs age) ≡ Some r → (own_row rs age ≡ Some r → P r × (r.age ≡ age)) → P r × (r.age ≡ age)
     go true t h later = let z : s ≡ r = cc in subst (λ u. P u × (u.age ≡ age)) z (k.0, eqb-true s.age age t)
     go false t h later = later h
 
-own_held : (held : Option Rate) (rates : List Rate) (age : ℕ) (r : Rate) → Rising rates → own_row rates age ≡ some r → held_until held rates age ≡ some r
+own_held : (held : Option Rate) (rates : List Rate) (age : ℕ) (r : Rate) → Rising rates → own_row rates age ≡ Some r → held_until held rates age ≡ Some r
 unfolding own_row held_until
 own_held held [] age r k e = let z : ◌≡◌ {A = ℕ} 0 1 = cc in absurd (omega arith)
-own_held held (s ∷ rs) age r k e = go (eqb s.age age) refl e (own_held (some s) rs age r k.1)
+own_held held (s ∷ rs) age r k e = go (eqb s.age age) refl e (own_held (Some s) rs age r k.1)
   where
-    go : (b : Bool) → eqb s.age age ≡ b → (if b then some s else own_row rs age) ≡ some r → (own_row rs age ≡ some r → held_until (some s) rs age ≡ some r) → held_until held (s ∷ rs) age ≡ some r
+    go : (b : Bool) → eqb s.age age ≡ b → (if b then Some s else own_row rs age) ≡ Some r → (own_row rs age ≡ Some r → held_until (Some s) rs age ≡ Some r) → held_until held (s ∷ rs) age ≡ Some r
     go true t h later =
         let same : s.age ≡ age = eqb-true s.age age t in
         let above : Below age rs = all_map (λ u g. omega arith) rs k.0 in
-        rw (le-leb s.age age (omega arith)) (held_above (some s) [] rs age above ∙ h)
+        rw (le-leb s.age age (omega arith)) (held_above (Some s) [] rs age above ∙ h)
     go false t h later =
         let own = own_all (λ (u : Rate). s.age < u.age) rs age r k.0 h in
         rw (le-leb s.age age (omega (arith, own.0, own.1))) (later h)
 
-pub own_in_force : (rates : List Rate) (age : ℕ) (r : Rate) → Rising rates → own_row rates age ≡ some r → rate_in_force rates age ≡ some r
+pub own_in_force : (rates : List Rate) (age : ℕ) (r : Rate) → Rising rates → own_row rates age ≡ Some r → rate_in_force rates age ≡ Some r
 unfolding rate_in_force
-own_in_force rates age r k e = own_held none rates age r k e
+own_in_force rates age r k e = own_held None rates age r k e
 
 same_rate : (rates : List Rate) (age : ℕ) → Rising rates → OwnOrBelow rates age → rate_in_force rates age ≡ own_row rates age
 same_rate rates age k h = go (own_row rates age) refl
   where
     go : (o : Option Rate) → own_row rates age ≡ o → rate_in_force rates age ≡ own_row rates age
-    go none e = in_force_none rates age (h e) ∙ sym e
-    go (some r) e = own_in_force rates age r k e ∙ sym e
+    go None e = in_force_none rates age (h e) ∙ sym e
+    go (Some r) e = own_in_force rates age r k e ∙ sym e
 
 -- ---- as many rows as ages
 abbrev Aged : ℕ → Rate → Type 0
@@ -117,7 +115,7 @@ few_rows [] least k h l = omega arith
 few_rows (r ∷ rs) least k h l = let rest = few_rows rs (suc r.age) k.1 (aged_behind least r.age rs k.0 h.1) (omega (arith, h.0.1)) in omega (arith, rest, h.0.0)
 
 -- and where they are as many, each of these ages has a row
-own_each : (rates : List Rate) (least : ℕ) → Rising rates → All (Aged least) rates → length rates + least ≡ suc most_age → (age : ℕ) → least ≤ age → age ≤ most_age → own_row rates age ≡ none → ⊥
+own_each : (rates : List Rate) (least : ℕ) → Rising rates → All (Aged least) rates → length rates + least ≡ suc most_age → (age : ℕ) → least ≤ age → age ≤ most_age → own_row rates age ≡ None → ⊥
 unfolding own_row
 own_each [] least k h full age l m e = omega arith
 own_each (r ∷ rs) least k h full age l m e = go (eqb r.age age) refl e (λ later f. own_each rs (suc r.age) k.1 behind (omega (arith, full, here)) age later m f)
@@ -132,7 +130,7 @@ own_each (r ∷ rs) least k h full age l m e = go (eqb r.age age) refl e (λ lat
     above t true u = absurd (eqb-false r.age age t (omega (arith, leb-true age r.age u, here, l)))
     above t false u = leb-false age r.age u
 
-    go : (b : Bool) → eqb r.age age ≡ b → (if b then some r else own_row rs age) ≡ none → (suc r.age ≤ age → own_row rs age ≡ none → ⊥) → ⊥
+    go : (b : Bool) → eqb r.age age ≡ b → (if b then Some r else own_row rs age) ≡ None → (suc r.age ≤ age → own_row rs age ≡ None → ⊥) → ⊥
     go true t f rest = let z : ◌≡◌ {A = ℕ} 0 1 = cc in omega arith
     go false t f rest = rest (above t (leb age r.age) refl) f
 
@@ -166,8 +164,8 @@ module _ (file : List ℕ) (fund : FundFile) (is : reading file ≡ read fund) w
 
     by_verdict : (n : Lengths) (v : Verdict) → fund_answer_by rate_in_force file n fund v ≡ fund_answer_by own_row file n fund v
     unfolding lives points point life
-    by_verdict n Accepted = ap (λ ms. accepted fund.header ms n) lives_as_before
-    by_verdict n (Refused why place) = refl
+    by_verdict n (Ok tt) = ap (λ ms. accepted fund.header ms n) lives_as_before
+    by_verdict n (Err stop) = refl
 
     pub as_before : (n : Lengths) → answer file n ≡ answer_by own_row file n (reading file)
     as_before n =

@@ -1,10 +1,9 @@
 -- The rates count by q and i alone, whatever row holds them: where two searches give each member alike rates, the lines are the same
 -- (same_points) and so are the members without a rate (same_unmatched). Two files that differ in their rate lines alone, and have alike rates
 -- in force at each member's age, have the same answer but for the places of lines behind the rate lines (same_answers).
-use Rattle.std.specs.Prelude.{◌≡◌, Bool, true, false, not, ◌||◌, List, [], ◌∷◌, map, ℕ, suc, ◌+◌, eqb, ltb, length, if◌then◌else◌}
+use Rattle.std.specs.Prelude.{◌≡◌, Bool, true, false, not, ◌||◌, List, [], ◌∷◌, map, ℕ, suc, ◌+◌, eqb, ltb, length, if◌then◌else◌, Err, None, Ok, Option, Some}
 use Rattle.std.proofs.Math.Path.{refl, ap}
 use Rattle.std.proofs.Common.{sym, ◌∙◌, arith}
-use Rattle.std.proofs.Math.Option.{Option, none, some}
 use Rattle.fund.specs.declared.Fund.{Fund}
 use Rattle.fund.specs.declared.Rate.{Rate}
 use Rattle.fund.specs.declared.Member.{Member}
@@ -12,40 +11,39 @@ use Rattle.fund.specs.declared.Life.{Life}
 use Rattle.fund.specs.declared.ModelPoint.{ModelPoint}
 use Rattle.fund.specs.declared.Refusal.{Refusal}
 use Rattle.fund.specs.declared.Refusal.TheVariants.{Edition, Deductible, Unmatched, Half, Load, Order, Short, Wide}
-use Rattle.fund.specs.declared.Verdict.{Verdict}
-use Rattle.fund.specs.declared.Verdict.TheVariants.{Accepted, Refused}
+use Rattle.fund.specs.Verdict.{Verdict, refused_at}
 use Rattle.fund.specs.Reading.{FundFile, read, reading}
 use Rattle.fund.specs.Folding.{rate_in_force, folded, life, point, points, copies, lives}
 use Rattle.fund.specs.Refusals.{number_of, first, unmatched, half_line, Lengths, refuse, at0, first_member, valued, matched, verdict}
 use Rattle.fund.specs.Answer.{Answer, fund_cells, refused, accepted, answer_of, answer_to, answer}
 use Rattle.laws.specs.Accepted.{All}
 
--- none and none, or the same q and i
+-- None and None, or the same q and i
 abbrev pub Alike : Option Rate → Option Rate → Type 0
-Alike none none = Unit {0}
-Alike none (some s) = ⊥
-Alike (some r) none = ⊥
-Alike (some r) (some s) = (r.q ≡ s.q) × (r.i ≡ s.i)
+Alike None None = Unit {0}
+Alike None (Some s) = ⊥
+Alike (Some r) None = ⊥
+Alike (Some r) (Some s) = (r.q ≡ s.q) × (r.i ≡ s.i)
 
 pub alike_refl : (o : Option Rate) → Alike o o
-alike_refl none = tt
-alike_refl (some r) = (refl, refl)
+alike_refl None = tt
+alike_refl (Some r) = (refl, refl)
 
 alike_folded : (o p : Option Rate) (m : Member) → Alike o p → folded o m ≡ folded p m
 unfolding folded
-alike_folded none none m k = refl
-alike_folded none (some s) m k = absurd k
-alike_folded (some r) none m k = absurd k
-alike_folded (some r) (some s) m k = rw (k.0, k.1)
+alike_folded None None m k = refl
+alike_folded None (Some s) m k = absurd k
+alike_folded (Some r) None m k = absurd k
+alike_folded (Some r) (Some s) m k = rw (k.0, k.1)
 
 abbrev pub is_none : Option Rate → Bool
-is_none o = elim o [ none ↦ true | some r ↦ false ]
+is_none o = elim o [ None ↦ true | Some r ↦ false ]
 
 alike_none : (o p : Option Rate) → Alike o p → is_none o ≡ is_none p
-alike_none none none k = refl
-alike_none none (some s) k = absurd k
-alike_none (some r) none k = absurd k
-alike_none (some r) (some s) k = refl
+alike_none None None k = refl
+alike_none None (Some s) k = absurd k
+alike_none (Some r) None k = absurd k
+alike_none (Some r) (Some s) k = refl
 
 first_same : {A : Type 0} (met met' : A → Bool) (l : List A) → All (λ a. met a ≡ met' a) l → (at : ℕ) → first met at l ≡ first met' at l
 unfolding first
@@ -82,8 +80,8 @@ verdict_for fund n five six ms =
 
 -- ---- places that are others
 abbrev pub moved : (ℕ → ℕ) → Option ℕ → Option ℕ
-moved g none = none
-moved g (some place) = some (g place)
+moved g None = None
+moved g (Some place) = Some (g place)
 
 pub first_moved : {A : Type 0} (met : A → Bool) (k at : ℕ) (l : List A) → first met (k + at) l ≡ moved (λ place. k + place) (first met at l)
 unfolding first
@@ -94,25 +92,25 @@ first_moved met k at (a ∷ rest) = go (met a) (ap (λ n. first met n rest) z �
     z = omega arith
 
     go : (b : Bool) → first met (suc (k + at)) rest ≡ moved (λ place. k + place) (first met (suc at) rest) →
-        (if b then some (k + at) else first met (suc (k + at)) rest) ≡ moved (λ place. k + place) (if b then some at else first met (suc at) rest)
+        (if b then Some (k + at) else first met (suc (k + at)) rest) ≡ moved (λ place. k + place) (if b then Some at else first met (suc at) rest)
     go true e = refl
     go false e = e
 
 -- The lines of 5 and 6 stand behind the rate lines; no other place that follows reading does.
 abbrev pub later : (ℕ → ℕ) → Verdict → Verdict
-later g Accepted = Accepted
-later g (Refused why place) = Refused why (if eqb (number_of why) 5 || eqb (number_of why) 6 then g place else place)
+later g (Ok tt) = (Ok tt)
+later g (Err stop) = refused_at stop.why (if eqb (number_of stop.why) 5 || eqb (number_of stop.why) 6 then g stop.place else stop.place)
 
 module _ (g : ℕ → ℕ) (why : Refusal) (v : Verdict) where
-  stays : (o : Option ℕ) → ((place : ℕ) → later g (Refused why place) ≡ Refused why place) → later g (refuse why o v) ≡ refuse why o (later g v)
+  stays : (o : Option ℕ) → ((place : ℕ) → later g (refused_at why place) ≡ refused_at why place) → later g (refuse why o v) ≡ refuse why o (later g v)
   unfolding refuse
-  stays none h = refl
-  stays (some place) h = h place
+  stays None h = refl
+  stays (Some place) h = h place
 
-  moves : (o : Option ℕ) → ((place : ℕ) → later g (Refused why place) ≡ Refused why (g place)) → later g (refuse why o v) ≡ refuse why (moved g o) (later g v)
+  moves : (o : Option ℕ) → ((place : ℕ) → later g (refused_at why place) ≡ refused_at why (g place)) → later g (refuse why o v) ≡ refuse why (moved g o) (later g v)
   unfolding refuse
-  moves none h = refl
-  moves (some place) h = h place
+  moves None h = refl
+  moves (Some place) h = h place
 
 valued_stays : (g : ℕ → ℕ) (fund : Fund) (ms : List Life) (n : Lengths) → later g (valued fund ms n (fund_cells fund ms)) ≡ valued fund ms n (fund_cells fund ms)
 unfolding valued
@@ -182,5 +180,5 @@ module _ (header : Fund) (rates rates' : List Rate) (members : List Member) (k :
   same_answers file file' n is is' = rw (is, is', verdict_moved n) (go (verdict fund' n (fund_cells header (lives fund'))))
     where
       go : (v : Verdict) → SameButPlaces (λ place. k + place) (answer_of file n fund (later (λ place. k + place) v)) (answer_of file' n fund' v)
-      go Accepted = rw lives_same (record { verdict = refl; figures = refl; D = refl; H = refl; f = refl; R = refl; F = refl })
-      go (Refused why place) = record { verdict = refl; figures = refl; D = refl; H = refl; f = refl; R = refl; F = refl }
+      go (Ok tt) = rw lives_same (record { verdict = refl; figures = refl; D = refl; H = refl; f = refl; R = refl; F = refl })
+      go (Err stop) = record { verdict = refl; figures = refl; D = refl; H = refl; f = refl; R = refl; F = refl }

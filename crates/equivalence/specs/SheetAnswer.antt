@@ -1,10 +1,9 @@
 -- The answer for sheets behind a header text that is read by itself: no part is handed back (no_part), and all else is the answer for the file
 -- with the same rows (same_answer).
-use Rattle.std.specs.Prelude.{◌≡◌, Bool, List, [], ◌∷◌, ◌++◌, map, length, if◌then◌else◌}
+use Rattle.std.specs.Prelude.{◌≡◌, Bool, List, [], ◌∷◌, ◌++◌, map, length, if◌then◌else◌, Err, None, Ok, Option, Some}
 use Rattle.std.proofs.Math.Path.{refl}
 use Rattle.std.proofs.Common.{sym, ◌∙◌, ap, true≢false, arith}
 use Rattle.std.proofs.Math.Bool.{true, false}
-use Rattle.std.proofs.Math.Option.{Option, none, some}
 use Prim.Native.Nat.{ℕ, zero, suc, ◌≤◌}
 use Rattle.std.proofs.lemmas.List.{length-map}
 use Rattle.std.proofs.Math.ListN.{get_or-eq_default}
@@ -13,10 +12,9 @@ use Rattle.fund.specs.declared.Rate.{Rate}
 use Rattle.fund.specs.declared.Member.{Member}
 use Rattle.fund.specs.declared.Refusal.{Refusal}
 use Rattle.fund.specs.declared.Refusal.TheVariants.{Range, Edition, Deductible, Unmatched, Half, Load, Order, Short, Wide}
-use Rattle.fund.specs.declared.SheetRow.{SheetRow}
-use Rattle.fund.specs.declared.SheetRow.TheVariants.{Rate as RateRow, Member as MemberRow, NotTaken}
-use Rattle.fund.specs.declared.Verdict.{Verdict}
-use Rattle.fund.specs.declared.Verdict.TheVariants.{Accepted, Refused}
+use Rattle.fund.specs.declared.Row.{Row}
+use Rattle.fund.specs.declared.Row.TheVariants.{Rate as RateRow, Member as MemberRow}
+use Rattle.fund.specs.Verdict.{Verdict, refused_at}
 use Rattle.fund.specs.Lines.{Line, lines}
 use Rattle.fund.specs.Reading.{FundFile, Reading, read, stopped, header_lines, rate_in_range, member_in_range}
 use Rattle.fund.specs.Folding.{points, lives}
@@ -33,20 +31,20 @@ abbrev Behind : Refusal → ℕ → Type 0
 Behind why place = names_line why ≡ true → suc (length header_lines) ≤ place
 
 abbrev BehindIn : Verdict → Type 0
-BehindIn Accepted = Unit {0}
-BehindIn (Refused why place) = Behind why place
+BehindIn (Ok tt) = Unit {0}
+BehindIn (Err stop) = Behind stop.why stop.place
 
 abbrev BehindRead : Reading → Type 0
 BehindRead (read fund) = Unit {0}
 BehindRead (stopped why place) = Behind why place
 
-rows_behind_lem : (rows : List SheetRow) (n : ℕ) (header : Fund) (rates : List Rate) (members : List Member) → suc (length header_lines) ≤ n → BehindRead (read_sheet_rows n header rates members rows)
+rows_behind_lem : (rows : List (Option Row)) (n : ℕ) (header : Fund) (rates : List Rate) (members : List Member) → suc (length header_lines) ≤ n → BehindRead (read_sheet_rows n header rates members rows)
 unfolding read_sheet_rows
 rows_behind_lem [] n header rates members h = tt
-rows_behind_lem (NotTaken ∷ rows) n header rates members h = λ e. absurd (true≢false (sym e))
-rows_behind_lem (RateRow r ∷ rows) n header rates members h =
+rows_behind_lem (None ∷ rows) n header rates members h = λ e. absurd (true≢false (sym e))
+rows_behind_lem (Some (RateRow r) ∷ rows) n header rates members h =
     on_either (λ r. BehindRead r) (rate_in_range rates r) (stopped Range n) _ (λ e. h) (rows_behind_lem rows (suc n) header (rates ++ (r ∷ [])) members (omega arith))
-rows_behind_lem (MemberRow m ∷ rows) n header rates members h =
+rows_behind_lem (Some (MemberRow m) ∷ rows) n header rates members h =
     on_either (λ r. BehindRead r) (member_in_range members m) (stopped Range n) _ (λ e. h) (rows_behind_lem rows (suc n) header rates (members ++ (m ∷ [])) (omega arith))
 
 first_behind : {A : Type 0} (met : A → Bool) (at : ℕ) (l : List A) (why : Refusal) (after : Verdict) → suc (length header_lines) ≤ at → BehindIn after → BehindIn (refuse why (first met at l) after)
@@ -54,15 +52,15 @@ unfolding first refuse
 first_behind met at [] why after h k = k
 first_behind met at (a ∷ l) why after h k = go (met a) (first_behind met (suc at) l why after (omega arith) k)
   where
-    go : (t : Bool) → BehindIn (refuse why (first met (suc at) l) after) → BehindIn (refuse why (if t then some at else first met (suc at) l) after)
+    go : (t : Bool) → BehindIn (refuse why (first met (suc at) l) after) → BehindIn (refuse why (if t then Some at else first met (suc at) l) after)
     go true ih = λ e. h
     go false ih = ih
 
 -- a refusal that names no line
 unnamed : (why : Refusal) (o : Option ℕ) (after : Verdict) → names_line why ≡ false → BehindIn after → BehindIn (refuse why o after)
 unfolding refuse
-unnamed why none after e k = k
-unnamed why (some place) after e k = λ z. absurd (true≢false (sym z ∙ e))
+unnamed why None after e k = k
+unnamed why (Some place) after e k = λ z. absurd (true≢false (sym z ∙ e))
 
 verdict_behind : (fund : FundFile) (n : Lengths) (cells : List Cell) → BehindIn (verdict fund n cells)
 unfolding verdict matched valued first_member
@@ -82,7 +80,7 @@ no_such_line header (suc before) e h =
     get_or-eq_default (map part_of (lines header)) empty {n = before} (omega (arith, length-map (lines header) part_of))
 
 module _ (header : List ℕ) (as_many : length (lines header) ≡ length header_lines) (n : Lengths) where
-  refused_part : (why : Refusal) (place : ℕ) → Behind why place → (refused header n (Refused why place)).part ≡ empty
+  refused_part : (why : Refusal) (place : ℕ) → Behind why place → (refused header n (refused_at why place)).part ≡ empty
   unfolding refused part
   refused_part why place h = go (names_line why) h
     where
@@ -92,8 +90,8 @@ module _ (header : List ℕ) (as_many : length (lines header) ≡ length header_
 
   verdict_part : (fund : FundFile) (v : Verdict) → BehindIn v → (answer_of header n fund v).part ≡ empty
   unfolding answer_of accepted
-  verdict_part fund Accepted h = refl
-  verdict_part fund (Refused why place) h = refused_part why place h
+  verdict_part fund (Ok tt) h = refl
+  verdict_part fund (Err stop) h = refused_part stop.why stop.place h
 
   reading_part : (r : Reading) → BehindRead r → (answer_to header n r).part ≡ empty
   unfolding answer_to
@@ -120,12 +118,12 @@ unfolding answer_to answer_of refused
 same_but_part s t n (read fund) = go (verdict fund n (fund_cells fund.header (lives fund)))
   where
     go : (v : Verdict) → without_part (answer_of s n fund v) ≡ without_part (answer_of t n fund v)
-    go Accepted = refl
-    go (Refused why place) = refl
+    go (Ok tt) = refl
+    go (Err stop) = refl
 same_but_part s t n (stopped why place) = refl
 
 pub same_answer : (header rates members : List ℕ) (rs : List Rate) (ms : List Member) (alone : FundFile) → sheet_reading header [] [] ≡ read alone →
-    sheet_rows rates members ≡ map RateRow rs ++ map MemberRow ms → (n : Lengths) → sheet_answer header rates members n ≡ without_part (answer (file_with header rs ms) n)
+    sheet_rows rates members ≡ rate_rows rs ++ member_rows ms → (n : Lengths) → sheet_answer header rates members n ≡ without_part (answer (file_with header rs ms) n)
 same_answer header rates members rs ms alone e t n =
     without (sheet_answer header rates members n) (no_part header alone e rates members n)
     ∙ same_but_part header (file_with header rs ms) n (sheet_reading header rates members)

@@ -1,14 +1,14 @@
 -- METHOD 9 (§6): "A fund read from sheets is priced as the file with the same rows". Where the header text alone is read and all rows are taken,
 -- the sheets' reading is the file's (same_reading). A refusal in the header comes before any row (header_first).
-use Rattle.std.specs.Prelude.{◌≡◌, refl, ◌⊎◌, true, false, List, [], ◌∷◌, ◌++◌, map, ℕ, suc, ◌+◌, ◌≤◌, length}
+use Rattle.std.specs.Prelude.{◌≡◌, refl, ◌⊎◌, true, false, List, [], ◌∷◌, ◌++◌, map, ℕ, suc, ◌+◌, ◌≤◌, length, Option}
 use Rattle.std.proofs.Common.{sym, ◌∙◌, ap, ap₂, subst, inl, inr, append-nil, append_assoc, arith, eq-eqb, length-append}
 use Rattle.fund.specs.declared.Fund.{Fund}
 use Rattle.fund.specs.declared.Rate.{Rate}
 use Rattle.fund.specs.declared.Member.{Member}
 use Rattle.fund.specs.declared.Refusal.{Refusal}
 use Rattle.fund.specs.declared.Refusal.TheVariants.{Form, Range}
-use Rattle.fund.specs.declared.SheetRow.{SheetRow}
-use Rattle.fund.specs.declared.SheetRow.TheVariants.{Rate as RateRow, Member as MemberRow}
+use Rattle.fund.specs.declared.Row.{Row}
+use Rattle.fund.specs.declared.Row.TheVariants.{Rate as RateRow, Member as MemberRow}
 use Rattle.fund.specs.Limits.{most_members}
 use Rattle.fund.specs.Base.{table}
 use Rattle.fund.specs.Lines.{Line, lines_from, lines}
@@ -43,7 +43,7 @@ end_alike n header rates members k at e few =
     ∙ on_end n header rates members f.line [] k f.row_is (eq-eqb k (length members) e) refl
 
 members_alike : (ms : List Member) (n : ℕ) (header : Fund) (rates : List Rate) (members : List Member) (k at : ℕ) → All ShortMember ms → length members ≤ most_members → k ≡ length members + length ms →
-    read_sheet_rows n header rates members (map MemberRow ms) ≡ read_rows n header rates members (lines_from at (texts member_text ms ++ end_text k))
+    read_sheet_rows n header rates members (member_rows ms) ≡ read_rows n header rates members (lines_from at (texts member_text ms ++ end_text k))
 unfolding read_sheet_rows texts
 members_alike [] n header rates members k at h few e = sym (end_alike n header rates members k at (omega arith) few)
 members_alike (m ∷ ms) n header rates members k at h few e =
@@ -58,7 +58,7 @@ members_alike (m ∷ ms) n header rates members k at h few e =
     ∙ member_step n header rates f.line (lines_from f.next rest) members m f.row_is)
 
 pub rates_alike : (rs : List Rate) (ms : List Member) (n : ℕ) (header : Fund) (rates : List Rate) (at : ℕ) → All ShortRate rs → All ShortMember ms →
-    read_sheet_rows n header rates [] (map RateRow rs ++ map MemberRow ms) ≡ read_rows n header rates [] (lines_from at (texts rate_text rs ++ (texts member_text ms ++ end_text (length ms))))
+    read_sheet_rows n header rates [] (rate_rows rs ++ member_rows ms) ≡ read_rows n header rates [] (lines_from at (texts rate_text rs ++ (texts member_text ms ++ end_text (length ms))))
 unfolding read_sheet_rows texts
 rates_alike [] ms n header rates at h k = members_alike ms n header rates [] (length ms) at k (omega arith) (omega arith)
 rates_alike (r ∷ rs) ms n header rates at h k =
@@ -117,7 +117,7 @@ header_alone header alone e = go (header_outcome header_lines 1 [] (lines header
         }
 
 pub same_reading : (header rates members : List ℕ) (rs : List Rate) (ms : List Member) (alone : FundFile) → sheet_reading header [] [] ≡ read alone →
-    sheet_rows rates members ≡ map RateRow rs ++ map MemberRow ms → sheet_reading header rates members ≡ reading (file_with header rs ms)
+    sheet_rows rates members ≡ rate_rows rs ++ member_rows ms → sheet_reading header rates members ≡ reading (file_with header rs ms)
 unfolding file_with
 same_reading header rates members rs ms alone e t =
     let a = header_alone header alone e in
@@ -128,7 +128,7 @@ same_reading header rates members rs ms alone e t =
     ∙ sym (a.file (texts rate_text rs ++ (texts member_text ms ++ end_text (length ms))))
 
 -- ---- a refusal in the header
-stops_behind : (rows : List SheetRow) (n : ℕ) (header : Fund) (ls : List Line) (why : Refusal) (place : ℕ) → read_sheets [] n header ls ≡ stopped why place → read_sheets rows n header ls ≡ stopped why place
+stops_behind : (rows : List (Option Row)) (n : ℕ) (header : Fund) (ls : List Line) (why : Refusal) (place : ℕ) → read_sheets [] n header ls ≡ stopped why place → read_sheets rows n header ls ≡ stopped why place
 unfolding read_sheets read_sheet_rows
 stops_behind rows n header [] why place e = absurd (never why place (fund_so_far n header [] []) (sym e))
 stops_behind rows n header (l ∷ ls) why place e = e

@@ -1,8 +1,7 @@
 -- Reading asks for the texts of the lines and not for the places where they start (reading_texts). A file without one of its lines has the
 -- other lines' texts (texts_without), those behind it one place earlier (text_behind).
-use Rattle.std.specs.Prelude.{◌≡◌, refl, Bool, true, false, List, [], ◌∷◌, ◌++◌, map, ℕ, zero, suc, ◌≤◌, eqb, length, get_or, if◌then◌else◌}
+use Rattle.std.specs.Prelude.{◌≡◌, refl, Bool, true, false, List, [], ◌∷◌, ◌++◌, map, ℕ, zero, suc, ◌≤◌, eqb, length, get_or, if◌then◌else◌, None, Option, Some}
 use Rattle.std.proofs.Common.{sym, ◌∙◌, ap, arith}
-use Rattle.std.proofs.Math.Option.{Option, none, some}
 use Rattle.fund.specs.declared.Fund.{Fund}
 use Rattle.fund.specs.declared.Rate.{Rate}
 use Rattle.fund.specs.declared.Member.{Member}
@@ -73,8 +72,8 @@ header_bare (h ∷ hs) n ns (l ∷ ls) = go (spelled h.key (length h.ranges) l) 
   where
     go : (o : Option (List ℕ)) → spelled h.key (length h.ranges) l ≡ o → ((vs : List ℕ) → read_header file_rows hs (suc n) vs (map bare ls) ≡ read_header file_rows hs (suc n) vs ls) →
         read_header file_rows (h ∷ hs) n ns (bare l ∷ map bare ls) ≡ read_header file_rows (h ∷ hs) n ns (l ∷ ls)
-    go none s ih = rw (spelled_bare h.key (length h.ranges) l ∙ s, s, read_header)
-    go (some v) s ih = rw (spelled_bare h.key (length h.ranges) l ∙ s, s, read_header) (on_pass (in_ranges h.ranges v) (stopped Range n) _ _ (λ _. ih (ns ++ v)))
+    go None s ih = rw (spelled_bare h.key (length h.ranges) l ∙ s, s, read_header)
+    go (Some v) s ih = rw (spelled_bare h.key (length h.ranges) l ∙ s, s, read_header) (on_pass (in_ranges h.ranges v) (stopped Range n) _ _ (λ _. ih (ns ++ v)))
 
 pub reading_texts : (file : List ℕ) → reading file ≡ read_header file_rows header_lines 1 [] (texts file)
 unfolding reading lines

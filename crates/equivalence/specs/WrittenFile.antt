@@ -1,6 +1,6 @@
 -- METHOD 3 (§8), from the bytes on: of every file that is read, the file with each member line written out as copies with lives 1 (out_text) is read
 -- as the fund written out (out_read), and priced as the file itself but for the places of 5 and 6 (out_priced).
-use Rattle.std.specs.Prelude.{◌≡◌, refl, ◌⊎◌, Bool, true, false, eqb, if◌then◌else◌}
+use Rattle.std.specs.Prelude.{◌≡◌, refl, ◌⊎◌, Bool, true, false, eqb, if◌then◌else◌, Option}
 use Rattle.std.proofs.Math.Path.{sym, ap, ap₂}
 use Rattle.std.proofs.Common.{◌∙◌, inl, inr, true≢false, le-leb, lt-ltb}
 use mathlib.Core.List.{List, [], ◌∷◌, ◌++◌, map, map-append, append-nil, append_assoc}
@@ -12,8 +12,8 @@ use Rattle.fund.specs.declared.Fund.{Fund}
 use Rattle.fund.specs.declared.Rate.{Rate}
 use Rattle.fund.specs.declared.Member.{Member}
 use Rattle.fund.specs.declared.Refusal.TheVariants.{Form, Range}
-use Rattle.fund.specs.declared.SheetRow.{SheetRow}
-use Rattle.fund.specs.declared.SheetRow.TheVariants.{Rate as RateRow, Member as MemberRow}
+use Rattle.fund.specs.declared.Row.{Row}
+use Rattle.fund.specs.declared.Row.TheVariants.{Rate as RateRow, Member as MemberRow}
 use Rattle.fund.specs.Base.{total}
 use Rattle.fund.specs.Limits.{most_members, most_lives}
 use Rattle.fund.specs.Lines.{Line, begun, lines_from, lines}
@@ -68,18 +68,18 @@ unfolding lives_in_all
 lives_append ms ls = total_append (λ (m : Member). m.lives) ms ls
 
 -- ---- rows behind a header
-module _ (n : ℕ) (header : Fund) (rates : List Rate) (before : List Member) (rows : List SheetRow) where
-  takes_rate : (r : Rate) → rate_in_range rates r ≡ true → read_sheet_rows n header rates before (RateRow r ∷ rows) ≡ read_sheet_rows (suc n) header (rates ++ (r ∷ [])) before rows
+module _ (n : ℕ) (header : Fund) (rates : List Rate) (before : List Member) (rows : List (Option Row)) where
+  takes_rate : (r : Rate) → rate_in_range rates r ≡ true → read_sheet_rows n header rates before (Some (RateRow r) ∷ rows) ≡ read_sheet_rows (suc n) header (rates ++ (r ∷ [])) before rows
   unfolding read_sheet_rows
   takes_rate r e = rw (e, read_sheet_rows)
 
-  takes_member : (m : Member) → member_in_range before m ≡ true → read_sheet_rows n header rates before (MemberRow m ∷ rows) ≡ read_sheet_rows (suc n) header rates (before ++ (m ∷ [])) rows
+  takes_member : (m : Member) → member_in_range before m ≡ true → read_sheet_rows n header rates before (Some (MemberRow m) ∷ rows) ≡ read_sheet_rows (suc n) header rates (before ++ (m ∷ [])) rows
   unfolding read_sheet_rows
   takes_member m e = rw (e, read_sheet_rows)
 
 module _ (header : Fund) (rates : List Rate) where
-  copies_read : (k n : ℕ) (before : List Member) (m : Member) (more : List SheetRow) → MemberOk m → lives_in_all before ≡ length before → length before + k ≤ most_lives →
-      read_sheet_rows n header rates before (map MemberRow (replicate k (one_life m)) ++ more) ≡ read_sheet_rows (k + n) header rates (before ++ replicate k (one_life m)) more
+  copies_read : (k n : ℕ) (before : List Member) (m : Member) (more : List (Option Row)) → MemberOk m → lives_in_all before ≡ length before → length before + k ≤ most_lives →
+      read_sheet_rows n header rates before (member_rows (replicate k (one_life m)) ++ more) ≡ read_sheet_rows (k + n) header rates (before ++ replicate k (one_life m)) more
   unfolding read_sheet_rows
   copies_read zero n before m more ok e few =
       let z : n ≡ 0 + n = omega arith in
@@ -89,13 +89,13 @@ module _ (header : Fund) (rates : List Rate) where
       let one : lives_in_all (x ∷ []) ≡ 1 = lives_one m 1 in
       let longer : length (before ++ (x ∷ [])) ≡ length before + 1 = length-append before (x ∷ []) in
       let z : k + suc n ≡ suc k + n = omega arith in
-      takes_member n header rates before (map MemberRow (replicate k x) ++ more) x (member_in before x (omega arith) (omega (arith, of_one m)) (one_ok m ok))
+      takes_member n header rates before (member_rows (replicate k x) ++ more) x (member_in before x (omega arith) (omega (arith, of_one m)) (one_ok m ok))
       ∙ copies_read k (suc n) (before ++ (x ∷ [])) m more ok (omega (arith, lives_append before (x ∷ []))) (omega arith)
       ∙ ap₂ (λ j ms. read_sheet_rows j header rates ms more) z (append_assoc before (x ∷ []) (replicate k x))
 
   members_out : (ms : List Member) (n n' : ℕ) (before before' : List Member) (file : FundFile) → lives_in_all before ≡ length before' → lives_in_all before' ≡ length before' →
-      read_sheet_rows n header rates before (map MemberRow ms) ≡ read file →
-      read_sheet_rows n' header rates before' (map MemberRow (written_out ms)) ≡ read (record { header = header; rates = rates; members = before' ++ written_out ms })
+      read_sheet_rows n header rates before (member_rows ms) ≡ read file →
+      read_sheet_rows n' header rates before' (member_rows (written_out ms)) ≡ read (record { header = header; rates = rates; members = before' ++ written_out ms })
   unfolding read_sheet_rows written_out
   members_out [] n n' before before' file same e h = ap (λ ms. read (record { header = header; rates = rates; members = ms })) (sym (append-nil before'))
   members_out (m ∷ ms) n n' before before' file same e h =
@@ -104,19 +104,19 @@ module _ (header : Fund) (rates : List Rate) where
       let new = replicate m.lives (one_life m) in
       let longer : length (before' ++ new) ≡ length before' + m.lives = length-append before' new ∙ ap (λ j. length before' + j) (length-replicate m.lives (one_life m)) in
       let more : lives_in_all (before' ++ new) ≡ lives_in_all before' + m.lives = lives_append before' new ∙ ap (λ j. lives_in_all before' + j) (lives_one m m.lives) in
-      ap (read_sheet_rows n' header rates before') (map-append MemberRow new (written_out ms))
-      ∙ copies_read m.lives n' before' m (map MemberRow (written_out ms)) ok.1.1 e (omega (arith, ok.1.0))
+      ap (read_sheet_rows n' header rates before') (map-append (λ x. Some (MemberRow x)) new (written_out ms))
+      ∙ copies_read m.lives n' before' m (member_rows (written_out ms)) ok.1.1 e (omega (arith, ok.1.0))
       ∙ members_out ms (suc n) (m.lives + n') (before ++ (m ∷ [])) (before' ++ new) file (omega (arith, lives_more before m)) (omega arith) k.1
       ∙ ap (λ ls. read (record { header = header; rates = rates; members = ls })) (append_assoc before' new (written_out ms))
 
-rows_out : (rs : List Rate) (ms : List Member) (n : ℕ) (header : Fund) (rates : List Rate) (file : FundFile) → read_sheet_rows n header rates [] (map RateRow rs ++ map MemberRow ms) ≡ read file →
-    read_sheet_rows n header rates [] (map RateRow rs ++ map MemberRow (written_out ms)) ≡ read (record { header = header; rates = rates ++ rs; members = written_out ms })
+rows_out : (rs : List Rate) (ms : List Member) (n : ℕ) (header : Fund) (rates : List Rate) (file : FundFile) → read_sheet_rows n header rates [] (rate_rows rs ++ member_rows ms) ≡ read file →
+    read_sheet_rows n header rates [] (rate_rows rs ++ member_rows (written_out ms)) ≡ read (record { header = header; rates = rates ++ rs; members = written_out ms })
 unfolding read_sheet_rows lives_in_all total
 rows_out [] ms n header rates file h =
     members_out header rates ms n n [] [] file refl refl h ∙ ap (λ rs. read (record { header = header; rates = rs; members = written_out ms })) (sym (append-nil rates))
 rows_out (r ∷ rs) ms n header rates file h =
     let k = pass (rate_in_range rates r) Range n _ file h in
-    takes_rate n header rates [] (map RateRow rs ++ map MemberRow (written_out ms)) r k.0
+    takes_rate n header rates [] (rate_rows rs ++ member_rows (written_out ms)) r k.0
     ∙ rows_out rs ms (suc n) header (rates ++ (r ∷ [])) file k.1
     ∙ ap (λ rs. read (record { header = header; rates = rs; members = written_out ms })) (append_assoc rates (r ∷ []) rs)
 
@@ -142,7 +142,7 @@ record Rows (n : ℕ) (header : Fund) (rates : List Rate) (members : List Member
   ms : List Member
   late : no_member members ≡ false → rs ≡ []
   is : file ≡ record { header = header; rates = rates ++ rs; members = members ++ ms }
-  read_as : read_sheet_rows n header rates members (map RateRow rs ++ map MemberRow ms) ≡ read file
+  read_as : read_sheet_rows n header rates members (rate_rows rs ++ member_rows ms) ≡ read file
 
 rows_of : (ls : List Line) (n : ℕ) (header : Fund) (rates : List Rate) (members : List Member) (file : FundFile) → read_rows n header rates members ls ≡ read file → Rows n header rates members file
 unfolding read_rows read_sheet_rows
@@ -157,7 +157,7 @@ rows_of (l ∷ ls) n header rates members file e = go (passed_line n header rate
           ms = k.ms;
           late = λ h. absurd (true≢false (sym a ∙ h));
           is = k.is ∙ ap (λ rs. record { header = header; rates = rs; members = members ++ k.ms }) (append_assoc rates (r ∷ []) k.rs);
-          read_as = takes_rate n header rates members (map RateRow k.rs ++ map MemberRow k.ms) r b ∙ k.read_as;
+          read_as = takes_rate n header rates members (rate_rows k.rs ++ member_rows k.ms) r b ∙ k.read_as;
         }
     go (member_line m s b w) ih =
         let k = ih rates (members ++ (m ∷ [])) w in
@@ -167,7 +167,7 @@ rows_of (l ∷ ls) n header rates members file e = go (passed_line n header rate
           ms = m ∷ k.ms;
           late = λ h. refl;
           is = k.is ∙ ap₂ (λ rs ms. record { header = header; rates = rates ++ rs; members = ms }) none (append_assoc members (m ∷ []) k.ms);
-          read_as = takes_member n header rates members (map MemberRow k.ms) m b ∙ ap (λ rs. read_sheet_rows (suc n) header rates (members ++ (m ∷ [])) (map RateRow rs ++ map MemberRow k.ms)) (sym none) ∙ k.read_as;
+          read_as = takes_member n header rates members (member_rows k.ms) m b ∙ ap (λ rs. read_sheet_rows (suc n) header rates (members ++ (m ∷ [])) (rate_rows rs ++ member_rows k.ms)) (sym none) ∙ k.read_as;
         }
     go (end_line c s b z w) ih =
         record {
@@ -213,19 +213,19 @@ same_read a b e = cc
 -- ---- the file
 module _ (header : List ℕ) (behind : Alone header) (file : FundFile) (ok : FundOk file) where
   as_rows : (ms : List Member) → All ShortMember ms →
-      reading (file_with header file.rates ms) ≡ read_sheet_rows (suc (length header_lines)) behind.fund [] [] (map RateRow file.rates ++ map MemberRow ms)
+      reading (file_with header file.rates ms) ≡ read_sheet_rows (suc (length header_lines)) behind.fund [] [] (rate_rows file.rates ++ member_rows ms)
   unfolding file_with
   as_rows ms h =
       behind.file (texts rate_text file.rates ++ (texts member_text ms ++ end_text (length ms)))
       ∙ sym (rates_alike file.rates ms (suc (length header_lines)) behind.fund [] (length header) (all_map short_rate file.rates ok.rows.rates) h)
 
-  out_behind : read_sheet_rows (suc (length header_lines)) behind.fund [] [] (map RateRow file.rates ++ map MemberRow file.members) ≡ read file →
+  out_behind : read_sheet_rows (suc (length header_lines)) behind.fund [] [] (rate_rows file.rates ++ member_rows file.members) ≡ read file →
       reading (file_with header file.rates (written_out file.members)) ≡ read (out_file file)
   out_behind rows =
       as_rows (written_out file.members) (short_out file.members (all_map short_member file.members ok.rows.members))
       ∙ rows_out file.rates file.members (suc (length header_lines)) behind.fund [] file rows
       ∙ ap (λ h. read (record { header = h; rates = file.rates; members = written_out file.members }))
-      (sym (sheet_rows_ranges (map RateRow file.rates ++ map MemberRow file.members) (suc (length header_lines)) behind.fund [] [] file no_rows rows).header_is)
+      (sym (sheet_rows_ranges (rate_rows file.rates ++ member_rows file.members) (suc (length header_lines)) behind.fund [] [] file no_rows rows).header_is)
 
 module _ (text : List ℕ) (file : FundFile) (is : reading text ≡ read file) where
   abbrev header : List ℕ
@@ -262,13 +262,13 @@ module _ (text : List ℕ) (file : FundFile) (is : reading text ≡ read file) w
         same_read (record { header = behind.fund; rates = []; members = [] }) alone
         (ap (read_sheet_rows (suc (length header_lines)) behind.fund [] []) (sym empty_sheets) ∙ sym (behind.sheets [] []) ∙ headed)
 
-    rows_again : read_sheet_rows (suc (length header_lines)) behind.fund [] [] (map RateRow file.rates ++ map MemberRow file.members) ≡ read file
+    rows_again : read_sheet_rows (suc (length header_lines)) behind.fund [] [] (rate_rows file.rates ++ member_rows file.members) ≡ read file
     unfolding reading
     rows_again =
         let r = rows_of k.rest (1 + length header_lines) k.fund [] [] file (sym (passed header_lines 1 [] (lines text) k file_rows) ∙ is) in
         let one : suc (length header_lines) ≡ 1 + length header_lines = omega arith in
-        ap₂ (λ rs ms. read_sheet_rows (suc (length header_lines)) behind.fund [] [] (map RateRow rs ++ map MemberRow ms)) (ap (λ (x : FundFile). x.rates) r.is) (ap (λ (x : FundFile). x.members) r.is)
-        ∙ ap₂ (λ n h. read_sheet_rows n h [] [] (map RateRow r.rs ++ map MemberRow r.ms)) one same_header
+        ap₂ (λ rs ms. read_sheet_rows (suc (length header_lines)) behind.fund [] [] (rate_rows rs ++ member_rows ms)) (ap (λ (x : FundFile). x.rates) r.is) (ap (λ (x : FundFile). x.members) r.is)
+        ∙ ap₂ (λ n h. read_sheet_rows n h [] [] (rate_rows r.rs ++ member_rows r.ms)) one same_header
         ∙ r.read_as
 
   pub out_read : reading (out_text text file) ≡ read (out_file file)

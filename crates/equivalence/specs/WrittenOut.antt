@@ -1,17 +1,15 @@
 -- METHOD 3 (§8): "A line is priced exactly as that many copies of itself in that spot". The fund whose member lines are written out as copies
 -- with lives 1 has the same lives (lives_out), so the same exact values (exact_out, premium_out), and the same answer but for the places of 5
 -- and 6, which are those of the first copy (out_answers).
-use Rattle.std.specs.Prelude.{◌≡◌, Bool, true, false, replicate, take}
+use Rattle.std.specs.Prelude.{◌≡◌, Bool, true, false, replicate, take, Err, None, Ok, Option, Some}
 use Rattle.std.proofs.Math.Path.{refl, ap}
 use Rattle.std.proofs.Common.{sym, ◌∙◌, ap₂}
 use mathlib.Core.List.{List, [], ◌∷◌, ◌++◌, map, map-append}
-use Rattle.std.proofs.Math.Option.{Option, none, some}
 use Prim.Native.Nat.{ℕ, zero, suc, ◌+◌, ◌-◌, ◌≤◌}
 use native.Mathlib.Omega.{arith}
 use Rattle.fund.specs.declared.Rate.{Rate}
 use Rattle.fund.specs.declared.Member.{Member}
-use Rattle.fund.specs.declared.Verdict.{Verdict}
-use Rattle.fund.specs.declared.Verdict.TheVariants.{Accepted, Refused}
+use Rattle.fund.specs.Verdict.{Verdict, refused_at}
 use Rattle.fund.specs.Base.{total}
 use Rattle.fund.specs.Limits.{least_lives}
 use Rattle.fund.specs.Reading.{FundFile, read, lives_in_all}
@@ -41,8 +39,8 @@ out_place file place = first_member file + lives_in_all (take (place - first_mem
 -- ---- the lives
 one_folded : (o : Option Rate) (m : Member) → folded o (one_life m) ≡ folded o m
 unfolding folded one_life
-one_folded none m = refl
-one_folded (some r) m = refl
+one_folded None m = refl
+one_folded (Some r) m = refl
 
 one_life_lem : (rates : List Rate) (m : Member) → life rates (one_life m) ≡ life rates m
 unfolding life one_life
@@ -80,14 +78,14 @@ denominator_out file = rw (lives_out file)
 
 -- ---- the first line that meets a condition, which a line's copies meet where it does
 moved_twice : (f g : ℕ → ℕ) (o : Option ℕ) → moved f (moved g o) ≡ moved (λ place. f (g place)) o
-moved_twice f g none = refl
-moved_twice f g (some place) = refl
+moved_twice f g None = refl
+moved_twice f g (Some place) = refl
 
 moved_same : (f g : ℕ → ℕ) → ((place : ℕ) → f place ≡ g place) → (o : Option ℕ) → moved f o ≡ moved g o
-moved_same f g h none = refl
-moved_same f g h (some place) = ap some (h place)
+moved_same f g h None = refl
+moved_same f g h (Some place) = ap Some (h place)
 
-first_now : {A : Type 0} (met : A → Bool) (a : A) → met a ≡ true → (at : ℕ) (rest : List A) → first met at (a ∷ rest) ≡ some at
+first_now : {A : Type 0} (met : A → Bool) (a : A) → met a ≡ true → (at : ℕ) (rest : List A) → first met at (a ∷ rest) ≡ Some at
 unfolding first
 first_now met a e at rest = rw e
 
@@ -175,5 +173,5 @@ module _ (file : FundFile) (some-lives : All (λ (m : Member). least_lives ≤ m
   out_answers text text' n = rw (verdict_out n) (go (verdict file n (fund_cells file.header (lives file))))
     where
       go : (v : Verdict) → SameButPlaces (out_place file) (answer_of text' n (out_file file) (later (out_place file) v)) (answer_of text n file v)
-      go Accepted = rw (lives_out file) (record { verdict = refl; figures = refl; D = refl; H = refl; f = refl; R = refl; F = refl })
-      go (Refused why place) = record { verdict = refl; figures = refl; D = refl; H = refl; f = refl; R = refl; F = refl }
+      go (Ok tt) = rw (lives_out file) (record { verdict = refl; figures = refl; D = refl; H = refl; f = refl; R = refl; F = refl })
+      go (Err stop) = record { verdict = refl; figures = refl; D = refl; H = refl; f = refl; R = refl; F = refl }

@@ -1,12 +1,11 @@
 -- METHOD 8: the answer of a pricing call, for given bytes and given lengths of the five result slices.
-use Rattle.std.specs.Prelude.{Bool, true, false, List, ◌++◌, map, reverse, ℕ, zero, suc, ◌-◌, ℤ, pos, length, get_or, replicate, if◌then◌else◌}
+use Rattle.std.specs.Prelude.{Bool, true, false, List, ◌++◌, map, reverse, ℕ, zero, suc, ◌-◌, ℤ, pos, length, get_or, replicate, if◌then◌else◌, Err, Ok}
 use Rattle.fund.specs.declared.Fund.{Fund}
 use Rattle.fund.specs.declared.Life.{Life}
 use Rattle.fund.specs.declared.Figures.{Figures}
 use Rattle.fund.specs.declared.Refusal.{Refusal}
 use Rattle.fund.specs.declared.Refusal.TheVariants.{Form, Range, Edition, Deductible, Unmatched, Half, Load, Order, Short, Wide, Cell as CellRefusal}
-use Rattle.fund.specs.declared.Verdict.{Verdict}
-use Rattle.fund.specs.declared.Verdict.TheVariants.{Accepted, Refused}
+use Rattle.fund.specs.Verdict.{Verdict, refused_at}
 use Rattle.fund.specs.Base.{table}
 use Rattle.fund.specs.Lines.{Line, lines}
 use Rattle.fund.specs.Reading.{FundFile, Reading, read, stopped, reading}
@@ -85,8 +84,8 @@ line_at file zero = empty
 line_at file (suc before) = get_or (map (λ (l : Line). record { start = l.start; size = length l.text }) (lines file)) before empty
 
 unfoldable pub part : List ℕ → Verdict → Part
-part file Accepted = empty
-part file (Refused why place) = if names_line why then line_at file place else empty
+part file (Ok tt) = empty
+part file (Err stop) = if names_line stop.why then line_at file stop.place else empty
 
 pub record Answer : Type 0 where
   pub verdict : Verdict
@@ -123,7 +122,7 @@ accepted fund ms n =
     let cells = fund_cells fund ms in
     let fs = map (λ (y : Cell). y.f) cells in
     record {
-      verdict = Accepted;
+      verdict = (Ok tt);
       part = empty;
       figures = fund_figures fund ms;
       D = lent (pos 0) n.D (table (suc X) (D ts));
@@ -134,13 +133,13 @@ accepted fund ms n =
     }
 
 unfoldable pub answer_of : List ℕ → Lengths → FundFile → Verdict → Answer
-answer_of file n fund Accepted = accepted fund.header (lives fund) n
-answer_of file n fund (Refused why place) = refused file n (Refused why place)
+answer_of file n fund (Ok tt) = accepted fund.header (lives fund) n
+answer_of file n fund (Err stop) = refused file n (Err stop)
 
 -- Reading first (1 and 2), then 3 to 10.
 unfoldable pub answer_to : List ℕ → Lengths → Reading → Answer
 answer_to file n (read fund) = answer_of file n fund (verdict fund n (fund_cells fund.header (lives fund)))
-answer_to file n (stopped why place) = refused file n (Refused why place)
+answer_to file n (stopped why place) = refused file n (refused_at why place)
 
 abbrev pub answer : List ℕ → Lengths → Answer
 answer file n = answer_to file n (reading file)

@@ -1,10 +1,10 @@
 -- Files and lengths of the five slices with the whole answer: number and place, the part that is handed back, the figures and every lent cell, of funds that are
 -- accepted and refused. Then lengths that are short, and starts of a lambda.
-use Rattle.std.specs.Prelude.{List, [], ◌∷◌, ◌++◌, ℕ, ℤ, pos, negsuc}
+use Rattle.std.specs.Prelude.{List, [], ◌∷◌, ◌++◌, ℕ, ℤ, pos, negsuc, Ok}
 use Prim.Native.String.{String}
+use Rattle.fund.specs.Verdict.{refused_at}
 use Rattle.fund.specs.declared.Refusal.{Refusal}
 use Rattle.fund.specs.declared.Refusal.TheVariants.{Form, Range, Edition, Deductible, Unmatched, Half, Load, Order, Short, Wide}
-use Rattle.fund.specs.declared.Verdict.TheVariants.{Accepted, Refused}
 use Rattle.fund.specs.Base.{bytes}
 use Rattle.fund.specs.Refusals.{Lengths}
 use Rattle.fund.specs.Answer.{Part, empty, Answer}
@@ -26,7 +26,7 @@ first_answer lengths beyond bounds =
       lengths = lengths;
       answer =
           record {
-            verdict = Accepted;
+            verdict = (Ok tt);
             part = empty;
             figures = record { truncation = 42866942; mean = 100000000000; premium = pos 0; within = 171467773; gross = 1 };
             D = pos 0 ∷ pos 111111111111 ∷ negsuc 12345679011 ∷ beyond;
@@ -45,7 +45,7 @@ zeros bytes why place part =
       lengths = five 1 2 3 4 5;
       answer =
           record {
-            verdict = Refused why place;
+            verdict = refused_at why place;
             part = part;
             figures = record { truncation = 0; mean = 0; premium = pos 0; within = 0; gross = 0 };
             D = pos 0 ∷ [];
@@ -89,7 +89,7 @@ answers =
       lengths = five 7 7 7 7 7;
       answer =
           record {
-            verdict = Refused Wide 6;
+            verdict = refused_at Wide 6;
             part = empty;
             figures = record { truncation = 0; mean = 0; premium = pos 0; within = 0; gross = 0 };
             D = pos 0 ∷ pos 0 ∷ pos 0 ∷ pos 0 ∷ pos 0 ∷ pos 0 ∷ pos 0 ∷ [];

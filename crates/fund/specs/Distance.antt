@@ -1,8 +1,6 @@
 -- METHOD 10, demand 3: what a call that prices a fund must leave, in whole numbers over the denominator. And (§3) what the
 -- gross premium must cover; §7: what holds of the distribution function, and so of the answer at a level.
-use Rattle.std.specs.Prelude.{◌≡◌, ℕ, suc, ◌*◌, ◌+◌, ◌^◌, ◌<◌, ◌≤◌, ℤ, pos, nat_abs, ◌+ℤ◌, ◌*ℤ◌, ◌-ℤ◌, ◌≤ℤ◌, ◌<ℤ◌, get_or}
-use Rattle.fund.specs.declared.Quantile.{Quantile}
-use Rattle.fund.specs.declared.Quantile.TheVariants.{At, None}
+use Rattle.std.specs.Prelude.{◌≡◌, ℕ, suc, ◌*◌, ◌+◌, ◌^◌, ◌<◌, ◌≤◌, ℤ, pos, nat_abs, ◌+ℤ◌, ◌*ℤ◌, ◌-ℤ◌, ◌≤ℤ◌, ◌<ℤ◌, get_or, None, Option, Some}
 use Rattle.fund.specs.Base.{sum, sumℤ}
 use Rattle.fund.specs.Reading.{FundFile}
 use Rattle.fund.specs.Folding.{lives}
@@ -69,6 +67,6 @@ pub record ReachedWithin (file : FundFile) (a : Answer) (level x : ℕ) : Type 0
   pub reached : pos (file_denominator file * level) ≤ℤ (pos unit *ℤ exact_sum file x +ℤ pos (bound_at file a x))
   pub before : (y : ℕ) → y < x → BelowAt file a level y
 
-abbrev pub QuantileWithin : FundFile → Answer → ℕ → Quantile → Type 0
-QuantileWithin file a level (At x) = ReachedWithin file a level x
+abbrev pub QuantileWithin : FundFile → Answer → ℕ → Option ℕ → Type 0
+QuantileWithin file a level (Some x) = ReachedWithin file a level x
 QuantileWithin file a level None = (y : ℕ) → y ≤ file.header.horizon → BelowAt file a level y

@@ -1,6 +1,5 @@
 -- METHOD 3: from member rows to lives: the rate in force at an age, folding, and the copies of a line.
-use Rattle.std.specs.Prelude.{Bool, List, [], ◌∷◌, ◌++◌, map, ℕ, ◌+◌, ◌-◌, eqb, leb, replicate, if◌then◌else◌}
-use Rattle.std.proofs.Math.Option.{Option, none, some}
+use Rattle.std.specs.Prelude.{Bool, List, [], ◌∷◌, ◌++◌, map, ℕ, ◌+◌, ◌-◌, eqb, leb, replicate, if◌then◌else◌, None, Option, Some}
 use Rattle.fund.specs.declared.Rate.{Rate}
 use Rattle.fund.specs.declared.Member.{Member}
 use Rattle.fund.specs.declared.Life.{Life}
@@ -12,16 +11,16 @@ use Rattle.fund.specs.Reading.{FundFile}
 -- held, if any, until a row is above the age.
 unfoldable pub held_until : Option Rate → List Rate → ℕ → Option Rate
 held_until held [] age = held
-held_until held (r ∷ rs) age = if leb r.age age then held_until (some r) rs age else held
+held_until held (r ∷ rs) age = if leb r.age age then held_until (Some r) rs age else held
 
--- The rate in force at an age: none below the first row, and none in an empty table.
+-- The rate in force at an age: None below the first row, and None in an empty table.
 unfoldable pub rate_in_force : List Rate → ℕ → Option Rate
-rate_in_force rates age = held_until none rates age
+rate_in_force rates age = held_until None rates age
 
 -- "If d = 0, q counts as 0; if e = 0, i counts as 0." Where no rate is in force, both are 0.
 unfoldable pub folded : Option Rate → Member → Life
-folded none m = record { group = m.group; q = 0; i = 0; d = m.d; e = m.e }
-folded (some r) m =
+folded None m = record { group = m.group; q = 0; i = 0; d = m.d; e = m.e }
+folded (Some r) m =
     record {
       group = m.group;
       q = if eqb m.d 0 then 0 else r.q;

@@ -8,6 +8,7 @@ pub mod Transform
 pub mod Recursion
 pub mod Premium
 pub mod Tariff
+pub mod Verdict
 pub mod Refusals
 pub mod Quantile
 pub mod Distribution

@@ -1,8 +1,7 @@
 -- METHOD 8: the listing, the text that the program prints for a fund file.
-use Rattle.std.specs.Prelude.{true, false, List, [], ◌∷◌, ◌++◌, ℕ, zero, suc, ◌+◌, ◌/◌, ◌%◌, ltb, ℤ, pos, negsuc, get_or}
+use Rattle.std.specs.Prelude.{true, false, List, [], ◌∷◌, ◌++◌, ℕ, zero, suc, ◌+◌, ◌/◌, ◌%◌, ltb, ℤ, pos, negsuc, get_or, Err, Ok}
 use Rattle.fund.specs.declared.Refusal.{Refusal}
-use Rattle.fund.specs.declared.Verdict.{Verdict}
-use Rattle.fund.specs.declared.Verdict.TheVariants.{Accepted, Refused}
+use Rattle.fund.specs.Verdict.{Verdict}
 use Rattle.fund.specs.Limits.{most_horizon}
 use Rattle.fund.specs.Base.{bytes}
 use Rattle.fund.specs.Reading.{Reading, read, stopped, reading}
@@ -56,8 +55,8 @@ unfoldable pub refused_line : Refusal → ℕ → List ℕ
 refused_line why place = bytes "refused=" ++ joined (decimal (number_of why)) (decimal place ∷ [])
 
 unfoldable pub printed : Answer → ℕ → Verdict → List ℕ
-printed a X Accepted = listed X a
-printed a X (Refused why place) = refused_line why place
+printed a X (Ok tt) = listed X a
+printed a X (Err stop) = refused_line stop.why stop.place
 
 -- The horizon of a file that can be read.
 unfoldable pub horizon_in : Reading → ℕ

@@ -1,6 +1,5 @@
 -- METHOD 1: the fund file, its lines in their order, form before range within a line.
-use Rattle.std.specs.Prelude.{Bool, true, false, ◌&&◌, List, [], ◌∷◌, ◌++◌, ℕ, suc, ◌+◌, eqb, leb, ltb, length, get_or}
-use Rattle.std.proofs.Math.Option.{none, some}
+use Rattle.std.specs.Prelude.{Bool, true, false, ◌&&◌, List, [], ◌∷◌, ◌++◌, ℕ, suc, ◌+◌, eqb, leb, ltb, length, get_or, None, Some}
 use Rattle.fund.specs.declared.Fund.{Fund}
 use Rattle.fund.specs.declared.Rate.{Rate}
 use Rattle.fund.specs.declared.Member.{Member}
@@ -67,7 +66,7 @@ header_of ns =
       worth = get_or ns 7 0;
     }
 
--- The line of a row: `rate=age,q,i`, `member=age,group,d,e,lives`, `end=` a number, or none of these. METHOD 1 (§8): "A member line gains a
+-- The line of a row: `rate=age,q,i`, `member=age,group,d,e,lives`, `end=` a number, or None of these. METHOD 1 (§8): "A member line gains a
 -- last number, lives".
 pub data Row : Type 0 where
   rate_row : Rate → Row
@@ -78,11 +77,11 @@ pub data Row : Type 0 where
 unfoldable pub row_of : Line → Row
 row_of line =
     elim (spelled (bytes "rate=") 3 line) [
-      | some ns ↦ rate_row (record { age = get_or ns 0 0; q = get_or ns 1 0; i = get_or ns 2 0 })
-      | none ↦
+      | Some ns ↦ rate_row (record { age = get_or ns 0 0; q = get_or ns 1 0; i = get_or ns 2 0 })
+      | None ↦
           elim (spelled (bytes "member=") 5 line) [
-            | some ns ↦ member_row (record { age = get_or ns 0 0; group = get_or ns 1 0; d = get_or ns 2 0; e = get_or ns 3 0; lives = get_or ns 4 0 })
-            | none ↦ elim (spelled (bytes "end=") 1 line) [ some ns ↦ end_row (get_or ns 0 0) | none ↦ other_row ]
+            | Some ns ↦ member_row (record { age = get_or ns 0 0; group = get_or ns 1 0; d = get_or ns 2 0; e = get_or ns 3 0; lives = get_or ns 4 0 })
+            | None ↦ elim (spelled (bytes "end=") 1 line) [ Some ns ↦ end_row (get_or ns 0 0) | None ↦ other_row ]
           ]
     ]
 
@@ -153,8 +152,8 @@ read_header after [] n ns ls = after n (header_of ns) ls
 read_header after (h ∷ hs) n ns [] = stopped Form n
 read_header after (h ∷ hs) n ns (l ∷ ls) =
     elim (spelled h.key (length h.ranges) l) [
-      | none ↦ stopped Form n
-      | some v ↦ elim (in_ranges h.ranges v) [ false ↦ stopped Range n | true ↦ read_header after hs (suc n) (ns ++ v) ls ]
+      | None ↦ stopped Form n
+      | Some v ↦ elim (in_ranges h.ranges v) [ false ↦ stopped Range n | true ↦ read_header after hs (suc n) (ns ++ v) ls ]
     ]
 
 -- In a file the rows follow.

@@ -1,6 +1,5 @@
 -- Where pricing stops: METHOD 2's numbers, and the refusals 3 to 10 in their order, each over all members before the next.
-use Rattle.std.specs.Prelude.{Bool, true, false, not, ◌&&◌, ◌||◌, List, [], ◌∷◌, ℕ, suc, ◌+◌, eqb, leb, ltb, length, if◌then◌else◌}
-use Rattle.std.proofs.Math.Option.{Option, none, some}
+use Rattle.std.specs.Prelude.{Bool, true, false, not, ◌&&◌, ◌||◌, List, [], ◌∷◌, ℕ, suc, ◌+◌, eqb, leb, ltb, length, if◌then◌else◌, Err, None, Ok, Option, Some}
 use Rattle.fund.specs.declared.Fund.{Fund}
 use Rattle.fund.specs.declared.Rate.{Rate}
 use Rattle.fund.specs.declared.Member.{Member}
@@ -8,8 +7,7 @@ use Rattle.fund.specs.declared.Life.{Life}
 use Rattle.fund.specs.declared.ModelPoint.{ModelPoint}
 use Rattle.fund.specs.declared.Refusal.{Refusal}
 use Rattle.fund.specs.declared.Refusal.TheVariants.{Form, Range, Edition, Deductible, Unmatched, Half, Load, Order, Short, Wide, Cell as CellRefusal}
-use Rattle.fund.specs.declared.Verdict.{Verdict}
-use Rattle.fund.specs.declared.Verdict.TheVariants.{Accepted, Refused}
+use Rattle.fund.specs.Verdict.{Verdict, refused_at}
 use Rattle.fund.specs.Limits.{half_rate, most_load, most_truncation, most_bound}
 use Rattle.fund.specs.Reading.{FundFile, header_lines}
 use Rattle.fund.specs.Folding.{rate_in_force, points, lives, claim, single}
@@ -31,23 +29,23 @@ number_of CellRefusal = 11
 
 -- "number and place are 0" for a fund that is accepted.
 abbrev pub number_in : Verdict → ℕ
-number_in Accepted = 0
-number_in (Refused why place) = number_of why
+number_in (Ok tt) = 0
+number_in (Err stop) = number_of stop.why
 
 abbrev pub place_in : Verdict → ℕ
-place_in Accepted = 0
-place_in (Refused why place) = place
+place_in (Ok tt) = 0
+place_in (Err stop) = stop.place
 
 -- The place, counted from `at`, of the first of a list that meets a condition.
 unfoldable pub first : {A : Type 0} → (A → Bool) → ℕ → List A → Option ℕ
-first met at [] = none
+first met at [] = None
 first met at (a ∷ rest) =
     let after = first met (suc at) rest in
-    if met a then some at else after
+    if met a then Some at else after
 
 -- 5 (§2): "left only for an age below the first row, or an empty rate table", where no rate is in force.
 unfoldable pub unmatched : List Rate → Member → Bool
-unmatched rates m = elim (rate_in_force rates m.age) [ none ↦ true | some r ↦ false ]
+unmatched rates m = elim (rate_in_force rates m.age) [ None ↦ true | Some r ↦ false ]
 
 -- 6: "group 1, q + i at least 500,000 after folding"
 unfoldable pub half : Life → Bool
@@ -57,7 +55,7 @@ half m = single m && leb half_rate (claim m)
 unfoldable pub half_line : ModelPoint → Bool
 half_line p = half p.life
 
--- 10: "some R(x) above 250,000 units"
+-- 10: "Some R(x) above 250,000 units"
 unfoldable pub wide : Cell → Bool
 wide y = ltb most_bound y.R
 
@@ -80,12 +78,12 @@ short n X = any_short (n.D ∷ n.H ∷ n.f ∷ n.R ∷ n.F ∷ []) X
 
 -- A refusal where the condition holds at a place, else what follows.
 unfoldable pub refuse : Refusal → Option ℕ → Verdict → Verdict
-refuse why none after = after
-refuse why (some place) after = Refused why place
+refuse why None after = after
+refuse why (Some place) after = refused_at why place
 
 -- The condition of a refusal whose place is 0.
 unfoldable pub at0 : Bool → Option ℕ
-at0 holds = if holds then some 0 else none
+at0 holds = if holds then Some 0 else None
 
 -- The line of the first member: the header lines and the rate lines stand before it.
 unfoldable pub first_member : FundFile → ℕ
@@ -97,7 +95,7 @@ valued fund ms n cells =
     refuse Load (at0 (ltb most_load (load fund.frequency ms)))
     (refuse Order (at0 (ltb most_truncation (truncation fund.order ms)))
     (refuse Short (at0 (short n fund.horizon))
-    (refuse Wide (first wide 0 cells) Accepted)))
+    (refuse Wide (first wide 0 cells) (Ok tt))))
 
 -- 3 to 6, and what follows them.
 unfoldable pub matched : FundFile → Verdict → Verdict

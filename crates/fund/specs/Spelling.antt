@@ -1,6 +1,5 @@
 -- METHOD 1: how a line is spelled: a key, then numbers between commas.
-use Rattle.std.specs.Prelude.{Bool, true, false, not, ◌&&◌, ◌||◌, List, [], ◌∷◌, map, ℕ, ◌+◌, ◌-◌, ◌*◌, eqb, leb, length, if◌then◌else◌}
-use Rattle.std.proofs.Math.Option.{Option, none, some}
+use Rattle.std.specs.Prelude.{Bool, true, false, not, ◌&&◌, ◌||◌, List, [], ◌∷◌, map, ℕ, ◌+◌, ◌-◌, ◌*◌, eqb, leb, length, if◌then◌else◌, None, Option, Some}
 use Rattle.fund.specs.Limits.{most_digits}
 use Rattle.fund.specs.Lines.{Line}
 
@@ -35,24 +34,24 @@ unfoldable pub all_numbers : List (List ℕ) → Bool
 all_numbers [] = true
 all_numbers (t ∷ ts) = is_number t && all_numbers ts
 
--- The numbers of a text of just so many, or none where it is not spelled so.
+-- The numbers of a text of just so many, or None where it is not spelled so.
 unfoldable pub numbers : ℕ → List ℕ → Option (List ℕ)
 numbers count text =
     let between = fields text in
-    if eqb (length between) count && all_numbers between then some (map value between) else none
+    if eqb (length between) count && all_numbers between then Some (map value between) else None
 
--- What stands behind the key, or none where the text does not begin with it.
+-- What stands behind the key, or None where the text does not begin with it.
 unfoldable pub behind : List ℕ → List ℕ → Option (List ℕ)
-behind [] text = some text
-behind (k ∷ ks) [] = none
+behind [] text = Some text
+behind (k ∷ ks) [] = None
 behind (k ∷ ks) (b ∷ bs) =
     let after = behind ks bs in
-    if eqb k b then after else none
+    if eqb k b then after else None
 
 -- The numbers of a line `key=..`. "A last line without its line feed is form."
 unfoldable pub spelled : List ℕ → ℕ → Line → Option (List ℕ)
 spelled key count line =
     elim line.ended [
-      | true ↦ elim (behind key line.text) [ none ↦ none | some text ↦ numbers count text ]
-      | false ↦ none
+      | true ↦ elim (behind key line.text) [ None ↦ None | Some text ↦ numbers count text ]
+      | false ↦ None
     ]

@@ -10,7 +10,7 @@ ghost use Rattle.fund.specs.Refusals.{number_of};
 ghost use Rattle.fund.specs.Answer.{no_figures};
 
 // The fund record: the figures of a file's header lines, in their order.
-#[derive(Clone, Copy)]
+#[derive(Clone, Copy, PartialEq, Eq, Default)]
 pub struct Fund {
     pub rates: u64,
     pub members: u64,
@@ -22,14 +22,14 @@ pub struct Fund {
 }
 
 // How often a place of group 2 is filled again, in thousandths: a deceased member's and a disabled member's.
-#[derive(Clone, Copy)]
+#[derive(Clone, Copy, PartialEq, Eq, Default)]
 pub struct Frequencies {
     pub death: u64,
     pub disability: u64,
 }
 
 // A rate line: the death rate q and the disability rate i from an age on, until the next row's age, in millionths.
-#[derive(Clone, Copy)]
+#[derive(Clone, Copy, PartialEq, Eq, Default)]
 pub struct Rate {
     pub age: u64,
     pub q: u64,
@@ -37,7 +37,7 @@ pub struct Rate {
 }
 
 // A member line: group 1 or 2, the amounts at death d and at disability e, and how many lives the line stands for.
-#[derive(Clone, Copy)]
+#[derive(Clone, Copy, PartialEq, Eq, Default)]
 pub struct Member {
     pub age: u64,
     pub group: u64,
@@ -47,7 +47,7 @@ pub struct Member {
 }
 
 // One life, with the folded rates in force at its age.
-#[derive(Clone, Copy)]
+#[derive(Clone, Copy, PartialEq, Eq, Default)]
 pub struct Life {
     pub group: u64,
     pub q: u64,
@@ -57,17 +57,10 @@ pub struct Life {
 }
 
 // The member record of the lent table: what each life of a member line is, and how many of them there are.
-#[derive(Clone, Copy)]
+#[derive(Clone, Copy, PartialEq, Eq, Default)]
 pub struct ModelPoint {
     pub life: Life,
     pub lives: u64,
-}
-
-// A cell of a sheet: "A cell is either a number or a blank".
-#[derive(Clone, Copy)]
-pub enum SheetCell {
-    Number(f64),
-    Blank,
 }
 
 // A row of the rates' sheet: its age, q and i.
@@ -88,23 +81,15 @@ pub struct MemberFloats {
     pub lives: f64,
 }
 
-// What a cell is taken as, or that it is not taken.
-#[derive(Clone, Copy)]
-pub enum Taken {
-    As(u64),
-    Not,
-}
-
-// What a sheet's row is taken as; or one of its cells is not taken, or it is cut short.
-#[derive(Clone, Copy)]
-pub enum SheetRow {
+// A row of a sheet, rate rows first.
+#[derive(Clone, Copy, PartialEq, Eq)]
+pub enum Row {
     Rate(Rate),
     Member(Member),
-    NotTaken,
 }
 
 // Why pricing stops, in the order of METHOD 2's table; last (§6): "11 (cell)".
-#[derive(Clone, Copy)]
+#[derive(Clone, Copy, PartialEq, Eq)]
 pub enum Refusal {
     Form,
     Range,
@@ -119,22 +104,18 @@ pub enum Refusal {
     Cell,
 }
 
-// What a pricing call says of a file: it is accepted, or refused at a place.
-#[derive(Clone, Copy)]
-pub enum Verdict {
-    Accepted,
-    Refused(Refusal, u64),
+// A refusal at a place: "its number and place".
+#[derive(Clone, Copy, PartialEq, Eq)]
+pub struct Refused {
+    pub why: Refusal,
+    pub place: u64,
 }
 
-// The deductible at a level: the first place where the running sum of the cells is at least the level, or none up to the horizon.
-#[derive(Clone, Copy)]
-pub enum Quantile {
-    At(u64),
-    None,
-}
+// What a pricing call says of a file: it is accepted, or refused at a place.
+pub type Verdict = Result<(), Refused>;
 
 // A fund's figures beside its cells: the truncation figure E, the mean, the premium, the premium's bound, and the gross premium.
-#[derive(Clone, Copy)]
+#[derive(Clone, Copy, PartialEq, Eq, Default)]
 pub struct Figures {
     pub truncation: u64,
     pub mean: u64,
@@ -285,20 +266,31 @@ pub fn no_figures() -> Figures
 }
 
 // METHOD 2's number of a refusal.
-pub fn number(why: Refusal) -> u64
-    ensures { result ≡ number_of why }
-{
-    match why {
-        Refusal::Form => 1,
-        Refusal::Range => 2,
-        Refusal::Edition => 3,
-        Refusal::Deductible => 4,
-        Refusal::Unmatched => 5,
-        Refusal::Half => 6,
-        Refusal::Load => 7,
-        Refusal::Order => 8,
-        Refusal::Short => 9,
-        Refusal::Wide => 10,
-        Refusal::Cell => 11,
+impl From<Refusal> for u64 {
+    ghost from_gives = { λ why n. n ≡ number_of why };
+
+    fn from(why: Refusal) -> u64 {
+        match why {
+            Refusal::Form => 1,
+            Refusal::Range => 2,
+            Refusal::Edition => 3,
+            Refusal::Deductible => 4,
+            Refusal::Unmatched => 5,
+            Refusal::Half => 6,
+            Refusal::Load => 7,
+            Refusal::Order => 8,
+            Refusal::Short => 9,
+            Refusal::Wide => 10,
+            Refusal::Cell => 11,
+        }
+    }
+}
+
+impl Refusal {
+    // The refusal at a place.
+    pub fn at(self, place: u64) -> Refused
+        ensures { result ≡ record { why = self; place = place } }
+    {
+        Refused { why: self, place }
     }
 }

@@ -1,13 +1,11 @@
--- What acceptance says: none of the refusals' conditions holds (accepts). And what meets none of them is accepted (accepted_where).
-use Rattle.std.specs.Prelude.{◌≡◌, refl, Bool, true, false, not, ◌&&◌, ◌||◌, List, [], ◌∷◌, ◌++◌, map, ℕ, zero, suc, ◌≤◌, ◌<◌, eqb, leb, replicate, if◌then◌else◌}
+-- What acceptance says: None of the refusals' conditions holds (accepts). And what meets None of them is accepted (accepted_where).
+use Rattle.std.specs.Prelude.{◌≡◌, refl, Bool, true, false, not, ◌&&◌, ◌||◌, List, [], ◌∷◌, ◌++◌, map, ℕ, zero, suc, ◌≤◌, ◌<◌, eqb, leb, replicate, if◌then◌else◌, None, Ok, Option, Some}
 use Rattle.std.proofs.Common.{◌∙◌, ap, subst, arith, ltb-false, leb-false, le-ltb, eqb-true, eq-eqb}
-use Rattle.std.proofs.Math.Option.{Option, none, some}
 use Rattle.std.proofs.lemmas.Bool.{lt-leb, not-false}
 use Rattle.fund.specs.declared.Life.{Life}
 use Rattle.fund.specs.declared.ModelPoint.{ModelPoint}
 use Rattle.fund.specs.declared.Refusal.{Refusal}
-use Rattle.fund.specs.declared.Verdict.{Verdict}
-use Rattle.fund.specs.declared.Verdict.TheVariants.{Accepted}
+use Rattle.fund.specs.Verdict.{Verdict, refused_at}
 use Rattle.fund.specs.Base.{table}
 use Rattle.fund.specs.Limits.{half_rate, most_load, most_truncation, most_bound}
 use Rattle.fund.specs.Reading.{FundFile}
@@ -83,22 +81,22 @@ long_of n X e =
     record { d_long = a.0; h_long = a.1.0; f_long = a.1.1.0; r_long = a.1.1.1.0; sums_long = a.1.1.1.1.0 }
 
 -- ---- the chain of refusals
-pub refuse_accepted : (why : Refusal) (o : Option ℕ) (after : Verdict) → refuse why o after ≡ Accepted → (o ≡ none) × (after ≡ Accepted)
+pub refuse_accepted : (why : Refusal) (o : Option ℕ) (after : Verdict) → refuse why o after ≡ Ok tt → (o ≡ None) × (after ≡ Ok tt)
 unfolding refuse
-refuse_accepted why none after e = (refl, e)
-refuse_accepted why (some place) after e = let z : ◌≡◌ {A = ℕ} 0 1 = cc in absurd (omega arith)
+refuse_accepted why None after e = (refl, e)
+refuse_accepted why (Some place) after e = let z : ◌≡◌ {A = ℕ} 0 1 = cc in absurd (omega arith)
 
-pub at0_none : (b : Bool) → at0 b ≡ none → b ≡ false
+pub at0_none : (b : Bool) → at0 b ≡ None → b ≡ false
 unfolding at0
 at0_none true e = let z : ◌≡◌ {A = ℕ} 0 1 = cc in absurd (omega arith)
 at0_none false e = refl
 
-pub first_none : {A : Type 0} (met : A → Bool) (at : ℕ) (l : List A) → first met at l ≡ none → All (λ a. met a ≡ false) l
+pub first_none : {A : Type 0} (met : A → Bool) (at : ℕ) (l : List A) → first met at l ≡ None → All (λ a. met a ≡ false) l
 unfolding first
 first_none met at [] e = tt
 first_none met at (a ∷ rest) e = go (met a) refl e (first_none met (suc at) rest)
   where
-    go : (b : Bool) → met a ≡ b → (if b then some at else first met (suc at) rest) ≡ none → (first met (suc at) rest ≡ none → All (λ a. met a ≡ false) rest) → (met a ≡ false) × All (λ a. met a ≡ false) rest
+    go : (b : Bool) → met a ≡ b → (if b then Some at else first met (suc at) rest) ≡ None → (first met (suc at) rest ≡ None → All (λ a. met a ≡ false) rest) → (met a ≡ false) × All (λ a. met a ≡ false) rest
     go true e f h = let z : ◌≡◌ {A = ℕ} 0 1 = cc in absurd (omega arith)
     go false e f h = (e, h f)
 
@@ -126,7 +124,7 @@ pub record Accepts (file : FundFile) (n : Lengths) (cells : List Cell) : Type 0 
   pub long : Long n file.header.horizon
   pub narrow : All (λ (y : Cell). y.R ≤ most_bound) cells
 
-pub accepts : (file : FundFile) (n : Lengths) (cells : List Cell) → verdict file n cells ≡ Accepted → Accepts file n cells
+pub accepts : (file : FundFile) (n : Lengths) (cells : List Cell) → verdict file n cells ≡ Ok tt → Accepts file n cells
 unfolding verdict matched valued wide lives
 accepts file n cells e =
     let e3 = refuse_accepted _ _ _ e in
@@ -151,15 +149,15 @@ accepts file n cells e =
     }
 
 -- ---- the other way: what meets no condition
-refuse_none : (why : Refusal) (o : Option ℕ) (after : Verdict) → o ≡ none → refuse why o after ≡ after
+refuse_none : (why : Refusal) (o : Option ℕ) (after : Verdict) → o ≡ None → refuse why o after ≡ after
 unfolding refuse
 refuse_none why o after e = rw e
 
-at0_false : (b : Bool) → b ≡ false → at0 b ≡ none
+at0_false : (b : Bool) → b ≡ false → at0 b ≡ None
 unfolding at0
 at0_false b e = rw e
 
-none_first : {A : Type 0} (met : A → Bool) (at : ℕ) (l : List A) → All (λ a. met a ≡ false) l → first met at l ≡ none
+none_first : {A : Type 0} (met : A → Bool) (at : ℕ) (l : List A) → All (λ a. met a ≡ false) l → first met at l ≡ None
 unfolding first
 none_first met at [] h = refl
 none_first met at (a ∷ rest) h = rw (h.0, none_first met (suc at) rest h.1)
@@ -180,7 +178,7 @@ of_long : (n : Lengths) (X : ℕ) → Long n X → short n X ≡ false
 unfolding short
 of_long n X l = all_long (n.D ∷ n.H ∷ n.f ∷ n.R ∷ n.F ∷ []) X (l.d_long, (l.h_long, (l.f_long, (l.r_long, (l.sums_long, tt)))))
 
-pub accepted_where : (file : FundFile) (n : Lengths) (cells : List Cell) → Accepts file n cells → verdict file n cells ≡ Accepted
+pub accepted_where : (file : FundFile) (n : Lengths) (cells : List Cell) → Accepts file n cells → verdict file n cells ≡ Ok tt
 unfolding verdict matched valued wide
 accepted_where file n cells a =
     refuse_none _ _ _ (at0_false _ (ap not (eq-eqb file.header.rates file.header.members a.editions)))

@@ -1,13 +1,12 @@
 -- The answer of a call that accepts: a fund was read (accepted_read), no refusal's condition holds, and the answer is the fund's
 -- figures (answer_accepted). The cells it leaves are those of the sequence (f_cell, R_cell). An empty file has no line (no_line_lem).
-use Rattle.std.specs.Prelude.{◌≡◌, refl, Bool, true, false, List, [], map, ℕ, zero, suc, ◌-◌, ◌<◌, ◌≤◌, pos, length, replicate, if◌then◌else◌}
+use Rattle.std.specs.Prelude.{◌≡◌, refl, Bool, true, false, List, [], map, ℕ, zero, suc, ◌-◌, ◌<◌, ◌≤◌, pos, length, replicate, if◌then◌else◌, Err, Ok}
 use Rattle.std.proofs.Common.{sym, ◌∙◌, arith}
 use Rattle.std.proofs.Math.Path.{ap}
 use Rattle.std.proofs.Math.ListN.{get_or, get_or-append}
 use Rattle.fund.specs.declared.Fund.{Fund}
 use Rattle.fund.specs.declared.Life.{Life}
-use Rattle.fund.specs.declared.Verdict.{Verdict}
-use Rattle.fund.specs.declared.Verdict.TheVariants.{Accepted, Refused}
+use Rattle.fund.specs.Verdict.{Verdict, refused_at}
 use Rattle.fund.specs.Base.{table}
 use Rattle.fund.specs.Lines.{lines, lines_from}
 use Rattle.fund.specs.Reading.{FundFile, Reading, read, stopped}
@@ -22,26 +21,26 @@ pub record Read (r : Reading) : Type 0 where
   pub fund : FundFile
   pub is_read : r ≡ read fund
 
-not_accepted : (text : List ℕ) (n : Lengths) (why : _) (place : ℕ) → (refused text n (Refused why place)).verdict ≡ Accepted → ⊥
+not_accepted : (text : List ℕ) (n : Lengths) (why : _) (place : ℕ) → (refused text n (refused_at why place)).verdict ≡ Ok tt → ⊥
 unfolding refused
 not_accepted text n why place e = let z : ◌≡◌ {A = ℕ} 0 1 = cc in omega arith
 
-pub accepted_read : (text : List ℕ) (n : Lengths) (r : Reading) → (answer_to text n r).verdict ≡ Accepted → Read r
+pub accepted_read : (text : List ℕ) (n : Lengths) (r : Reading) → (answer_to text n r).verdict ≡ Ok tt → Read r
 unfolding answer_to
 accepted_read text n (read fund) e = record { fund = fund; is_read = refl }
 accepted_read text n (stopped why place) e = absurd (not_accepted text n why place e)
 
 pub record Accepting (text : List ℕ) (n : Lengths) (r : Reading) (fund : FundFile) : Type 0 where
-  pub verdict_is : verdict fund n (fund_cells fund.header (lives fund)) ≡ Accepted
+  pub verdict_is : verdict fund n (fund_cells fund.header (lives fund)) ≡ Ok tt
   pub answer_is : answer_to text n r ≡ accepted fund.header (lives fund) n
 
-pub answer_accepted : (text : List ℕ) (n : Lengths) (r : Reading) (fund : FundFile) → r ≡ read fund → (answer_to text n r).verdict ≡ Accepted → Accepting text n r fund
+pub answer_accepted : (text : List ℕ) (n : Lengths) (r : Reading) (fund : FundFile) → r ≡ read fund → (answer_to text n r).verdict ≡ Ok tt → Accepting text n r fund
 unfolding answer_to answer_of
 answer_accepted text n r fund is e = go (verdict fund n (fund_cells fund.header (lives fund))) refl (ap (λ s. (answer_to text n s).verdict) (sym is) ∙ e)
   where
-    go : (v : Verdict) → verdict fund n (fund_cells fund.header (lives fund)) ≡ v → (answer_of text n fund v).verdict ≡ Accepted → Accepting text n r fund
-    go Accepted s h = record { verdict_is = s; answer_is = ap (answer_to text n) is ∙ ap (answer_of text n fund) s }
-    go (Refused why place) s h = absurd (not_accepted text n why place h)
+    go : (v : Verdict) → verdict fund n (fund_cells fund.header (lives fund)) ≡ v → (answer_of text n fund v).verdict ≡ Ok tt → Accepting text n r fund
+    go (Ok tt) s h = record { verdict_is = s; answer_is = ap (answer_to text n) is ∙ ap (answer_of text n fund) s }
+    go (Err stop) s h = absurd (not_accepted text n stop.why stop.place h)
 
 lent_at : {A : Type 0} (blank : A) (n k x : ℕ) (g : ℕ → A) → x < k → get_or (lent blank n (table k g)) x blank ≡ g x
 unfolding lent
@@ -51,8 +50,8 @@ lent_at blank n k x g l =
 -- an empty file has no line to hand back
 pub no_line_lem : (v : Verdict) → part [] v ≡ empty
 unfolding part line_at lines lines_from
-no_line_lem Accepted = refl
-no_line_lem (Refused why place) = go (names_line why) place
+no_line_lem (Ok tt) = refl
+no_line_lem (Err stop) = go (names_line stop.why) stop.place
   where
     go : (b : Bool) (at : ℕ) → (if b then line_at [] at else empty) ≡ empty
     go true zero = refl

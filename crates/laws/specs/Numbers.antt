@@ -1,10 +1,9 @@
 -- No refusal has the number 0: a verdict with number 0 is an acceptance (zero_accepted).
-use Rattle.std.specs.Prelude.{◌≡◌, refl, ◌≤◌}
+use Rattle.std.specs.Prelude.{◌≡◌, refl, ◌≤◌, Err, Ok}
 use Rattle.std.proofs.Common.{arith}
 use Rattle.fund.specs.declared.Refusal.{Refusal}
 use Rattle.fund.specs.declared.Refusal.TheVariants.{Form, Range, Edition, Deductible, Unmatched, Half, Load, Order, Short, Wide, Cell}
-use Rattle.fund.specs.declared.Verdict.{Verdict}
-use Rattle.fund.specs.declared.Verdict.TheVariants.{Accepted, Refused}
+use Rattle.fund.specs.Verdict.{Verdict, refused_at}
 use Rattle.fund.specs.Refusals.{number_of, number_in}
 
 number_above : (why : Refusal) → 1 ≤ number_of why
@@ -20,6 +19,6 @@ number_above Short = omega arith
 number_above Wide = omega arith
 number_above Cell = omega arith
 
-pub zero_accepted : (v : Verdict) → number_in v ≡ 0 → v ≡ Accepted
-zero_accepted Accepted e = refl
-zero_accepted (Refused why place) e = absurd (omega (arith, number_above why, e))
+pub zero_accepted : (v : Verdict) → number_in v ≡ 0 → v ≡ Ok tt
+zero_accepted (Ok tt) e = refl
+zero_accepted (Err stop) e = absurd (omega (arith, number_above stop.why, e))

@@ -1,10 +1,9 @@
 -- What holds of every fund that is read: the header's figures are in their ranges, and so are all rate rows and member rows and
 -- their numbers; the ages of the rate rows rise (read_ranges).
-use Rattle.std.specs.Prelude.{◌≡◌, Bool, true, false, ◌&&◌, ℕ, zero, suc, ◌+◌, ◌≤◌, ◌<◌, eqb, leb, ltb, length, get_or, if◌then◌else◌}
+use Rattle.std.specs.Prelude.{◌≡◌, Bool, true, false, ◌&&◌, ℕ, zero, suc, ◌+◌, ◌≤◌, ◌<◌, eqb, leb, ltb, length, get_or, if◌then◌else◌, None, Option, Some}
 use Rattle.std.proofs.Math.Path.{refl, subst}
 use Rattle.std.proofs.Common.{sym, ◌∙◌, ap, arith, ltb-true, leb-true, eqb-true, length-append}
 use mathlib.Core.List.{List, [], ◌∷◌, ◌++◌, map, append-nil, append_assoc}
-use Rattle.std.proofs.Math.Option.{Option, none, some}
 use Rattle.std.proofs.lemmas.List.{length-map}
 use Rattle.fund.specs.declared.Fund.{Fund}
 use Rattle.fund.specs.declared.Frequencies.{Frequencies}
@@ -148,29 +147,29 @@ rows_ranges (l ∷ ls) n header rates members fund k e = go (passed_line n heade
     go (end_line c s b z w) ih = subst (λ f. Reads header f) w (record { header_is = refl; rows = k })
 
 -- ---- the header
-numbers_length : (count : ℕ) (text v : List ℕ) → numbers count text ≡ some v → length v ≡ count
+numbers_length : (count : ℕ) (text v : List ℕ) → numbers count text ≡ Some v → length v ≡ count
 unfolding numbers
 numbers_length count text v e = go (eqb (length (fields text)) count) refl (all_numbers (fields text)) e
   where
-    go : (b : Bool) → eqb (length (fields text)) count ≡ b → (c : Bool) → (if b && c then some (map value (fields text)) else none) ≡ some v → length v ≡ count
+    go : (b : Bool) → eqb (length (fields text)) count ≡ b → (c : Bool) → (if b && c then Some (map value (fields text)) else None) ≡ Some v → length v ≡ count
     go true s true h =
         let z : map value (fields text) ≡ v = cc in
         ap length (sym z) ∙ length-map (fields text) value ∙ eqb-true (length (fields text)) count s
     go true s false h = let z : ◌≡◌ {A = ℕ} 0 1 = cc in absurd (omega arith)
     go false s c h = let z : ◌≡◌ {A = ℕ} 0 1 = cc in absurd (omega arith)
 
-pub spelled_length : (key : List ℕ) (count : ℕ) (l : Line) (v : List ℕ) → spelled key count l ≡ some v → length v ≡ count
+pub spelled_length : (key : List ℕ) (count : ℕ) (l : Line) (v : List ℕ) → spelled key count l ≡ Some v → length v ≡ count
 unfolding spelled
 spelled_length key count l v e = go l.ended e
   where
-    none_some : none ≡ some v → length v ≡ count
+    none_some : None ≡ Some v → length v ≡ count
     none_some h = let z : ◌≡◌ {A = ℕ} 0 1 = cc in absurd (omega arith)
 
-    text : (o : Option (List ℕ)) → elim o [ none ↦ none | some t ↦ numbers count t ] ≡ some v → length v ≡ count
-    text none h = none_some h
-    text (some t) h = numbers_length count t v h
+    text : (o : Option (List ℕ)) → elim o [ None ↦ None | Some t ↦ numbers count t ] ≡ Some v → length v ≡ count
+    text None h = none_some h
+    text (Some t) h = numbers_length count t v h
 
-    go : (b : Bool) → elim b [ true ↦ elim (behind key l.text) [ none ↦ none | some t ↦ numbers count t ] | false ↦ none ] ≡ some v → length v ≡ count
+    go : (b : Bool) → elim b [ true ↦ elim (behind key l.text) [ None ↦ None | Some t ↦ numbers count t ] | false ↦ None ] ≡ Some v → length v ≡ count
     go true h = text (behind key l.text) h
     go false h = none_some h
 
@@ -227,8 +226,8 @@ module _ (after : ℕ → Fund → List Line → Reading) (fund : FundFile) (beh
     where
       go : (o : Option (List ℕ)) → spelled h.key (length h.ranges) l ≡ o → read_header after (h ∷ hs) n ns (l ∷ ls) ≡ read fund →
           ((ms : List ℕ) → read_header after hs (suc n) ms ls ≡ read fund → ReadsHeader hs ms fund) → ReadsHeader (h ∷ hs) ns fund
-      go none s k ih = absurd (never Form n fund (rw (s, read_header) at k))
-      go (some vs) s k ih =
+      go None s k ih = absurd (never Form n fund (rw (s, read_header) at k))
+      go (Some vs) s k ih =
           let h2 = pass (in_ranges h.ranges vs) Range n (read_header after hs (suc n) (ns ++ vs) ls) fund (rw (s, read_header) at k) in
           let r = ih (ns ++ vs) h2.1 in
           record {

@@ -1,8 +1,7 @@
 -- The text of a row or of the end, with numbers of at most seven digits, is a line, and that line is read as that row (rate_first, member_first,
 -- end_first): the fields of decimal numbers between commas are those numbers.
-use Rattle.std.specs.Prelude.{◌≡◌, refl, true, false, List, [], ◌∷◌, ◌++◌, map, ℕ, suc, ◌+◌, ◌≤◌, ◌<◌, eqb, length}
+use Rattle.std.specs.Prelude.{◌≡◌, refl, true, false, List, [], ◌∷◌, ◌++◌, map, ℕ, suc, ◌+◌, ◌≤◌, ◌<◌, eqb, length, Some}
 use Rattle.std.proofs.Common.{sym, ◌∙◌, ap, ap₂, append_assoc, arith, leb-true, eq-eqb, ne_eqb}
-use Rattle.std.proofs.Math.Option.{some}
 use Rattle.std.proofs.lemmas.List.{length-map}
 use Rattle.fund.specs.declared.Rate.{Rate}
 use Rattle.fund.specs.declared.Member.{Member}
@@ -73,13 +72,13 @@ all_values : (ns : List ℕ) → Short ns → map value (map decimal ns) ≡ ns
 all_values [] h = refl
 all_values (n ∷ ns) h = ap₂ (λ m ms. m ∷ ms) (decimal_spelled n h.0).value_is (all_values ns h.1)
 
-numbers_are : (n : ℕ) (ms : List ℕ) → Short (n ∷ ms) → numbers (suc (length ms)) (commas n ms) ≡ some (n ∷ ms)
+numbers_are : (n : ℕ) (ms : List ℕ) → Short (n ∷ ms) → numbers (suc (length ms)) (commas n ms) ≡ Some (n ∷ ms)
 unfolding numbers
 numbers_are n ms h =
     rw (fields_are n ms h)
-    (rw (eq-eqb (length (map decimal (n ∷ ms))) (suc (length ms)) (length-map (n ∷ ms) decimal), all_numbers_lem (n ∷ ms) h) (ap (λ ns. some ns) (all_values (n ∷ ms) h)))
+    (rw (eq-eqb (length (map decimal (n ∷ ms))) (suc (length ms)) (length-map (n ∷ ms) decimal), all_numbers_lem (n ∷ ms) h) (ap (λ ns. Some ns) (all_values (n ∷ ms) h)))
 
-behind_key : (key text : List ℕ) → behind key (key ++ text) ≡ some text
+behind_key : (key text : List ℕ) → behind key (key ++ text) ≡ Some text
 unfolding behind
 behind_key [] text = refl
 behind_key (k ∷ key) text = rw (eq-eqb k k refl) (behind_key key text)
@@ -88,7 +87,7 @@ behind_key (k ∷ key) text = rw (eq-eqb k k refl) (behind_key key text)
 abbrev line_of : List ℕ → ℕ → List ℕ → ℕ → Line
 line_of key n ms at = record { start = at; text = key ++ commas n ms; ended = true }
 
-spelled_is : (key : List ℕ) (n : ℕ) (ms : List ℕ) (at : ℕ) → Short (n ∷ ms) → spelled key (suc (length ms)) (line_of key n ms at) ≡ some (n ∷ ms)
+spelled_is : (key : List ℕ) (n : ℕ) (ms : List ℕ) (at : ℕ) → Short (n ∷ ms) → spelled key (suc (length ms)) (line_of key n ms at) ≡ Some (n ∷ ms)
 unfolding spelled
 spelled_is key n ms at h = rw (behind_key key (commas n ms), spelled) (numbers_are n ms h)
 

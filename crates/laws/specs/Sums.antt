@@ -1,13 +1,12 @@
 -- The running sums of an answer: sums of equal cells are equal (running_lent), and F(x) of an accepted fund is the sum of the f that it
 -- leaves, up to x (F_cell); its slice keeps its length (length_F). So the answer at a level says what it should of these sums (level_says).
-use Rattle.std.specs.Prelude.{◌≡◌, refl, List, map, ℕ, zero, suc, ◌-◌, ◌<◌, ◌≤◌, ℤ, pos, ◌+ℤ◌, get_or, replicate}
+use Rattle.std.specs.Prelude.{◌≡◌, refl, List, map, ℕ, zero, suc, ◌-◌, ◌<◌, ◌≤◌, ℤ, pos, ◌+ℤ◌, get_or, replicate, Ok}
 use Rattle.std.proofs.Math.Path.{sym}
 use Rattle.std.proofs.Common.{◌∙◌, ap, ap₂, arith}
 use Rattle.std.proofs.Math.ListN.{length, length-append, length-replicate, get_or-append}
 use Rattle.std.proofs.lemmas.List.{length-map}
 use Rattle.fund.specs.declared.Fund.{Fund}
 use Rattle.fund.specs.declared.Life.{Life}
-use Rattle.fund.specs.declared.Verdict.TheVariants.{Accepted}
 use Rattle.fund.specs.Base.{sumℤ, table}
 use Rattle.fund.specs.Limits.{most_level}
 use Rattle.fund.specs.Reading.{FundFile, Reading, read}
@@ -58,7 +57,7 @@ module _ (fund : Fund) (ms : List Life) where
       ∙ get_or_table (suc fund.horizon) (running_sum fund_fs) x (pos 0) (omega arith)
       ∙ sym (running_at n.f fund_fs x (let w = length_fs in omega arith))
 
-pub level_says : (text : List ℕ) (n : Lengths) (r : Reading) (fund : FundFile) → r ≡ read fund → (answer_to text n r).verdict ≡ Accepted → (level : ℕ) → level ≤ most_level →
+pub level_says : (text : List ℕ) (n : Lengths) (r : Reading) (fund : FundFile) → r ≡ read fund → (answer_to text n r).verdict ≡ Ok tt → (level : ℕ) → level ≤ most_level →
     QuantileSays level fund.header.horizon (answer_to text n r).F (quantile_of level fund.header.horizon (answer_to text n r).F (answer_to text n r).verdict)
 level_says text n r fund is e level l =
     let c = answer_accepted text n r fund is e in

@@ -1,10 +1,9 @@
 -- What is read from a file, and its listing, are those of its first bytes (reading_first, listing_first); so of a header text and two sheets
 -- (sheet_reading_first, sheet_listing_first).
-use Rattle.std.specs.Prelude.{◌≡◌, refl, List, [], ℕ, suc, ◌+◌, ◌≤◌, length, take}
+use Rattle.std.specs.Prelude.{◌≡◌, refl, List, [], ℕ, suc, ◌+◌, ◌≤◌, length, take, Err, Ok}
 use Rattle.std.proofs.Common.{sym, ◌∙◌, ap}
 use native.Mathlib.Omega.{arith}
-use Rattle.fund.specs.declared.Verdict.{Verdict}
-use Rattle.fund.specs.declared.Verdict.TheVariants.{Accepted, Refused}
+use Rattle.fund.specs.Verdict.{Verdict, refused_at}
 use Rattle.fund.specs.Limits.{most_rates, most_members}
 use Rattle.fund.specs.Base.{bytes}
 use Rattle.fund.specs.Reading.{FundFile, Reading, read, stopped, header_lines, file_rows, reading}
@@ -37,8 +36,8 @@ header_enough n header rates members h =
 printed_of : (f g : List ℕ) (n : Lengths) (fund : FundFile) (X : ℕ) (v : Verdict) →
     printed (answer_of f n fund v) X (answer_of f n fund v).verdict ≡ printed (answer_of g n fund v) X (answer_of g n fund v).verdict
 unfolding answer_of refused printed
-printed_of f g n fund X Accepted = refl
-printed_of f g n fund X (Refused why place) = refl
+printed_of f g n fund X (Ok tt) = refl
+printed_of f g n fund X (Err stop) = refl
 
 printed_to : (f g : List ℕ) (n : Lengths) (r : Reading) →
     printed (answer_to f n r) (horizon_in r) (answer_to f n r).verdict ≡ printed (answer_to g n r) (horizon_in r) (answer_to g n r).verdict

@@ -1,15 +1,14 @@
 -- Reading gives the same for the lines of the first n bytes as for all lines, where n is above the bytes of the lines that
 -- reading can pass (header_same); so of a file (file_behind) and of a header text (sheets_behind).
-use Rattle.std.specs.Prelude.{◌≡◌, Bool, true, false, ℕ, suc, ◌+◌, ◌*◌, ◌≤◌, ◌<◌, eqb, leb, ltb, length}
+use Rattle.std.specs.Prelude.{◌≡◌, Bool, true, false, ℕ, suc, ◌+◌, ◌*◌, ◌≤◌, ◌<◌, eqb, leb, ltb, length, None, Option, Some}
 use Rattle.std.proofs.Math.Path.{refl, sym}
 use Rattle.std.proofs.Common.{◌∙◌, arith, ltb-true, leb-true, leb-false, length-append}
 use mathlib.Core.List.{List, [], ◌∷◌, ◌++◌}
-use Rattle.std.proofs.Math.Option.{Option, none, some}
 use Rattle.fund.specs.declared.Fund.{Fund}
 use Rattle.fund.specs.declared.Rate.{Rate}
 use Rattle.fund.specs.declared.Member.{Member}
 use Rattle.fund.specs.declared.Refusal.TheVariants.{Form, Range}
-use Rattle.fund.specs.declared.SheetRow.{SheetRow}
+use Rattle.fund.specs.declared.Row.{Row}
 use Rattle.fund.specs.Limits.{most_rates, most_members}
 use Rattle.fund.specs.Base.{bytes}
 use Rattle.fund.specs.Lines.{Line}
@@ -126,14 +125,14 @@ module _ (after : ℕ → Fund → List Line → Reading) (enough : ℕ) (behind
       (λ u. header_stop h hs k ns l xs keys.0 u ∙ sym (header_stop h hs k ns l ys keys.0 u))
     where
       go : (o : Option (List ℕ)) → spelled h.key (length h.ranges) l ≡ o → ((vs : List ℕ) → read_header after hs (suc k) vs xs ≡ read_header after hs (suc k) vs ys) → read_header after (h ∷ hs) k ns (l ∷ xs) ≡ read_header after (h ∷ hs) k ns (l ∷ ys)
-      go none s ih = rw (s, read_header)
-      go (some v) s ih = rw (s, read_header) (on_pass (in_ranges h.ranges v) (stopped Range k) _ _ (λ _. ih (ns ++ v)))
+      go None s ih = rw (s, read_header)
+      go (Some v) s ih = rw (s, read_header) (on_pass (in_ranges h.ranges v) (stopped Range k) _ _ (λ _. ih (ns ++ v)))
 
 -- ---- what follows the header: the rows of a file, or nothing more of a header text
 pub file_behind : (k : ℕ) (header : Fund) (n : ℕ) (xs ys : List Line) → Cut n xs ys → bytes_for (most_rates + most_members) ≤ n → file_rows k header xs ≡ file_rows k header ys
 file_behind k header n xs ys c room = rows_same k header [] [] c (record { few_rates = omega arith; few_members = omega arith; enough = omega arith })
 
-pub sheets_behind : (rows : List SheetRow) (k : ℕ) (header : Fund) (n : ℕ) (xs ys : List Line) → Cut n xs ys → suc most_line ≤ n → read_sheets rows k header xs ≡ read_sheets rows k header ys
+pub sheets_behind : (rows : List (Option Row)) (k : ℕ) (header : Fund) (n : ℕ) (xs ys : List Line) → Cut n xs ys → suc most_line ≤ n → read_sheets rows k header xs ≡ read_sheets rows k header ys
 unfolding read_sheets
 sheets_behind rows k header n xs ys over room = refl
 sheets_behind rows k header n xs ys (spent e) room = absurd (omega arith)

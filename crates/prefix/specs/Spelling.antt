@@ -1,9 +1,8 @@
 -- A line that is spelled right has at most its key's bytes and eight for each number. So a line is not spelled right where it is
 -- too long (long_line), or where it lacks its line feed (open_line).
-use Rattle.std.specs.Prelude.{◌≡◌, Bool, true, false, ◌&&◌, ℕ, suc, ◌+◌, ◌*◌, ◌≤◌, ◌<◌, eqb, leb, length, if◌then◌else◌}
+use Rattle.std.specs.Prelude.{◌≡◌, Bool, true, false, ◌&&◌, ℕ, suc, ◌+◌, ◌*◌, ◌≤◌, ◌<◌, eqb, leb, length, if◌then◌else◌, None, Option, Some}
 use Rattle.std.proofs.Math.Path.{refl}
 use mathlib.Core.List.{List, [], ◌∷◌, map}
-use Rattle.std.proofs.Math.Option.{Option, none, some}
 use Rattle.std.proofs.Common.{arith, leb-true, eqb-true}
 use Rattle.fund.specs.Base.{total}
 use Rattle.fund.specs.Lines.{Line}
@@ -43,7 +42,7 @@ numbers_width (t ∷ ts) e =
     let h = and-true (is_number t) (all_numbers ts) e in
     omega (arith, is_number_short t h.0, numbers_width ts h.1)
 
-numbers_short : (count : ℕ) (text ns : List ℕ) → numbers count text ≡ some ns → length text < 8 * count
+numbers_short : (count : ℕ) (text ns : List ℕ) → numbers count text ≡ Some ns → length text < 8 * count
 unfolding numbers
 numbers_short count text ns e = go (eqb (length (fields text)) count) refl (all_numbers (fields text)) refl e
   where
@@ -52,40 +51,40 @@ numbers_short count text ns e = go (eqb (length (fields text)) count) refl (all_
         → eqb (length (fields text)) count ≡ b
         → (c : Bool)
         → all_numbers (fields text) ≡ c
-        → (if b && c then some (map value (fields text)) else none) ≡ some ns
+        → (if b && c then Some (map value (fields text)) else None) ≡ Some ns
         → length text < 8 * count
     go true s true h w = omega (arith, eqb-true (length (fields text)) count s, fields_width text, numbers_width (fields text) h)
     go true s false h w = let z : ◌≡◌ {A = ℕ} 0 1 = cc in absurd (omega arith)
     go false s c h w = let z : ◌≡◌ {A = ℕ} 0 1 = cc in absurd (omega arith)
 
-behind_length : (key text rest : List ℕ) → behind key text ≡ some rest → length text ≤ length key + length rest
+behind_length : (key text rest : List ℕ) → behind key text ≡ Some rest → length text ≤ length key + length rest
 unfolding behind
 behind_length [] text rest e = let z : text ≡ rest = cc in rw z (omega arith)
 behind_length (k ∷ key) [] rest e = omega arith
 behind_length (k ∷ key) (b ∷ text) rest e = go (eqb k b) e (behind_length key text rest)
   where
-    go : (t : Bool) → (if t then behind key text else none) ≡ some rest → (behind key text ≡ some rest → length text ≤ length key + length rest) → suc (length text) ≤ suc (length key) + length rest
+    go : (t : Bool) → (if t then behind key text else None) ≡ Some rest → (behind key text ≡ Some rest → length text ≤ length key + length rest) → suc (length text) ≤ suc (length key) + length rest
     go true w ih = omega (arith, ih w)
     go false w ih = let z : ◌≡◌ {A = ℕ} 0 1 = cc in absurd (omega arith)
 
 module _ (key : List ℕ) (count : ℕ) (l : Line) where
-  spelled_open : l.ended ≡ false → spelled key count l ≡ none
+  spelled_open : l.ended ≡ false → spelled key count l ≡ None
   unfolding spelled
   spelled_open e = rw e
 
-  spelled_long : length key + 8 * count ≤ length l.text → spelled key count l ≡ none
+  spelled_long : length key + 8 * count ≤ length l.text → spelled key count l ≡ None
   unfolding spelled
   spelled_long long = go l.ended
     where
-      numbers_long : (text : List ℕ) → behind key l.text ≡ some text → (o : Option (List ℕ)) → numbers count text ≡ o → o ≡ none
-      numbers_long text s none e = refl
-      numbers_long text s (some ns) e = absurd (omega (arith, behind_length key l.text text s, numbers_short count text ns e))
+      numbers_long : (text : List ℕ) → behind key l.text ≡ Some text → (o : Option (List ℕ)) → numbers count text ≡ o → o ≡ None
+      numbers_long text s None e = refl
+      numbers_long text s (Some ns) e = absurd (omega (arith, behind_length key l.text text s, numbers_short count text ns e))
 
-      behind_long : (o : Option (List ℕ)) → behind key l.text ≡ o → ◌≡◌ {A = Option (List ℕ)} (elim o [ none ↦ none | some text ↦ numbers count text ]) none
-      behind_long none s = refl
-      behind_long (some text) s = numbers_long text s (numbers count text) refl
+      behind_long : (o : Option (List ℕ)) → behind key l.text ≡ o → ◌≡◌ {A = Option (List ℕ)} (elim o [ None ↦ None | Some text ↦ numbers count text ]) None
+      behind_long None s = refl
+      behind_long (Some text) s = numbers_long text s (numbers count text) refl
 
-      go : (b : Bool) → ◌≡◌ {A = Option (List ℕ)} (elim b [ true ↦ elim (behind key l.text) [ none ↦ none | some text ↦ numbers count text ] | false ↦ none ]) none
+      go : (b : Bool) → ◌≡◌ {A = Option (List ℕ)} (elim b [ true ↦ elim (behind key l.text) [ None ↦ None | Some text ↦ numbers count text ] | false ↦ None ]) None
       go true = behind_long (behind key l.text) refl
       go false = refl
 
@@ -95,7 +94,7 @@ most_line = 47
 
 -- A line that is spelled right for no key and no count of a fund file.
 abbrev pub Unspelled : Line → Type 0
-Unspelled l = (key : List ℕ) (count : ℕ) → length key + 8 * count ≤ most_line → spelled key count l ≡ none
+Unspelled l = (key : List ℕ) (count : ℕ) → length key + 8 * count ≤ most_line → spelled key count l ≡ None
 
 pub open_line : (l : Line) → l.ended ≡ false → Unspelled l
 open_line l e key count h = spelled_open key count l e

@@ -1,5 +1,6 @@
 -- The definitions give every row of the table of sheets that are cut short (every_cut), by computing both sides. A rate of 1 is taken, the largest (rate_one), and a blank is a NaN and nothing else,
 -- infinity neither (only_nan).
+use Rattle.std.specs.Prelude.{None, Some}
 use mathlib.Core.Path.{◌≡◌, refl}
 use mathlib.Core.Bool.{Bool, true}
 use mathlib.Core.List.{map}
@@ -7,8 +8,6 @@ use Prim.Native.Nat.{ℕ, suc}
 use native.Mathlib.Omega.{arith}
 use lib.Ieee.{Float, nan, inf, fin, binary64, of_bits, of_int, eq, div}
 use Rattle.rounding.specs.Rounding.{near, nearest, up}
-use Rattle.fund.specs.declared.SheetCell.TheVariants.{Blank}
-use Rattle.fund.specs.declared.Taken.TheVariants.{As}
 use Rattle.fund.specs.Base.{bytes, total, sum, sumℤ, table, alternate}
 use Rattle.fund.specs.Lines.{begun, lines_from, lines}
 use Rattle.fund.specs.Spelling.{digits, is_number, value_from, value, in_first, fields, all_numbers, numbers, behind, spelled}
@@ -35,15 +34,15 @@ unfolding near nearest up bytes total sum sumℤ table alternate begun lines_fro
 every_cut = refl
 
 -- the largest number that is asked comes first
-seek_first : (p : ℕ → Bool) (n : ℕ) → p n ≡ true → seek p (suc n) ≡ As n
+seek_first : (p : ℕ → Bool) (n : ℕ) → p n ≡ true → seek p (suc n) ≡ Some n
 unfolding seek or_else
 seek_first p n e = rw e
 
-pub rate_one : rate_of (of_bits binary64 (least_first one)) ≡ As most_rate
+pub rate_one : rate_of (of_bits binary64 (least_first one)) ≡ Some most_rate
 unfolding rate_of quotient least_first eq of_bits div of_int
 rate_one = seek_first (λ (k : ℕ). eq (of_bits binary64 (least_first one)) (quotient k 1000000)) most_rate refl
 
-pub only_nan : (x : Float) → cell_of x ≡ Blank → x ≡ nan
+pub only_nan : (x : Float) → cell_of x ≡ None → x ≡ nan
 unfolding cell_of
 only_nan nan e = refl
 only_nan (inf s) e = let z : ◌≡◌ {A = ℕ} 0 1 = cc e in absurd (omega arith)
