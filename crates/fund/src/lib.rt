@@ -83,7 +83,7 @@ pub struct MemberFloats {
 
 // A row of a sheet, rate rows first.
 #[derive(Clone, Copy, PartialEq, Eq)]
-pub enum Row {
+pub enum SheetRow {
     Rate(Rate),
     Member(Member),
 }
