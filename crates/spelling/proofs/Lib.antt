@@ -1,4 +1,2 @@
 pub mod Texts
 pub mod Digits
-mod Fields
-pub mod Levels

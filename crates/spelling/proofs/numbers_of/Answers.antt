@@ -1,27 +1,32 @@
--- A count above five is refused; what is collected is the answer where it is spelled so.
-use mathlib.Core.Path.{sym, ◌∙◌}
-use mathlib.Core.Bool.{true≢false}
-use Rattle.spelling.proofs.Texts.{few_numbers_lem, many_numbers, no_numbers, none_in}
+use Rattle.std.proofs.Common.{rules, ◌≡◌, ◌+◌, length, drop, ℕ, ◌-◌, ◌*◌, ◌<◌, ◌≤◌, ◌/◌, ◌%◌, Bool, true, false, nat_eq, nat_lt, List, [], ◌∷◌, ◌++◌, slice_index_or, slice_set, bit_and, bit_or, Fits, w8, w32, w64, Bor, MutBor}
+use Rattle.fund.specs.Spelling.{behind}
+use Rattle.spelling.specs.Text.{before, behind_if, value_in, number_in, level_in, NumbersOf}
 use Rattle.spelling.proofs.numbers_of.Goals as goal
 
+-- src/lib.rt:75:9
 pub returns-then-count-gt5 : goal.returns-then-count-gt5
-returns-then-count-gt5 c =
-    let a = c.args in
-    no_numbers a.count a.text.now _ c.no_numbers.ensures (many_numbers a.count a.text.now c.if-count-gt5.true)
+returns-then-count-gt5 c = ?
 
-pub returns-then-collected : goal.returns-then-collected
-returns-then-collected c =
-    let n = c.collect_numbers-collected in
-    let a = c.args in
-    record {
-      numbers_are = n.ensures.0 ∙ sym (few_numbers_lem a.count a.text.now c.if-count-gt5.false);
-      behind = n.ensures.1;
-      blank = λ s. absurd (true≢false (sym c.if-collected.true ∙ s));
-    }
+-- src/lib.rt:78:5
+pub loop-k-init : goal.loop-k-init
+loop-k-init c = ?
 
-pub returns : goal.returns
-returns c =
-    let n = c.collect_numbers-collected in
-    let a = c.args in
-    no_numbers a.count a.text.now _ c.no_numbers-2.ensures
-    (few_numbers_lem a.count a.text.now c.if-count-gt5.false ∙ sym n.ensures.0 ∙ none_in a.count n.result c.if-collected.false)
+-- src/lib.rt:79:31
+pub returns-in_err-next : goal.returns-in_err-next
+returns-in_err-next c = ?
+
+-- src/lib.rt:79:21
+pub returns-in_err-values : goal.returns-in_err-values
+returns-in_err-values c = ?
+
+-- src/lib.rt:78:5
+pub loop-k-preserved : goal.loop-k-preserved
+loop-k-preserved c = ?
+
+-- src/lib.rt:70:1
+pub returns-in-Some : goal.returns-in-Some
+returns-in-Some c = ?
+
+-- src/lib.rt:70:1
+pub returns-in-None : goal.returns-in-None
+returns-in-None c = ?
