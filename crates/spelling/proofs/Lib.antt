@@ -1,2 +1,3 @@
 pub mod Texts
 pub mod Digits
+pub mod Fields

@@ -1,6 +1,5 @@
 -- Laws of a text: the bytes before the first of a kind, place by place, and the text behind a key.
-use Rattle.std.proofs.Common.{◌≡◌, ℕ, ◌+◌, ◌≤◌, ◌<◌, Bool, true, false, ◌&&◌, List, [], ◌∷◌, nat_eq, length, get_or, take, drop, refl, arith, eqb, if◌then◌else◌}
-use Rattle.std.proofs.Math.Option.{some, none}
+use Rattle.std.proofs.Common.{◌≡◌, ℕ, ◌+◌, ◌≤◌, ◌<◌, Bool, true, false, ◌&&◌, List, [], ◌∷◌, None, nat_eq, length, get_or, drop, refl, arith, eqb, if◌then◌else◌}
 use borrow.Author.Tests.{eq-eqb, ne_eqb}
 use native.Mathlib.Numerals.{add-one}
 use lib.ListN.{drop_of_length-le}
@@ -38,7 +37,7 @@ behind_begun [] s = refl
 behind_begun (k ∷ key) [] = refl
 behind_begun (k ∷ key) (b ∷ s) = go (eqb k b) (starts_with nat_eq s key) (behind_begun key s)
   where
-    go : (t u : Bool) → behind key s ≡ behind_if u (length key) s → (if t then behind key s else none) ≡ behind_if (t && u) (suc (length key)) (b ∷ s)
+    go : (t u : Bool) → behind key s ≡ behind_if u (length key) s → (if t then behind key s else None) ≡ behind_if (t && u) (suc (length key)) (b ∷ s)
     go true true ih = ih
     go true false ih = ih
     go false u ih = refl

@@ -1,5 +1,4 @@
 -- `spelling::begins`: a key begins a text just where something stands behind it.
-use Rattle.std.proofs.Common.{arith}
 use Rattle.spelling.proofs.Texts.{behind_begun}
 use Rattle.spelling.proofs.begins.Goals as goal
 
