@@ -27,7 +27,7 @@ pub(crate) fn word(row: &[u8], at: usize) -> u64
     requires { at + 8 ≤ length row.now }
     ensures { result ≡ least_first (take 8 (drop at row.now)) }
 {
-    u64::from_le_bytes([
+    let bytes = [
         row[at],
         row[at + 1],
         row[at + 2],
@@ -36,5 +36,6 @@ pub(crate) fn word(row: &[u8], at: usize) -> u64
         row[at + 5],
         row[at + 6],
         row[at + 7],
-    ])
+    ];
+    u64::from_le_bytes(bytes)
 }

@@ -92,7 +92,8 @@ pub(crate) fn number(least: u64, most: u64, cell: Option<f64>) -> Option<u64>
     requires { (most ≤ 2 ^ 53) × NoNan cell }
     ensures { result ≡ whole_in least most cell }
 {
-    let n = whole_of(cell?, most)?;
+    let x = cell?;
+    let n = whole_of(x, most)?;
     if n < least {
         return None;
     }
