@@ -41,9 +41,11 @@ member_line file (suc k) = first_member file + k
 abbrev pub in_both : FundFile → FundFile → ℕ → MemberLine
 in_both old new k = record { member = k; old_line = member_line old k; new_line = member_line new k }
 
+unfoldable pub member_difference : FundFile → FundFile → Option MemberLine
+member_difference old new = option_map (in_both old new) (first_member_line 1 old.members new.members)
+
 unfoldable pub differences : FundFile → FundFile → Differences
-differences old new =
-    record { header = first_header_line old.header new.header; member = option_map (in_both old new) (first_member_line 1 old.members new.members) }
+differences old new = record { header = first_header_line old.header new.header; member = member_difference old new }
 
 -- The file of rows that were read: a file has no more.
 unfoldable pub file_in : Rows → FundFile

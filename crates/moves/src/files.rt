@@ -1,9 +1,8 @@
 // What differs between two files that were read: the first header line behind the editions' lines, and the first member line.
-ghost use Rattle.std.specs.Prelude.{◌≡◌, ◌+◌, ◌≤◌, length, IsNone, IsTrue, ◌↔◌};
-ghost use Rattle.fund.specs.Limits.{most_members};
-ghost use Rattle.moves.specs.Differences.{first_header_line, first_member_line, differences, file_in, lines_of};
+ghost use Rattle.std.specs.Prelude.{◌≡◌, take};
+ghost use Rattle.moves.specs.Differences.{first_header_line, first_member_line, member_difference, differences, file_in};
 
-use fund::{Fund, Member, Rate};
+use fund::{Fund, Member};
 use rows::Rows;
 
 // A member line in which two files differ, counted from 1 among the member lines, with its line in the old file and in the new one.
@@ -21,6 +20,7 @@ pub struct Differences {
     pub member: Option<MemberLine>,
 }
 
+#[tactic(auto, unfolding(crate::specs::Differences::first_header_line))]
 fn first_header_line(old: Fund, new: Fund) -> Option<u64>
     ensures { result ≡ first_header_line old new }
 {
@@ -52,4 +52,36 @@ fn first_member_line(old: &[Member], new: &[Member]) -> Option<u64>
         return None;
     }
     Some(old.len().min(new.len()) as u64 + 1)
+}
+
+// The first rows of a table, as many as a file has at most.
+fn first<T>(rows: &[T], most: usize) -> &[T]
+    ensures { result.now ≡ take most rows.now }
+{
+    &rows[..rows.len().min(most)]
+}
+
+// The first member line, with its line in both files: it stands behind the header lines and the rate lines.
+fn first_member(old: Rows<'_>, new: Rows<'_>) -> Option<MemberLine>
+    ensures { result ≡ member_difference (file_in old.entry) (file_in new.entry) }
+{
+    let old_members = first(old.members, Fund::MEMBER_ROWS);
+    let new_members = first(new.members, Fund::MEMBER_ROWS);
+    let member = first_member_line(old_members, new_members)?;
+    let before = Fund::HEADER_LINES as u64 + member;
+    Some(MemberLine {
+        member,
+        old_line: before + first(old.rates, Fund::RATE_ROWS).len() as u64,
+        new_line: before + first(new.rates, Fund::RATE_ROWS).len() as u64,
+    })
+}
+
+// What differs between two files that were read.
+pub fn differing(old: Rows<'_>, new: Rows<'_>) -> Differences
+    ensures { result ≡ differences (file_in old.entry) (file_in new.entry) }
+{
+    Differences {
+        header: first_header_line(old.fund, new.fund),
+        member: first_member(old, new),
+    }
 }
