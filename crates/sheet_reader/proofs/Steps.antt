@@ -68,15 +68,15 @@ module _ (fund : Fund) (rs : List Rate) (ms : List Member) where
     rate_not_taken e = ap (rows_from fund rs ms) (next_rate ∙ ap (λ o. option_map RateRow o ∷ rates_left rest members) (sym e)) ∙ not_taken _
 
     module _ (r : Rate) (e : Some r ≡ rate_row_of row) where
-      is : rates_left rates members ≡ Some (RateRow r) ∷ rates_left rest members
+      that : rates_left rates members ≡ Some (RateRow r) ∷ rates_left rest members
       unfolding rate_row_in
-      is = next_rate ∙ ap (λ o. option_map RateRow o ∷ rates_left rest members) (sym e)
+      that = next_rate ∙ ap (λ o. option_map RateRow o ∷ rates_left rest members) (sym e)
 
       pub rate_refused : rate_in_range rs r ≡ false → rows_from fund rs ms (rates_left rates members) ≡ stopped Range (line_place (length rs) (length ms))
-      rate_refused f = ap (rows_from fund rs ms) is ∙ rate_out r _ f
+      rate_refused f = ap (rows_from fund rs ms) that ∙ rate_out r _ f
 
       pub rate_added : rate_in_range rs r ≡ true → rows_from fund rs ms (rates_left rates members) ≡ rows_from fund (rs ++ (r ∷ [])) ms (rates_left rest members)
-      rate_added f = ap (rows_from fund rs ms) is ∙ rate_next r _ f
+      rate_added f = ap (rows_from fund rs ms) that ∙ rate_next r _ f
 
   -- The next row of the members' sheet.
   module _ (members row rest : List ℕ) (cut : members ≡ row ++ rest) (size : length row ≡ min member_width (length members)) (left : 0 < length members) where
@@ -88,12 +88,12 @@ module _ (fund : Fund) (rs : List Rate) (ms : List Member) where
     member_not_taken e = ap (rows_from fund rs ms) (next_member ∙ ap (λ o. option_map MemberRow o ∷ members_left rest) (sym e)) ∙ not_taken _
 
     module _ (m : Member) (e : Some m ≡ member_row_of row) where
-      is : members_left members ≡ Some (MemberRow m) ∷ members_left rest
+      this : members_left members ≡ Some (MemberRow m) ∷ members_left rest
       unfolding member_row_in
-      is = next_member ∙ ap (λ o. option_map MemberRow o ∷ members_left rest) (sym e)
+      this = next_member ∙ ap (λ o. option_map MemberRow o ∷ members_left rest) (sym e)
 
       pub member_refused : member_in_range ms m ≡ false → rows_from fund rs ms (members_left members) ≡ stopped Range (line_place (length rs) (length ms))
-      member_refused f = ap (rows_from fund rs ms) is ∙ member_out m _ f
+      member_refused f = ap (rows_from fund rs ms) this ∙ member_out m _ f
 
       pub member_added : member_in_range ms m ≡ true → rows_from fund rs ms (members_left members) ≡ rows_from fund rs (ms ++ (m ∷ [])) (members_left rest)
-      member_added f = ap (rows_from fund rs ms) is ∙ member_next m _ f
+      member_added f = ap (rows_from fund rs ms) this ∙ member_next m _ f

@@ -1,5 +1,5 @@
 -- The reading of the rows of sheets.
-use Rattle.std.specs.Prelude.{List, ℕ, Option, length}
+use Rattle.std.specs.Prelude.{List, Option, length}
 use Rattle.fund.specs.declared.Fund.{Fund}
 use Rattle.fund.specs.declared.Rate.{Rate}
 use Rattle.fund.specs.declared.Member.{Member}
