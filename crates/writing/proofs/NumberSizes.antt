@@ -1,11 +1,15 @@
--- How long a piece can be: a word has at most 20 digits, a signed one at most 19 and its sign, and a point takes one byte more.
+-- How long a piece can be: a word has at most 20 digits, a signed one at most 19 and its sign, and a point takes one byte more. The line of a refusal has
+-- two numbers.
 use Prim.Native.Nat.{ℕ, suc, ◌+◌, ◌/◌, ◌^◌, ◌≤◌, ◌<◌}
 use native.Mathlib.Omega.{arith}
 use lib.IntN.{ℤ, pos, negsuc}
 use lib.ListN.{length, length-append}
 use mir.Syntax.{w64}
 use mir.Val.{SFits}
-use Rattle.fund.specs.Listing.{decimal, signed_decimal}
+use Rattle.fund.specs.declared.Refusal.{Refusal}
+use Rattle.fund.specs.Base.{bytes}
+use Rattle.fund.specs.Refusals.{number_of}
+use Rattle.fund.specs.Listing.{decimal, signed_decimal, joined, refused_line}
 use Rattle.writing.specs.Pointed.{pointed, signed_pointed}
 use Rattle.writing.proofs.Decimal.{decimal_length}
 use Rattle.writing.proofs.PointedDigits.{padded_length}
@@ -38,3 +42,10 @@ pub signed_pointed_word_12 : (z : ℤ) → SFits w64 z → length (signed_pointe
 unfolding signed_pointed
 signed_pointed_word_12 (pos n) f = omega (arith, pointed_length 12 6 n (omega (arith, f.sfits)) (omega (arith, f.sfits)))
 signed_pointed_word_12 (negsuc n) f = omega (arith, pointed_length 12 6 (suc n) (omega (arith, f.sfits)) (omega (arith, f.sfits)))
+
+number_word : (why : Refusal) → number_of why < 2 ^ 64
+number_word why = grind arith
+
+pub refusal_length : (why : Refusal) (place : ℕ) → place < 2 ^ 64 → length (refused_line why place) ≤ 50
+unfolding refused_line joined bytes
+refusal_length why place h = simp length-append (omega (arith, decimal_word (number_of why) (number_word why), decimal_word place h))

@@ -2,10 +2,11 @@
 #![tactic(auto)]
 
 ghost use Rattle.std.specs.Prelude.{◌≡◌, [], ◌∷◌, ◌++◌, List, ℕ};
-ghost use Rattle.fund.specs.Listing.{decimal, signed_decimal, joined};
+ghost use Rattle.fund.specs.Listing.{decimal, signed_decimal, joined, refused_line};
 ghost use Rattle.writing.specs.Writing.{Puts};
 ghost use Rattle.writing.specs.Pointed.{pointed, signed_pointed};
 
+use fund::Refused;
 use itoa::{Buffer, Integer};
 
 // A text that is written from a place on. A piece for which it is too short is cut at its end.
@@ -81,6 +82,17 @@ impl Printed for i64 {
 
     fn print(self, text: &mut Text<'_>) {
         put_integer(self, text);
+    }
+}
+
+// METHOD 8: the line of a refusal.
+impl Printed for Refused {
+    ghost output = { λ refused. refused_line refused.why refused.place };
+
+    fn print(self, text: &mut Text<'_>) {
+        text.key(b"refused=");
+        text.figure(u64::from(self.why), b',');
+        text.figure(self.place, b'\n');
     }
 }
 
