@@ -69,3 +69,7 @@ written_none text = record { whole = refl; start = refl; beyond = refl }
 
 pub written_as : {piece text after : List ℕ} {size : ℕ} (other : List ℕ) → piece ≡ other → Written other text after size → Written piece text after size
 written_as other e w = rw e w
+
+-- .. and behind a reference that is let go.
+pub written_to : {piece text after : List ℕ} {size : ℕ} (other : List ℕ) → other ≡ after → Written piece text other size → Written piece text after size
+written_to other e w = rw e at w

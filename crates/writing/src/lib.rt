@@ -1,9 +1,9 @@
 // Puts what is printed into a text, one piece behind the other.
 #![tactic(auto)]
 
-ghost use Rattle.std.specs.Prelude.{◌≡◌, [], ◌∷◌, ◌++◌, List, ℕ};
+ghost use Rattle.std.specs.Prelude.{◌≡◌, ◌≤◌, [], ◌∷◌, ◌++◌, List, ℕ, length};
 ghost use Rattle.fund.specs.Listing.{decimal, signed_decimal, joined, refused_line};
-ghost use Rattle.writing.specs.Writing.{Puts};
+ghost use Rattle.writing.specs.Writing.{Puts, Written};
 ghost use Rattle.writing.specs.Pointed.{pointed, signed_pointed};
 
 use fund::Refused;
@@ -22,6 +22,15 @@ pub trait Printed: Copy {
 
     fn print(self, text: &mut Text<'_>)
         ensures { Puts text.old (output self) text.new };
+}
+
+// Writes what is printed of the value from the start of the bytes, and returns its size.
+pub fn write<P: Printed>(value: P, bytes: &mut [u8]) -> usize
+    ensures { length (P.output value) ≤ length bytes.old → Written (P.output value) bytes.old bytes.new result }
+{
+    let mut text = Text { bytes, next: 0 };
+    value.print(&mut text);
+    text.next
 }
 
 impl Text<'_> {
