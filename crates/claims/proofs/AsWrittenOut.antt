@@ -5,9 +5,8 @@ use mathlib.Core.List.{List}
 use Prim.Native.Nat.{ℕ}
 use lib.Dec.{eqb}
 use lib.IntN.{ℤ}
-use Rattle.fund.specs.declared.Verdict.{Verdict}
-use Rattle.fund.specs.declared.Verdict.TheVariants.{Accepted, Refused}
-use Rattle.std.specs.Prelude.{if◌then◌else◌}
+use Rattle.fund.specs.Verdict.{Verdict, refused_at}
+use Rattle.std.specs.Prelude.{if◌then◌else◌, Err, Ok}
 use Rattle.fund.specs.Reading.{FundFile, read, reading}
 use Rattle.fund.specs.Refusals.{Lengths, number_in, place_in}
 use Rattle.fund.specs.Quantile.{quantile_of}
@@ -24,20 +23,20 @@ use Rattle.claims.proofs.DemandsHold.{Answered}
 -- a verdict with another place
 module _ (g : ℕ → ℕ) where
   number_later : (v : Verdict) → number_in v ≡ number_in (later g v)
-  number_later Accepted = refl
-  number_later (Refused why place) = refl
+  number_later (Ok tt) = refl
+  number_later (Err stop) = refl
 
   place_later : (v : Verdict) → place_in (later g v) ≡ (if eqb (number_in v) 5 || eqb (number_in v) 6 then g (place_in v) else place_in v)
-  place_later Accepted = refl
-  place_later (Refused why place) = refl
+  place_later (Ok tt) = refl
+  place_later (Err stop) = refl
 
   horizon_later : (v : Verdict) (X : ℕ) → horizon_with v X ≡ horizon_with (later g v) X
-  horizon_later Accepted X = refl
-  horizon_later (Refused why place) X = refl
+  horizon_later (Ok tt) X = refl
+  horizon_later (Err stop) X = refl
 
   quantile_later : (level X : ℕ) (F : List ℤ) (v : Verdict) → quantile_of level X F v ≡ quantile_of level X F (later g v)
-  quantile_later level X F Accepted = refl
-  quantile_later level X F (Refused why place) = refl
+  quantile_later level X F (Ok tt) = refl
+  quantile_later level X F (Err stop) = refl
 
 same_horizon : (fund : FundFile) → horizon_in (read fund) ≡ horizon_in (read (out_file fund))
 unfolding horizon_in

@@ -7,12 +7,10 @@ use borrow.Author.Tests.{le-leb, lt-leb}
 use lib.Dec.{leb}
 use lib.IntN.{ℤ}
 use lib.ListN.{length, get_or, drop}
-use Rattle.fund.specs.declared.Verdict.{Verdict}
-use Rattle.std.specs.Prelude.{if◌then◌else◌}
+use Rattle.fund.specs.Verdict.{Verdict, refused_at}
+use Rattle.std.specs.Prelude.{if◌then◌else◌, None, Option, Some}
 use Rattle.fund.specs.Reading.{FundFile, Reading, read, reading}
 use Rattle.fund.specs.Refusals.{Lengths, number_in, place_in}
-use Rattle.fund.specs.declared.Quantile.{Quantile}
-use Rattle.fund.specs.declared.Quantile.TheVariants.{At, None}
 use Rattle.fund.specs.Quantile.{quantile_of, reached_in, quantile_in}
 use Rattle.fund.specs.Answer.{Answer, answer_to}
 use Rattle.fund.specs.Listing.{horizon_in, enough, listing_to}
@@ -72,8 +70,8 @@ module _ (text : List ℕ) (r : Reading) (level : ℕ) (n : Lengths) (p : Priced
   price_demands = demands text r level n (priced text p d h f b s) price_answered
 
 -- the two fields tell the answer
-read_back : (q : Quantile) → quantile_read (reached_in q) (quantile_in q) ≡ q
-read_back (At x) = refl
+read_back : (q : Option ℕ) → quantile_read (reached_in q) (quantile_in q) ≡ q
+read_back (Some x) = refl
 read_back None = refl
 
 module _ (text : List ℕ) (r : Reading) (level : ℕ) (n : Lengths) (result : List ℕ) (d : List ℤ) (h : List ℕ) (f : List ℤ) (b : List ℕ) (s : List ℤ) (k : Hosts text r level n result d h f b s) where
@@ -100,7 +98,7 @@ module _ (text : List ℕ) (r : Reading) (level : ℕ) (n : Lengths) (result : L
       }
 
   -- the two fields of the answer at the level, and the others
-  told : (q : Quantile) → (get_or result 10 0 ≡ reached_in q) × (get_or result 11 0 ≡ quantile_in q) → (x : ℕ) → q ≡ At x → (get_or result 10 0 ≡ 1) × (get_or result 11 0 ≡ x)
+  told : (q : Option ℕ) → (get_or result 10 0 ≡ reached_in q) × (get_or result 11 0 ≡ quantile_in q) → (x : ℕ) → q ≡ Some x → (get_or result 10 0 ≡ 1) × (get_or result 11 0 ≡ x)
   told q e x z = (e.0 ∙ ap reached_in z, e.1 ∙ ap quantile_in z)
 
   pub host_struct : ResultStruct text result (hosted text result d h f b s)

@@ -1,5 +1,6 @@
 -- What a host has of two funds after a comparison, in plain words (plainly): from the demands on both, that the comparison is the definition's, and the theorem on the exact move. So
 -- of the comparison call (compares_plainly), of the call for C (hosts_plainly), and of the listing (prints_move).
+use Rattle.std.specs.Prelude.{Err, Ok}
 use mathlib.Core.Path.{◌≡◌, refl, sym, ◌∙◌, ap, ap₂}
 use mathlib.Core.List.{List}
 use Prim.Native.Nat.{ℕ, ◌+◌, ◌<◌}
@@ -7,8 +8,7 @@ use native.Mathlib.Omega.{arith}
 use lib.IntN.{ℤ, pos, ◌+ℤ◌, ◌-ℤ◌}
 use lib.ListN.{length, get_or}
 use Rattle.fund.specs.declared.Figures.{Figures}
-use Rattle.fund.specs.declared.Verdict.{Verdict}
-use Rattle.fund.specs.declared.Verdict.TheVariants.{Accepted, Refused}
+use Rattle.fund.specs.Verdict.{Verdict, refused_at}
 use Rattle.fund.specs.Reading.{FundFile, Reading, read, stopped, reading}
 use Rattle.fund.specs.Refusals.{Lengths, number_in}
 use Rattle.fund.specs.Answer.{Answer, answer}
@@ -35,15 +35,15 @@ use Rattle.claims.proofs.Calls.{price_demands, host_demands, shows}
 module _ (a b : Answer) where
   no_move : (v w : Verdict) → a.verdict ≡ v → b.verdict ≡ w → 0 < number_in v + number_in w → (x y : Reading) → compared x a y b ≡ Unpriced
   unfolding compared
-  no_move Accepted Accepted e g l x y = absurd (omega arith)
-  no_move Accepted (Refused why place) e g l (read fund) (read other) = ap₂ (λ v w. if_accepted v (if_accepted w (Moved (move_of fund.header a.figures other.header b.figures) (differences fund other)))) e g
-  no_move (Refused why place) w e g l (read fund) (read other) = ap (λ v. if_accepted v (if_accepted b.verdict (Moved (move_of fund.header a.figures other.header b.figures) (differences fund other)))) e
-  no_move Accepted (Refused why place) e g l (read fund) (stopped t u) = refl
-  no_move Accepted (Refused why place) e g l (stopped t u) y = refl
-  no_move (Refused why place) w e g l (read fund) (stopped t u) = refl
-  no_move (Refused why place) w e g l (stopped t u) y = refl
+  no_move (Ok tt) (Ok tt) e g l x y = absurd (omega arith)
+  no_move (Ok tt) (Err stop) e g l (read fund) (read other) = ap₂ (λ v w. if_accepted v (if_accepted w (Moved (move_of fund.header a.figures other.header b.figures) (differences fund other)))) e g
+  no_move (Err stop) w e g l (read fund) (read other) = ap (λ v. if_accepted v (if_accepted b.verdict (Moved (move_of fund.header a.figures other.header b.figures) (differences fund other)))) e
+  no_move (Ok tt) (Err stop) e g l (read fund) (stopped t u) = refl
+  no_move (Ok tt) (Err stop) e g l (stopped t u) y = refl
+  no_move (Err stop) w e g l (read fund) (stopped t u) = refl
+  no_move (Err stop) w e g l (stopped t u) y = refl
 
-  the_move : (fund other : FundFile) → a.verdict ≡ Accepted → b.verdict ≡ Accepted → compared (read fund) a (read other) b ≡ Moved (move_of fund.header a.figures other.header b.figures) (differences fund other)
+  the_move : (fund other : FundFile) → a.verdict ≡ Ok tt → b.verdict ≡ Ok tt → compared (read fund) a (read other) b ≡ Moved (move_of fund.header a.figures other.header b.figures) (differences fund other)
   unfolding compared
   the_move fund other e g = ap₂ (λ v w. if_accepted v (if_accepted w (Moved (move_of fund.header a.figures other.header b.figures) (differences fund other)))) e g
 
@@ -71,7 +71,7 @@ module _ (old new : List ℕ) (level : ℕ) (n m : Lengths) (o p : Received) (c 
     (is : c ≡ compared (reading old) (answer old n) (reading new) (answer new m))
     (exact : (f g : FundFile) → reading old ≡ read f → reading new ≡ read g → (v : Move) (d : Differences) → compared (reading old) (answer old n) (reading new) (answer new m) ≡ Moved v d → ExactMove f g v)
     (rates : (f g : FundFile) → reading old ≡ read f → reading new ≡ read g → (v : Move) (d : Differences) → compared (reading old) (answer old n) (reading new) (answer new m) ≡ Moved v d → d.header ≡ 0 → d.member ≡ 0 → RatesAlone f g v) where
-  tells : (answer old n).verdict ≡ Accepted → (answer new m).verdict ≡ Accepted → TellsMove old new o p c
+  tells : (answer old n).verdict ≡ Ok tt → (answer new m).verdict ≡ Ok tt → TellsMove old new o p c
   tells e g =
       let x = accepted_read old n (reading old) e in
       let y = accepted_read new m (reading new) g in
@@ -150,7 +150,7 @@ module _ (old new : List ℕ) (level : ℕ) (n m : Lengths) (a b : Handed) (comp
   abbrev is : Comparison
   is = compared (reading old) (answer old n) (reading new) (answer new m)
 
-  moved_is : (answer old n).verdict ≡ Accepted → (answer new m).verdict ≡ Accepted → get_or comparison 0 0 ≡ 1
+  moved_is : (answer old n).verdict ≡ Ok tt → (answer new m).verdict ≡ Ok tt → get_or comparison 0 0 ≡ 1
   moved_is e g =
       let x = accepted_read old n (reading old) e in
       let y = accepted_read new m (reading new) g in

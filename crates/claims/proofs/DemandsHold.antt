@@ -1,15 +1,13 @@
 -- From an outcome that is the definitions' answer, with the distance of an accepted fund and what its gross premium covers, to the three demands and to what the answer at
 -- the level says (demands). Only what acceptance and a refusal say of the definitions' answer is used.
+use Rattle.std.specs.Prelude.{Err, None, Ok, Option, Some}
 use mathlib.Core.Path.{◌≡◌, refl, sym, ◌∙◌, ap, subst}
 use mathlib.Core.List.{List}
 use Prim.Native.Nat.{ℕ, ◌<◌, ◌≤◌}
 use native.Mathlib.Numerals.{add-one}
 use native.Mathlib.Omega.{arith}
-use Rattle.fund.specs.declared.Quantile.{Quantile}
-use Rattle.fund.specs.declared.Quantile.TheVariants.{At, None}
 use Rattle.fund.specs.declared.Refusal.{Refusal}
-use Rattle.fund.specs.declared.Verdict.{Verdict}
-use Rattle.fund.specs.declared.Verdict.TheVariants.{Accepted, Refused}
+use Rattle.fund.specs.Verdict.{Verdict, refused_at}
 use Rattle.fund.specs.Limits.{most_level}
 use Rattle.fund.specs.Transform.{unit}
 use Rattle.fund.specs.Reading.{FundFile, Reading, read, stopped}
@@ -33,15 +31,15 @@ use Rattle.claims.specs.Demands.{Received, Refuses, Zero, Method, Close, ExactSa
 record RefusedAs (text : List ℕ) (r : Reading) (n : Lengths) : Type 0 where
   why : Refusal
   place : ℕ
-  is : answer_to text n r ≡ refused text n (Refused why place)
+  is : answer_to text n r ≡ refused text n (refused_at why place)
 
 refused_as : (text : List ℕ) (r : Reading) (n : Lengths) → 0 < number_in (answer_to text n r).verdict → RefusedAs text r n
 unfolding answer_to answer_of accepted
 refused_as text (read fund) n l = after (verdict fund n (fund_cells fund.header (lives fund))) refl l
   where
     after : (v : Verdict) → verdict fund n (fund_cells fund.header (lives fund)) ≡ v → 0 < number_in (answer_of text n fund v).verdict → RefusedAs text (read fund) n
-    after Accepted e h = absurd (omega (arith, h))
-    after (Refused why place) e h = record { why = why; place = place; is = ap (answer_of text n fund) e }
+    after (Ok tt) e h = absurd (omega (arith, h))
+    after (Err stop) e h = record { why = stop.why; place = stop.place; is = ap (answer_of text n fund) e }
 refused_as text (stopped why place) n l = record { why = why; place = place; is = refl }
 
 -- ---- the demands
@@ -51,10 +49,10 @@ pub record Answered (text : List ℕ) (r : Reading) (level : ℕ) (n : Lengths) 
   pub horizon : o.horizon ≡ horizon_with (answer_to text n r).verdict (horizon_in r)
   pub method : Method text r n o
   pub quantile : o.quantile ≡ quantile_of level o.horizon o.F (answer_to text n r).verdict
-  pub distance : (fund : FundFile) → r ≡ read fund → (answer_to text n r).verdict ≡ Accepted → WithinBounds fund (answer_to text n r)
-  pub level_within : (fund : FundFile) → r ≡ read fund → (answer_to text n r).verdict ≡ Accepted → level ≤ most_level → QuantileWithin fund (answer_to text n r) level o.quantile
-  pub never_below : (fund : FundFile) → r ≡ read fund → (answer_to text n r).verdict ≡ Accepted → NeverBelow fund (answer_to text n r)
-  pub average : (fund : FundFile) → r ≡ read fund → (answer_to text n r).verdict ≡ Accepted → AverageExcess fund
+  pub distance : (fund : FundFile) → r ≡ read fund → (answer_to text n r).verdict ≡ Ok tt → WithinBounds fund (answer_to text n r)
+  pub level_within : (fund : FundFile) → r ≡ read fund → (answer_to text n r).verdict ≡ Ok tt → level ≤ most_level → QuantileWithin fund (answer_to text n r) level o.quantile
+  pub never_below : (fund : FundFile) → r ≡ read fund → (answer_to text n r).verdict ≡ Ok tt → NeverBelow fund (answer_to text n r)
+  pub average : (fund : FundFile) → r ≡ read fund → (answer_to text n r).verdict ≡ Ok tt → AverageExcess fund
 
 module _ (text : List ℕ) (r : Reading) (level : ℕ) (n : Lengths) (o : Received) (k : Answered text r level n o) where
   zero_of : RefusedAs text r n → Zero n o
@@ -73,7 +71,7 @@ module _ (text : List ℕ) (r : Reading) (level : ℕ) (n : Lengths) (o : Receiv
         F = m.F ∙ ap (λ (a : Answer). a.F) e;
       }
 
-  close_of : (answer_to text n r).verdict ≡ Accepted → Close r o
+  close_of : (answer_to text n r).verdict ≡ Ok tt → Close r o
   unfolding apart unit horizon_in exact_sum bound_at distribution_bound exact_loaded_worth
   close_of v =
       let a = accepted_read text n r v in
@@ -93,9 +91,9 @@ module _ (text : List ℕ) (r : Reading) (level : ℕ) (n : Lengths) (o : Receiv
       }
 
   -- what is said of the definitions' answer is said of the outcome
-  exact_says : (fund : FundFile) → o.horizon ≡ fund.header.horizon → (q : Quantile) → QuantileWithin fund (answer_to text n r) level q → ExactSays fund level o q
+  exact_says : (fund : FundFile) → o.horizon ≡ fund.header.horizon → (q : Option ℕ) → QuantileWithin fund (answer_to text n r) level q → ExactSays fund level o q
   unfolding unit exact_sum bound_at distribution_bound
-  exact_says fund X (At x) w =
+  exact_says fund X (Some x) w =
       let m = k.method in
       record {
         reached = rw (add-one x, m.R, m.figures) w.reached;
@@ -103,7 +101,7 @@ module _ (text : List ℕ) (r : Reading) (level : ℕ) (n : Lengths) (o : Receiv
       }
   exact_says fund X None w = λ y l. let m = k.method in rw (add-one y, m.R, m.figures) (w y (omega (arith, l, X)))
 
-  quantiles_of : (answer_to text n r).verdict ≡ Accepted → Quantiles r level o
+  quantiles_of : (answer_to text n r).verdict ≡ Ok tt → Quantiles r level o
   unfolding horizon_in
   quantiles_of v =
       let a = accepted_read text n r v in

@@ -1,7 +1,5 @@
 -- What the public calls leave, as an outcome.
-use Rattle.std.specs.Prelude.{◌≡◌, ◌&&◌, List, [], ℕ, zero, suc, ◌+◌, ◌-◌, ◌≤◌, leb, ℤ, length, get_or, take, drop, if◌then◌else◌}
-use Rattle.fund.specs.declared.Quantile.{Quantile}
-use Rattle.fund.specs.declared.Quantile.TheVariants.{At, None}
+use Rattle.std.specs.Prelude.{◌≡◌, ◌&&◌, List, [], ℕ, zero, suc, ◌+◌, ◌-◌, ◌≤◌, leb, ℤ, length, get_or, take, drop, if◌then◌else◌, None, Option, Some}
 use Rattle.fund.specs.Refusals.{number_in, place_in}
 use Rattle.pricing.specs.declared.Priced.{Priced}
 use Rattle.miguepo.specs.Bits.{read_signed}
@@ -28,16 +26,16 @@ priced text p d h f r s =
     }
 
 -- The answer at a level, from the two fields that tell it.
-abbrev pub quantile_read : ℕ → ℕ → Quantile
+abbrev pub quantile_read : ℕ → ℕ → Option ℕ
 quantile_read zero x = None
-quantile_read (suc reached) x = At x
+quantile_read (suc reached) x = Some x
 
 -- The struct in C: it has twelve fields, and each is written. The line lies in the text. `reached` is 1 where there is an answer at the level, and `quantile` is its place; where
 -- there is none, both are 0.
 pub record ResultStruct (text result : List ℕ) (o : Received) : Type 0 where
   pub fields : length result ≡ 12
   pub inside : get_or result 2 0 + get_or result 3 0 ≤ length text
-  pub reached : (x : ℕ) → o.quantile ≡ At x → (get_or result 10 0 ≡ 1) × (get_or result 11 0 ≡ x)
+  pub reached : (x : ℕ) → o.quantile ≡ Some x → (get_or result 10 0 ≡ 1) × (get_or result 11 0 ≡ x)
   pub none : o.quantile ≡ None → (get_or result 10 0 ≡ 0) × (get_or result 11 0 ≡ 0)
 
 -- The fields of a host's struct in C, in their order, each read as its type there.

@@ -1,9 +1,7 @@
 -- The three demands on a call that prices a fund, in plain words: for any bytes, any level and any five slices that are lent to it.
 -- And what its answer at the level says.
-use Rattle.std.specs.Prelude.{◌≡◌, List, ℕ, ◌+◌, ◌*◌, ◌^◌, ◌<◌, ◌≤◌, ℤ, pos, nat_abs, ◌+ℤ◌, ◌*ℤ◌, ◌-ℤ◌, ◌≤ℤ◌, ◌<ℤ◌, get_or, take, drop, replicate}
+use Rattle.std.specs.Prelude.{◌≡◌, List, ℕ, ◌+◌, ◌*◌, ◌^◌, ◌<◌, ◌≤◌, ℤ, pos, nat_abs, ◌+ℤ◌, ◌*ℤ◌, ◌-ℤ◌, ◌≤ℤ◌, ◌<ℤ◌, get_or, take, drop, replicate, None, Option, Some}
 use Rattle.fund.specs.declared.Figures.{Figures}
-use Rattle.fund.specs.declared.Quantile.{Quantile}
-use Rattle.fund.specs.declared.Quantile.TheVariants.{At, None}
 use Rattle.fund.specs.Base.{sum, sumℤ}
 use Rattle.fund.specs.Reading.{FundFile, Reading, read}
 use Rattle.fund.specs.Folding.{lives}
@@ -22,7 +20,7 @@ pub record Received : Type 0 where
   pub line : List ℕ
   pub horizon : ℕ
   pub figures : Figures
-  pub quantile : Quantile
+  pub quantile : Option ℕ
   pub D : List ℤ
   pub H : List ℕ
   pub f : List ℤ
@@ -94,8 +92,8 @@ pub record ReachesLevel (fund : FundFile) (level : ℕ) (o : Received) (x : ℕ)
   pub reached : pos (file_denominator fund * level) ≤ℤ (exact_distribution fund x +ℤ pos (sum_bound fund o x))
   pub before : (y : ℕ) → y < x → BelowLevel fund level o y
 
-abbrev pub ExactSays : FundFile → ℕ → Received → Quantile → Type 0
-ExactSays fund level o (At x) = ReachesLevel fund level o x
+abbrev pub ExactSays : FundFile → ℕ → Received → Option ℕ → Type 0
+ExactSays fund level o (Some x) = ReachesLevel fund level o x
 ExactSays fund level o None = (y : ℕ) → y ≤ o.horizon → BelowLevel fund level o y
 
 -- The deductible at a level, of a fund that is accepted. F(x) is f(0) + .. + f(x) of the f that the host has. Up to a level of 10^12 the

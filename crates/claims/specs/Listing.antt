@@ -1,6 +1,5 @@
 -- What a text holds after a file's listing, or the line of its answer at a level, was printed into it, and how near it is to the exact figures.
-use Rattle.std.specs.Prelude.{◌≡◌, Bool, true, false, List, ℕ, ◌^◌, ◌<◌, ◌≤◌, length, take, drop, get_or}
-use Rattle.fund.specs.declared.Verdict.TheVariants.{Accepted}
+use Rattle.std.specs.Prelude.{◌≡◌, Bool, true, false, List, ℕ, ◌^◌, ◌<◌, ◌≤◌, length, take, drop, get_or, Ok}
 use Rattle.fund.specs.Reading.{FundFile, Reading, read, reading}
 use Rattle.fund.specs.Quantile.{quantile_of}
 use Rattle.fund.specs.Answer.{answer_to}
@@ -31,13 +30,13 @@ pub record Shows (least : ℕ) (shown before after : List ℕ) (size : ℕ) : Ty
 -- exact premium's loaded worth.
 pub record PrintsTo (text : List ℕ) (r : Reading) (before after : List ℕ) (size : ℕ) : Type 0 where
   pub shows : Shows room (listing_to text r) before after size
-  pub within : (fund : FundFile) → r ≡ read fund → (answer_to text enough r).verdict ≡ Accepted → WithinBounds fund (answer_to text enough r)
-  pub covers : (fund : FundFile) → r ≡ read fund → (answer_to text enough r).verdict ≡ Accepted → NeverBelow fund (answer_to text enough r)
+  pub within : (fund : FundFile) → r ≡ read fund → (answer_to text enough r).verdict ≡ Ok tt → WithinBounds fund (answer_to text enough r)
+  pub covers : (fund : FundFile) → r ≡ read fund → (answer_to text enough r).verdict ≡ Ok tt → NeverBelow fund (answer_to text enough r)
 
 -- The line of the answer at a level, in a text of at least 64 bytes; and what the answer of an accepted fund says of the exact distribution function.
 pub record PrintsLevelTo (level : ℕ) (text : List ℕ) (r : Reading) (before after : List ℕ) (size : ℕ) : Type 0 where
   pub shows : Shows 64 (level_line_to text r level) before after size
-  pub within : (fund : FundFile) → r ≡ read fund → (answer_to text enough r).verdict ≡ Accepted → level ≤ 10 ^ 12 →
+  pub within : (fund : FundFile) → r ≡ read fund → (answer_to text enough r).verdict ≡ Ok tt → level ≤ 10 ^ 12 →
       QuantileWithin fund (answer_to text enough r) level (quantile_of level (horizon_in r) (answer_to text enough r).F (answer_to text enough r).verdict)
 
 -- What is asked: the listing, or the line of the answer at a level.

@@ -1,4 +1,5 @@
 -- From two pricings to the contract of a comparison (compares): what is told of the files as they are read is the definition's, and the exact move is where it says.
+use Rattle.std.specs.Prelude.{Err, Ok}
 use mathlib.Core.Path.{◌≡◌, refl, sym, ◌∙◌, ap, ap₂, subst}
 use mathlib.Core.List.{List}
 use Prim.Native.Nat.{ℕ}
@@ -9,8 +10,7 @@ use lib.Seq.{take_at}
 use lib.Signed.{◌≤ℤ◌}
 use Rattle.fund.specs.declared.Figures.{Figures}
 use Rattle.fund.specs.declared.Refusal.{Refusal}
-use Rattle.fund.specs.declared.Verdict.{Verdict}
-use Rattle.fund.specs.declared.Verdict.TheVariants.{Accepted, Refused}
+use Rattle.fund.specs.Verdict.{Verdict, refused_at}
 use Rattle.fund.specs.Reading.{FundFile, Reading, read, stopped, reading}
 use Rattle.fund.specs.Folding.{lives}
 use Rattle.fund.specs.Refusals.{Lengths}
@@ -56,11 +56,11 @@ told_is old a new b h k =
     (ap₂ (λ f g. Moved (move_of old.header a new.header b) (differences f g)) (file_in_lem old) (file_in_lem new))
 
 -- ---- an accepted fund
-module _ (text : List ℕ) (level : ℕ) (n : Lengths) (p : Priced) (a : Answer) (k : Prices text (reading text) level n p a) (v : a.verdict ≡ Accepted) where
+module _ (text : List ℕ) (level : ℕ) (n : Lengths) (p : Priced) (a : Answer) (k : Prices text (reading text) level n p a) (v : a.verdict ≡ Ok tt) where
   same : answer_to text n (reading text) ≡ a
   same = sym k.answers.answer
 
-  accepts : (answer_to text n (reading text)).verdict ≡ Accepted
+  accepts : (answer_to text n (reading text)).verdict ≡ Ok tt
   accepts = ap (λ (x : Answer). x.verdict) same ∙ v
 
   pub is_read : Read (reading text)
@@ -93,19 +93,19 @@ module _ (old new : List ℕ) (level : ℕ) (n m : Lengths) (p q : Priced) (a b 
   told = told_of (file_read (reading old)) a.figures (file_read (reading new)) b.figures
 
   -- a refused fund, of which nothing is told
-  old_refused : (why : Refusal) (place : ℕ) → a.verdict ≡ Refused why place → (r s : Reading) → compared r a s b ≡ Unpriced
+  old_refused : (why : Refusal) (place : ℕ) → a.verdict ≡ refused_at why place → (r s : Reading) → compared r a s b ≡ Unpriced
   unfolding compared
   old_refused why place e (read f) (read g) = ap (λ v. if_accepted v (if_accepted b.verdict (Moved (move_of f.header a.figures g.header b.figures) (differences f g)))) e
   old_refused why place e (read f) (stopped w x) = refl
   old_refused why place e (stopped w x) s = refl
 
-  new_refused : (why : Refusal) (place : ℕ) → a.verdict ≡ Accepted → b.verdict ≡ Refused why place → (r s : Reading) → compared r a s b ≡ Unpriced
+  new_refused : (why : Refusal) (place : ℕ) → a.verdict ≡ Ok tt → b.verdict ≡ refused_at why place → (r s : Reading) → compared r a s b ≡ Unpriced
   unfolding compared
   new_refused why place e h (read f) (read g) = ap₂ (λ v w. if_accepted v (if_accepted w (Moved (move_of f.header a.figures g.header b.figures) (differences f g)))) e h
   new_refused why place e h (read f) (stopped w x) = refl
   new_refused why place e h (stopped w x) s = refl
 
-  both_accepted : a.verdict ≡ Accepted → b.verdict ≡ Accepted → told ≡ compared (reading old) a (reading new) b
+  both_accepted : a.verdict ≡ Ok tt → b.verdict ≡ Ok tt → told ≡ compared (reading old) a (reading new) b
   unfolding compared
   both_accepted e h =
       let f = is_read old level n p a k e in
@@ -119,14 +119,14 @@ module _ (old new : List ℕ) (level : ℕ) (n m : Lengths) (p q : Priced) (a b 
   told_as_defined = go a.verdict b.verdict refl refl
     where
       go : (v w : Verdict) → a.verdict ≡ v → b.verdict ≡ w → if_accepted v (if_accepted w told) ≡ compared (reading old) a (reading new) b
-      go Accepted Accepted e h = both_accepted e h
-      go Accepted (Refused why place) e h = sym (new_refused why place e h (reading old) (reading new))
-      go (Refused why place) w e h = sym (old_refused why place e (reading old) (reading new))
+      go (Ok tt) (Ok tt) e h = both_accepted e h
+      go (Ok tt) (Err stop) e h = sym (new_refused stop.why stop.place e h (reading old) (reading new))
+      go (Err stop) w e h = sym (old_refused stop.why stop.place e (reading old) (reading new))
 
   -- a move was told: both funds are accepted, and it is theirs
   record Told (f g : FundFile) (v : Move) (d : Differences) : Type 0 where
-    old_accepted : a.verdict ≡ Accepted
-    new_accepted : b.verdict ≡ Accepted
+    old_accepted : a.verdict ≡ Ok tt
+    new_accepted : b.verdict ≡ Ok tt
     move_is : move_of f.header a.figures g.header b.figures ≡ v
     differences_are : differences f g ≡ d
 
@@ -135,9 +135,9 @@ module _ (old new : List ℕ) (level : ℕ) (n m : Lengths) (p q : Priced) (a b 
   told_of_lem f g v d = go a.verdict b.verdict refl refl
     where
       go : (x y : Verdict) → a.verdict ≡ x → b.verdict ≡ y → if_accepted x (if_accepted y (Moved (move_of f.header a.figures g.header b.figures) (differences f g))) ≡ Moved v d → Told f g v d
-      go Accepted Accepted e h t = record { old_accepted = e; new_accepted = h; move_is = cc t; differences_are = cc t }
-      go Accepted (Refused why place) e h t = let z : ◌≡◌ {A = ℕ} 0 1 = cc t in absurd (omega arith)
-      go (Refused why place) y e h t = let z : ◌≡◌ {A = ℕ} 0 1 = cc t in absurd (omega arith)
+      go (Ok tt) (Ok tt) e h t = record { old_accepted = e; new_accepted = h; move_is = cc t; differences_are = cc t }
+      go (Ok tt) (Err stop) e h t = let z : ◌≡◌ {A = ℕ} 0 1 = cc t in absurd (omega arith)
+      go (Err stop) y e h t = let z : ◌≡◌ {A = ℕ} 0 1 = cc t in absurd (omega arith)
 
   module _ (c : Comparison) (is : c ≡ if_accepted a.verdict (if_accepted b.verdict told)) (f g : FundFile) (r : reading old ≡ read f) (s : reading new ≡ read g) (v : Move) (d : Differences) (h : c ≡ Moved v d) where
     found : Told f g v d

@@ -1,5 +1,6 @@
 -- The figures of an accepted fund are within the limits of those that are compared (figures_small): the mean is at most 65,535 times the load, and the sums over
 -- the cells below the deductible are at most 4,096 times the sum of |f| and of the bounds.
+use Rattle.std.specs.Prelude.{Err, Ok}
 use mathlib.Core.Path.{◌≡◌, refl, sym, ◌∙◌, subst}
 use mathlib.Core.List.{List, [], ◌∷◌}
 use Prim.Native.Nat.{ℕ, zero, suc, ◌+◌, ◌*◌, ◌^◌, ◌≤◌}
@@ -7,8 +8,7 @@ use native.Mathlib.Nat as N
 use native.Mathlib.Omega.{arith}
 use lib.IntN.{ℤ, pos, negsuc, nat_abs, ◌+ℤ◌, ◌-ℤ◌, ◌*ℤ◌}
 use Rattle.rounding.proofs.Laws.{up_least}
-use Rattle.fund.specs.declared.Verdict.{Verdict}
-use Rattle.fund.specs.declared.Verdict.TheVariants.{Accepted, Refused}
+use Rattle.fund.specs.Verdict.{Verdict, refused_at}
 use Rattle.fund.specs.Base.{total}
 use Rattle.fund.specs.Limits.{most_deductible, most_bound, most_worth, fourth_loading}
 use Rattle.fund.specs.Reading.{FundFile}
@@ -63,17 +63,17 @@ unfolding with_bound
 with_bound_size p w = N.le_trans (not_negative_size (p +ℤ pos w)) (nat_abs_add p (pos w))
 
 -- ---- an accepted fund
-then_accepted : (u v : Verdict) → then_verdict u v ≡ Accepted → u ≡ Accepted
-then_accepted Accepted v e = refl
-then_accepted (Refused why place) v e = e
+then_accepted : (u v : Verdict) → then_verdict u v ≡ Ok tt → u ≡ Ok tt
+then_accepted (Ok tt) v e = refl
+then_accepted (Err stop) v e = e
 
-module _ (fund : FundFile) (n : Lengths) (ok : FundOk fund) (v : verdict fund n (fund_cells fund.header (lives fund)) ≡ Accepted) where
+module _ (fund : FundFile) (n : Lengths) (ok : FundOk fund) (v : verdict fund n (fund_cells fund.header (lives fund)) ≡ Ok tt) where
   abbrev a : Accepts fund n (fund_cells fund.header (lives fund))
   a = accepts fund n (fund_cells fund.header (lives fund)) v
 
   in_range : All InRange (lives fund)
   unfolding lives verdict
-  in_range = (members_of_lem (points fund) (points_in fund ok (then_accepted (matched fund Accepted) _ (sym (matched_first fund _) ∙ v)))).in_range
+  in_range = (members_of_lem (points fund) (points_in fund ok (then_accepted (matched fund (Ok tt)) _ (sym (matched_first fund _) ∙ v)))).in_range
 
   mean_small : fund_mean fund.header (lives fund) ≤ 65535 * 8000000000000
   unfolding fund_mean mean

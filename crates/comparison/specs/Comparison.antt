@@ -1,7 +1,6 @@
 -- The comparison of two fund files: both answers, and where both funds are accepted, the premium's move and what differs beside editions and rate lines.
-use Rattle.std.specs.Prelude.{◌≡◌, List, ℕ}
-use Rattle.fund.specs.declared.Verdict.{Verdict}
-use Rattle.fund.specs.declared.Verdict.TheVariants.{Accepted, Refused}
+use Rattle.std.specs.Prelude.{◌≡◌, List, ℕ, Err, Ok}
+use Rattle.fund.specs.Verdict.{Verdict, refused_at}
 use Rattle.fund.specs.Reading.{FundFile, Reading, read, stopped, reading}
 use Rattle.fund.specs.Refusals.{Lengths}
 use Rattle.fund.specs.Answer.{Answer}
@@ -17,8 +16,8 @@ use Rattle.comparison.specs.Exact.{ExactMove, RatesAlone}
 
 -- What is said of a fund that is accepted; a comparison with a refused one says nothing.
 abbrev pub if_accepted : Verdict → Comparison → Comparison
-if_accepted Accepted c = c
-if_accepted (Refused why place) c = Unpriced
+if_accepted (Ok tt) c = c
+if_accepted (Err stop) c = Unpriced
 
 -- Where both funds are accepted, the move from the old one's figures to the new one's, and what differs between the files.
 unfoldable pub compared : Reading → Answer → Reading → Answer → Comparison

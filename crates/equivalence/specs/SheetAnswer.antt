@@ -12,8 +12,8 @@ use Rattle.fund.specs.declared.Rate.{Rate}
 use Rattle.fund.specs.declared.Member.{Member}
 use Rattle.fund.specs.declared.Refusal.{Refusal}
 use Rattle.fund.specs.declared.Refusal.TheVariants.{Range, Edition, Deductible, Unmatched, Half, Load, Order, Short, Wide}
-use Rattle.fund.specs.declared.Row.{Row}
-use Rattle.fund.specs.declared.Row.TheVariants.{Rate as RateRow, Member as MemberRow}
+use Rattle.fund.specs.declared.SheetRow.{SheetRow}
+use Rattle.fund.specs.declared.SheetRow.TheVariants.{Rate as RateRow, Member as MemberRow}
 use Rattle.fund.specs.Verdict.{Verdict, refused_at}
 use Rattle.fund.specs.Lines.{Line, lines}
 use Rattle.fund.specs.Reading.{FundFile, Reading, read, stopped, header_lines, rate_in_range, member_in_range}
@@ -21,7 +21,7 @@ use Rattle.fund.specs.Folding.{points, lives}
 use Rattle.fund.specs.Recursion.{Cell}
 use Rattle.fund.specs.Refusals.{first, unmatched, half_line, Lengths, refuse, first_member, valued, matched, verdict}
 use Rattle.fund.specs.Answer.{fund_cells, Part, empty, names_line, line_at, part, Answer, refused, accepted, answer_of, answer_to, answer}
-use Rattle.fund.specs.Sheets.{sheet_rows, read_sheet_rows, sheet_reading, file_with, sheet_answer}
+use Rattle.fund.specs.Sheets.{sheet_rows, read_sheet_rows, sheet_reading, file_with, sheet_answer, rate_rows, member_rows}
 use Rattle.laws.specs.PassedLines.{on_either}
 use Rattle.equivalence.specs.SheetFile.{header_alone, same_reading}
 
@@ -38,7 +38,7 @@ abbrev BehindRead : Reading → Type 0
 BehindRead (read fund) = Unit {0}
 BehindRead (stopped why place) = Behind why place
 
-rows_behind_lem : (rows : List (Option Row)) (n : ℕ) (header : Fund) (rates : List Rate) (members : List Member) → suc (length header_lines) ≤ n → BehindRead (read_sheet_rows n header rates members rows)
+rows_behind_lem : (rows : List (Option SheetRow)) (n : ℕ) (header : Fund) (rates : List Rate) (members : List Member) → suc (length header_lines) ≤ n → BehindRead (read_sheet_rows n header rates members rows)
 unfolding read_sheet_rows
 rows_behind_lem [] n header rates members h = tt
 rows_behind_lem (None ∷ rows) n header rates members h = λ e. absurd (true≢false (sym e))

@@ -1,19 +1,18 @@
 -- METHOD 9 (§6): "A fund read from sheets is priced as the file with the same rows". Where the header text alone is read and all rows are taken,
 -- the sheets' reading is the file's (same_reading). A refusal in the header comes before any row (header_first).
-use Rattle.std.specs.Prelude.{◌≡◌, refl, ◌⊎◌, true, false, List, [], ◌∷◌, ◌++◌, map, ℕ, suc, ◌+◌, ◌≤◌, length, Option}
+use Rattle.std.specs.Prelude.{◌≡◌, refl, ◌⊎◌, true, false, List, [], ◌∷◌, ◌++◌, ℕ, suc, ◌+◌, ◌≤◌, length, Option}
 use Rattle.std.proofs.Common.{sym, ◌∙◌, ap, ap₂, subst, inl, inr, append-nil, append_assoc, arith, eq-eqb, length-append}
 use Rattle.fund.specs.declared.Fund.{Fund}
 use Rattle.fund.specs.declared.Rate.{Rate}
 use Rattle.fund.specs.declared.Member.{Member}
 use Rattle.fund.specs.declared.Refusal.{Refusal}
 use Rattle.fund.specs.declared.Refusal.TheVariants.{Form, Range}
-use Rattle.fund.specs.declared.Row.{Row}
-use Rattle.fund.specs.declared.Row.TheVariants.{Rate as RateRow, Member as MemberRow}
+use Rattle.fund.specs.declared.SheetRow.{SheetRow}
 use Rattle.fund.specs.Limits.{most_members}
 use Rattle.fund.specs.Base.{table}
 use Rattle.fund.specs.Lines.{Line, lines_from, lines}
 use Rattle.fund.specs.Reading.{FundFile, read, stopped, header_lines, rate_row, member_row, row_of, rate_in_range, member_in_range, no_member, read_rows, read_header, reading, file_rows}
-use Rattle.fund.specs.Sheets.{row_count, rows_of, sheet_rows, read_sheet_rows, read_sheets, sheet_reading, rate_text, member_text, texts, file_with}
+use Rattle.fund.specs.Sheets.{row_count, rows_of, sheet_rows, read_sheet_rows, read_sheets, sheet_reading, rate_text, member_text, texts, file_with, rate_rows, member_rows}
 use Rattle.laws.specs.Accepted.{All}
 use Rattle.laws.specs.PassedLines.{never, on_pass, fund_so_far, on_end}
 use Rattle.laws.specs.Ranges.{member_ok}
@@ -128,7 +127,7 @@ same_reading header rates members rs ms alone e t =
     ∙ sym (a.file (texts rate_text rs ++ (texts member_text ms ++ end_text (length ms))))
 
 -- ---- a refusal in the header
-stops_behind : (rows : List (Option Row)) (n : ℕ) (header : Fund) (ls : List Line) (why : Refusal) (place : ℕ) → read_sheets [] n header ls ≡ stopped why place → read_sheets rows n header ls ≡ stopped why place
+stops_behind : (rows : List (Option SheetRow)) (n : ℕ) (header : Fund) (ls : List Line) (why : Refusal) (place : ℕ) → read_sheets [] n header ls ≡ stopped why place → read_sheets rows n header ls ≡ stopped why place
 unfolding read_sheets read_sheet_rows
 stops_behind rows n header [] why place e = absurd (never why place (fund_so_far n header [] []) (sym e))
 stops_behind rows n header (l ∷ ls) why place e = e

@@ -2,8 +2,8 @@
 -- as the fund written out (out_read), and priced as the file itself but for the places of 5 and 6 (out_priced).
 use Rattle.std.specs.Prelude.{◌≡◌, refl, ◌⊎◌, Bool, true, false, eqb, if◌then◌else◌, Option}
 use Rattle.std.proofs.Math.Path.{sym, ap, ap₂}
-use Rattle.std.proofs.Common.{◌∙◌, inl, inr, true≢false, le-leb, lt-ltb}
-use mathlib.Core.List.{List, [], ◌∷◌, ◌++◌, map, map-append, append-nil, append_assoc}
+use Rattle.std.proofs.Common.{◌∙◌, inl, inr, true≢false, le-leb, lt-ltb, Some}
+use mathlib.Core.List.{List, [], ◌∷◌, ◌++◌, map-append, append-nil, append_assoc}
 use Prim.Native.Nat.{ℕ, zero, suc, ◌+◌, ◌≤◌, ◌<◌}
 use native.Mathlib.Omega.{arith}
 use Rattle.std.proofs.Math.ListN.{length, replicate, take, length-append}
@@ -12,15 +12,15 @@ use Rattle.fund.specs.declared.Fund.{Fund}
 use Rattle.fund.specs.declared.Rate.{Rate}
 use Rattle.fund.specs.declared.Member.{Member}
 use Rattle.fund.specs.declared.Refusal.TheVariants.{Form, Range}
-use Rattle.fund.specs.declared.Row.{Row}
-use Rattle.fund.specs.declared.Row.TheVariants.{Rate as RateRow, Member as MemberRow}
+use Rattle.fund.specs.declared.SheetRow.{SheetRow}
+use Rattle.fund.specs.declared.SheetRow.TheVariants.{Rate as RateRow, Member as MemberRow}
 use Rattle.fund.specs.Base.{total}
 use Rattle.fund.specs.Limits.{most_members, most_lives}
 use Rattle.fund.specs.Lines.{Line, begun, lines_from, lines}
 use Rattle.fund.specs.Reading.{FundFile, read, header_lines, between, lives_in_all, rate_in_range, member_in_range, no_member, read_rows, read_header, reading, file_rows}
 use Rattle.fund.specs.Refusals.{Lengths}
 use Rattle.fund.specs.Answer.{answer}
-use Rattle.fund.specs.Sheets.{read_sheet_rows, read_sheets, sheet_rows, sheet_reading, rate_text, member_text, texts, file_with}
+use Rattle.fund.specs.Sheets.{read_sheet_rows, read_sheets, sheet_rows, sheet_reading, rate_text, member_text, texts, file_with, rate_rows, member_rows}
 use Rattle.laws.specs.Accepted.{All, all_map, all_append, all_replicate}
 use Rattle.laws.specs.Tables.{total_append, total_replicate}
 use Rattle.laws.specs.PassedLines.{never, pass, PassedLine, rate_line, member_line, end_line, passed_line}
@@ -68,7 +68,7 @@ unfolding lives_in_all
 lives_append ms ls = total_append (λ (m : Member). m.lives) ms ls
 
 -- ---- rows behind a header
-module _ (n : ℕ) (header : Fund) (rates : List Rate) (before : List Member) (rows : List (Option Row)) where
+module _ (n : ℕ) (header : Fund) (rates : List Rate) (before : List Member) (rows : List (Option SheetRow)) where
   takes_rate : (r : Rate) → rate_in_range rates r ≡ true → read_sheet_rows n header rates before (Some (RateRow r) ∷ rows) ≡ read_sheet_rows (suc n) header (rates ++ (r ∷ [])) before rows
   unfolding read_sheet_rows
   takes_rate r e = rw (e, read_sheet_rows)
@@ -78,7 +78,7 @@ module _ (n : ℕ) (header : Fund) (rates : List Rate) (before : List Member) (r
   takes_member m e = rw (e, read_sheet_rows)
 
 module _ (header : Fund) (rates : List Rate) where
-  copies_read : (k n : ℕ) (before : List Member) (m : Member) (more : List (Option Row)) → MemberOk m → lives_in_all before ≡ length before → length before + k ≤ most_lives →
+  copies_read : (k n : ℕ) (before : List Member) (m : Member) (more : List (Option SheetRow)) → MemberOk m → lives_in_all before ≡ length before → length before + k ≤ most_lives →
       read_sheet_rows n header rates before (member_rows (replicate k (one_life m)) ++ more) ≡ read_sheet_rows (k + n) header rates (before ++ replicate k (one_life m)) more
   unfolding read_sheet_rows
   copies_read zero n before m more ok e few =

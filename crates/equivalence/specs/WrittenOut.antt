@@ -9,7 +9,7 @@ use Prim.Native.Nat.{ℕ, zero, suc, ◌+◌, ◌-◌, ◌≤◌}
 use native.Mathlib.Omega.{arith}
 use Rattle.fund.specs.declared.Rate.{Rate}
 use Rattle.fund.specs.declared.Member.{Member}
-use Rattle.fund.specs.Verdict.{Verdict, refused_at}
+use Rattle.fund.specs.Verdict.{Verdict}
 use Rattle.fund.specs.Base.{total}
 use Rattle.fund.specs.Limits.{least_lives}
 use Rattle.fund.specs.Reading.{FundFile, read, lives_in_all}

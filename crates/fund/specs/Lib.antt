@@ -10,6 +10,7 @@ pub mod Premium
 pub mod Tariff
 pub mod Verdict
 pub mod Refusals
+pub mod Cells
 pub mod Quantile
 pub mod Distribution
 pub mod Answer

@@ -4,8 +4,8 @@ use Rattle.fund.specs.declared.Fund.{Fund}
 use Rattle.fund.specs.declared.Rate.{Rate}
 use Rattle.fund.specs.declared.Member.{Member}
 use Rattle.fund.specs.declared.Refusal.TheVariants.{Form, Range, Cell as CellRefusal}
-use Rattle.fund.specs.declared.Row.{Row}
-use Rattle.fund.specs.declared.Row.TheVariants.{Rate as RateRow, Member as MemberRow}
+use Rattle.fund.specs.declared.SheetRow.{SheetRow}
+use Rattle.fund.specs.declared.SheetRow.TheVariants.{Rate as RateRow, Member as MemberRow}
 use Rattle.fund.specs.Base.{bytes, table}
 use Rattle.fund.specs.Lines.{Line, lines}
 use Rattle.fund.specs.Reading.{Reading, read, stopped, header_lines, rate_in_range, member_in_range, read_header}
@@ -25,26 +25,26 @@ unfoldable pub rows_of : ℕ → List ℕ → List (List ℕ)
 rows_of width sheet = table (row_count width sheet) (row_at width sheet)
 
 -- A row of either sheet, or that it is not taken.
-unfoldable pub rate_row_in : List ℕ → Option Row
+unfoldable pub rate_row_in : List ℕ → Option SheetRow
 rate_row_in row = option_map RateRow (rate_row_of row)
 
-unfoldable pub member_row_in : List ℕ → Option Row
+unfoldable pub member_row_in : List ℕ → Option SheetRow
 member_row_in row = option_map MemberRow (member_row_of row)
 
 -- Rows that are taken.
-abbrev pub rate_rows : List Rate → List (Option Row)
+abbrev pub rate_rows : List Rate → List (Option SheetRow)
 rate_rows rs = map (λ r. Some (RateRow r)) rs
 
-abbrev pub member_rows : List Member → List (Option Row)
+abbrev pub member_rows : List Member → List (Option SheetRow)
 member_rows ms = map (λ m. Some (MemberRow m)) ms
 
 -- "rate rows first and member rows after them"
-unfoldable pub sheet_rows : List ℕ → List ℕ → List (Option Row)
+unfoldable pub sheet_rows : List ℕ → List ℕ → List (Option SheetRow)
 sheet_rows rates members = map rate_row_in (rows_of rate_width rates) ++ map member_row_in (rows_of member_width members)
 
 -- The rows from the file's line n on, after those that are read. "11 (cell) for a cell not taken or a last row cut short, place the row counted
 -- from 1"; "within a row it comes before range (2)"; "age order, q + i, row counts [..] keep that file's number and line".
-unfoldable pub read_sheet_rows : ℕ → Fund → List Rate → List Member → List (Option Row) → Reading
+unfoldable pub read_sheet_rows : ℕ → Fund → List Rate → List Member → List (Option SheetRow) → Reading
 read_sheet_rows n header rates members [] = read (record { header = header; rates = rates; members = members })
 read_sheet_rows n header rates members (None ∷ rows) = stopped CellRefusal (suc (length rates + length members))
 read_sheet_rows n header rates members (Some (RateRow r) ∷ rows) =
@@ -53,11 +53,11 @@ read_sheet_rows n header rates members (Some (MemberRow m) ∷ rows) =
     elim (member_in_range members m) [ false ↦ stopped Range n | true ↦ read_sheet_rows (suc n) header rates (members ++ (m ∷ [])) rows ]
 
 -- "The header lines still come as text, read first; bytes after the last of them are form (1) at their line."
-unfoldable pub read_sheets : List (Option Row) → ℕ → Fund → List Line → Reading
+unfoldable pub read_sheets : List (Option SheetRow) → ℕ → Fund → List Line → Reading
 read_sheets rows n header [] = read_sheet_rows n header [] [] rows
 read_sheets rows n header (l ∷ ls) = stopped Form n
 
-abbrev pub rows_reading : List ℕ → List (Option Row) → Reading
+abbrev pub rows_reading : List ℕ → List (Option SheetRow) → Reading
 rows_reading header rows = read_header (read_sheets rows) header_lines 1 [] (lines header)
 
 unfoldable pub sheet_reading : List ℕ → List ℕ → List ℕ → Reading

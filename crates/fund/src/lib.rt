@@ -8,6 +8,7 @@ ghost use Rattle.fund.specs.Limits.{limits};
 ghost use Rattle.fund.specs.Reading.{header_lines};
 ghost use Rattle.fund.specs.Refusals.{number_of};
 ghost use Rattle.fund.specs.Answer.{no_figures};
+ghost use Rattle.fund.specs.Cells.{lengths, SameSlices, Zeros};
 
 // The fund record: the figures of a file's header lines, in their order.
 #[derive(Clone, Copy, PartialEq, Eq, Default)]
@@ -83,7 +84,7 @@ pub struct MemberFloats {
 
 // A row of a sheet, rate rows first.
 #[derive(Clone, Copy, PartialEq, Eq)]
-pub enum Row {
+pub enum SheetRow {
     Rate(Rate),
     Member(Member),
 }
@@ -122,6 +123,30 @@ pub struct Figures {
     pub premium: i64,
     pub within: u64,
     pub gross: u64,
+}
+
+// The result slices that a caller lends, for D, H, f, R and F.
+#[derive(Drop)]
+pub struct Cells<'a> {
+    pub transform: &'a mut [i64],
+    pub h: &'a mut [u64],
+    pub f: &'a mut [i64],
+    pub r: &'a mut [u64],
+    pub sums: &'a mut [i64],
+}
+
+impl Cells<'_> {
+    // "zero in every lent result cell"
+    pub fn clear(&mut self)
+        ensures same_slices { SameSlices self.old self.new }
+        ensures zeros { Zeros (lengths self.old) self.new }
+    {
+        self.transform.fill(0);
+        self.h.fill(0);
+        self.f.fill(0);
+        self.r.fill(0);
+        self.sums.fill(0);
+    }
 }
 
 impl Fund {

@@ -1,10 +1,11 @@
 -- What a read of a file in memory leaves behind (extends, inside), and that where the loop stops or goes on behind it, the file is read so.
-use Rattle.std.specs.Prelude.{Option, None, Some, IfSome}
+use Rattle.std.specs.Prelude.{Option, None, Some, Result, IfSome}
 use Rattle.std.proofs.Common.{◌≡◌, refl, sym, ◌∙◌, ap, Bool, true, false, List, ℕ, ◌+◌, ◌≤◌, ◌<◌, length, take, arith}
 use Rattle.std.proofs.lemmas.List.{take-take}
 use Rattle.input.specs.declared.source.Source.{Source}
+use Rattle.input.specs.declared.ReadFailed.{ReadFailed}
 use Rattle.input.specs.Reads.{Reads, fails, ends, more}
-use Rattle.input.specs.Input.{InMemory, Closed, SameSource, Extends, Stands, Given, Gives, counted, none, ReadMemory}
+use Rattle.input.specs.Input.{InMemory, Closed, SameSource, Extends, Stands, Given, Gives, counted, none, size_of, has_failed, ReadMemory}
 
 module _ {R : Type 0} {before after : Source R} where
   pub still_memory : SameSource before after → InMemory before → InMemory after
@@ -50,9 +51,9 @@ pub none_yet : (file pieces buffer : List ℕ) → BytesSoFar file pieces buffer
 none_yet file pieces buffer = record { stands = record { at = refl; bytes = refl }; reads = λ all failed r. r }
 
 module _ {file pieces before after : List ℕ} {size : ℕ} where
-  pub stops : {given : ℕ} {failed : Bool} → BytesSoFar file pieces before given size → Extends before size after → Reads file pieces (length before) size size failed →
-      ReadMemory file pieces after (record { size = size; failed = failed })
-  stops {failed = failed} s e r = record { reads = rw e.long (s.reads size failed r); bytes = e.kept ∙ s.stands.bytes }
+  pub stops : {given : ℕ} (r : Result ℕ ReadFailed) → size_of r ≡ size → BytesSoFar file pieces before given size → Extends before size after →
+      Reads file pieces (length before) size size (has_failed r) → ReadMemory file pieces after r
+  stops r is s e h = record { reads = rw (e.long, is) (s.reads size (has_failed r) h); bytes = rw is (e.kept ∙ s.stands.bytes) }
 
   pub goes_on : {given to n : ℕ} → BytesSoFar file pieces before given size → Given file pieces before size to after n → 0 < n → size < length before →
       BytesSoFar file pieces after to (size + n)

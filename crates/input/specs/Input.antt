@@ -1,8 +1,8 @@
 -- What is read into a buffer. The contract of `read` says how many bytes it counts, not which they are, nor that 0 is the end: so of a descriptor
 -- no contract says that the buffer holds the file's own bytes, all of them. Of a file in memory, which the same loop reads, it does.
-use Rattle.std.specs.Prelude.{◌≡◌, true, false, List, ℕ, ◌+◌, ◌≤◌, ◌<◌, Option, None, Some, Result, Ok, Err, IsNone, IfSome, length, take}
+use Rattle.std.specs.Prelude.{◌≡◌, Bool, true, false, List, ℕ, ◌+◌, ◌≤◌, ◌<◌, Option, None, Some, Result, Ok, Err, IsNone, IfSome, length, take}
 use Rattle.input.specs.declared.source.Source.{Source}
-use Rattle.input.specs.declared.FileBytes.{FileBytes}
+use Rattle.input.specs.declared.ReadFailed.{ReadFailed}
 use Rattle.input.specs.Reads.{piece_at, given_at, Reads}
 
 abbrev pub descriptor : {R : Type 0} → Option R → Source R
@@ -60,26 +60,35 @@ pub record ReadsMore {R : Type 0} (source : Source R) (file pieces before : List
   pub closed : Closed source → IsNone r
 
 -- ---- all of them
+-- How many bytes were read, and whether the read behind them failed.
+abbrev pub size_of : Result ℕ ReadFailed → ℕ
+size_of (Ok size) = size
+size_of (Err failed) = failed.size
+
+abbrev pub has_failed : Result ℕ ReadFailed → Bool
+has_failed (Ok size) = false
+has_failed (Err failed) = true
+
 -- The buffer is as long as it was, and what was read lies in it.
-pub record ReadBytes (before after : List ℕ) (r : FileBytes) : Type 0 where
+pub record ReadBytes (before after : List ℕ) (r : Result ℕ ReadFailed) : Type 0 where
   pub long : length after ≡ length before
-  pub inside : r.size ≤ length after
+  pub inside : size_of r ≤ length after
 
 -- Where no file is open the first read fails.
-pub record FailsAtOnce (r : FileBytes) : Type 0 where
-  pub nothing : r.size ≡ 0
-  pub failed : r.failed ≡ true
+pub record FailsAtOnce (r : Result ℕ ReadFailed) : Type 0 where
+  pub nothing : size_of r ≡ 0
+  pub failed : has_failed r ≡ true
 
 -- What was read of a file in memory: its first bytes, so many as its reads give.
-pub record ReadMemory (file pieces after : List ℕ) (r : FileBytes) : Type 0 where
-  pub reads : Reads file pieces (length after) 0 r.size r.failed
-  pub bytes : take r.size after ≡ take r.size file
+pub record ReadMemory (file pieces after : List ℕ) (r : Result ℕ ReadFailed) : Type 0 where
+  pub reads : Reads file pieces (length after) 0 (size_of r) (has_failed r)
+  pub bytes : take (size_of r) after ≡ take (size_of r) file
 
-pub record ReadSource {R : Type 0} (source : Source R) (file pieces before after : List ℕ) (r : FileBytes) : Type 0 where
+pub record ReadSource {R : Type 0} (source : Source R) (file pieces before after : List ℕ) (r : Result ℕ ReadFailed) : Type 0 where
   pub read : ReadBytes before after r
   pub memory : InMemory source → ReadMemory file pieces after r
   pub closed : Closed source → 0 < length after → FailsAtOnce r
 
-pub record ReadDescriptor {R : Type 0} (reader : Option R) (before after : List ℕ) (r : FileBytes) : Type 0 where
+pub record ReadDescriptor {R : Type 0} (reader : Option R) (before after : List ℕ) (r : Result ℕ ReadFailed) : Type 0 where
   pub read : ReadBytes before after r
   pub closed : IsNone reader → 0 < length after → FailsAtOnce r

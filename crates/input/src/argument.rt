@@ -2,7 +2,7 @@
 ghost use Rattle.std.specs.Prelude.{IsNone};
 ghost use Rattle.input.specs.Input.{ReadBytes, ReadDescriptor, opened_reader};
 
-use crate::{FileBytes, Noted, read_bytes, say};
+use crate::{Noted, ReadFailed, read_bytes, say};
 use std::env::{Env, FillError};
 use std::io::{Eprint, Error, ErrorKind, Read};
 use std::rt::Files;
@@ -42,12 +42,12 @@ fn read_named<F: Read + Drop>(
     opened: io::Result<F>,
     name: &str,
     buffer: &mut [u8],
-) -> FileBytes
+) -> Result<usize, ReadFailed>
     ensures { ReadDescriptor (opened_reader opened) buffer.old buffer.new result }
 {
     let (mut reader, refusal) = reader_of(opened);
     let read = read_bytes(reader.as_mut(), buffer);
-    if read.failed {
+    if read.is_err() {
         let error = match &reader {
             Some(reader) => reader.error(),
             None => refusal,
@@ -78,7 +78,11 @@ fn path_of<'a>(rt: &impl Env, i: usize, path: &'a mut [u8]) -> io::Result<&'a st
 }
 
 // Reads the file that the argument i names, as many bytes as the buffer has room for.
-pub fn read_argument<R: Env + Files + Eprint>(rt: &R, i: usize, buffer: &mut [u8]) -> FileBytes
+pub fn read_argument<R: Env + Files + Eprint>(
+    rt: &R,
+    i: usize,
+    buffer: &mut [u8],
+) -> Result<usize, ReadFailed>
     ensures { ReadBytes buffer.old buffer.new result }
 {
     let mut path = [0u8; 4096];

@@ -13,21 +13,20 @@ pub use said::{Noted, say};
 pub use source::Source;
 use std::io::Read;
 
-// How many bytes of a file stand at the start of a buffer; or that the read behind them failed.
-#[derive(Drop)]
-pub struct FileBytes {
+// A read failed behind so many bytes of a file, which stand at the start of a buffer.
+#[derive(Clone, Copy, Debug, PartialEq, Eq)]
+pub struct ReadFailed {
     pub size: usize,
-    pub failed: bool,
 }
 
-// Reads until the buffer is full, the file ends or a read fails. `given` is how many bytes a file in memory has given: of a descriptor the
-// system keeps it.
+// How many bytes of a file stand at the start of the buffer: reads until the buffer is full, the file ends or a read fails. `given` is how many
+// bytes a file in memory has given: of a descriptor the system keeps it.
 pub fn read_source<R: Read + Drop>(
     mut source: Source<R>,
     file: &[u8],
     pieces: &[u32],
     buffer: &mut [u8],
-) -> FileBytes
+) -> Result<usize, ReadFailed>
     ensures { ReadSource source file.now pieces.now buffer.old buffer.new result }
 {
     let mut given = 0;
@@ -35,24 +34,18 @@ pub fn read_source<R: Read + Drop>(
     while size < buffer.len() {
         let got = source::read_more(&mut source, file, pieces, &mut given, buffer, size);
         let Some(count) = got else {
-            return FileBytes { size, failed: true };
+            return Err(ReadFailed { size });
         };
         if count == 0 {
-            return FileBytes {
-                size,
-                failed: false,
-            };
+            return Ok(size);
         }
         size += count;
     }
-    FileBytes {
-        size,
-        failed: false,
-    }
+    Ok(size)
 }
 
 // The bytes of a reader, as many as the buffer has room for; with none, of a file that could not be opened.
-pub fn read_bytes<R: Read + Drop>(reader: Option<R>, buffer: &mut [u8]) -> FileBytes
+pub fn read_bytes<R: Read + Drop>(reader: Option<R>, buffer: &mut [u8]) -> Result<usize, ReadFailed>
     ensures { ReadDescriptor reader buffer.old buffer.new result }
 {
     read_source(Source::descriptor(reader), b"", &[1u32], buffer)

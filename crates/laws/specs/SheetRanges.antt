@@ -5,15 +5,15 @@ use Rattle.fund.specs.declared.Fund.{Fund}
 use Rattle.fund.specs.declared.Rate.{Rate}
 use Rattle.fund.specs.declared.Member.{Member}
 use Rattle.fund.specs.declared.Refusal.TheVariants.{Form, Range, Cell as CellRefusal}
-use Rattle.fund.specs.declared.Row.{Row}
-use Rattle.fund.specs.declared.Row.TheVariants.{Rate as RateRow, Member as MemberRow}
+use Rattle.fund.specs.declared.SheetRow.{SheetRow}
+use Rattle.fund.specs.declared.SheetRow.TheVariants.{Rate as RateRow, Member as MemberRow}
 use Rattle.fund.specs.Lines.{Line}
 use Rattle.fund.specs.Reading.{FundFile, read, rate_in_range, member_in_range}
 use Rattle.fund.specs.Sheets.{sheet_rows, read_sheet_rows, read_sheets, sheet_reading}
 use Rattle.laws.specs.PassedLines.{never, pass, fund_so_far}
 use Rattle.laws.specs.Ranges.{RowsOk, Reads, FundOk, more_rates, more_members, no_rows, text_ranges}
 
-pub sheet_rows_ranges : (rows : List (Option Row)) (n : ℕ) (header : Fund) (rates : List Rate) (members : List Member) (fund : FundFile) → RowsOk rates members →
+pub sheet_rows_ranges : (rows : List (Option SheetRow)) (n : ℕ) (header : Fund) (rates : List Rate) (members : List Member) (fund : FundFile) → RowsOk rates members →
     read_sheet_rows n header rates members rows ≡ read fund → Reads header fund
 unfolding read_sheet_rows
 sheet_rows_ranges [] n header rates members fund k e = let z : fund_so_far n header rates members ≡ fund = cc in subst (λ f. Reads header f) z (record { header_is = refl; rows = k })
@@ -25,7 +25,7 @@ sheet_rows_ranges (Some (MemberRow m) ∷ rows) n header rates members fund k e 
     let h = pass (member_in_range members m) Range n _ fund e in
     sheet_rows_ranges rows (suc n) header rates (members ++ (m ∷ [])) fund (more_members rates members m k h.0) h.1
 
-sheets_ranges : (rows : List (Option Row)) (fund : FundFile) (n : ℕ) (header : Fund) (ls : List Line) → read_sheets rows n header ls ≡ read fund → Reads header fund
+sheets_ranges : (rows : List (Option SheetRow)) (fund : FundFile) (n : ℕ) (header : Fund) (ls : List Line) → read_sheets rows n header ls ≡ read fund → Reads header fund
 unfolding read_sheets
 sheets_ranges rows fund n header [] e = sheet_rows_ranges rows n header [] [] fund no_rows e
 sheets_ranges rows fund n header (l ∷ ls) e = absurd (never Form n fund e)

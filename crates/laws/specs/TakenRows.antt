@@ -3,8 +3,8 @@ use Rattle.std.specs.Prelude.{◌≡◌, Bool, true, false, List, [], ◌∷◌,
 use Rattle.std.proofs.Common.{subst, arith}
 use Rattle.fund.specs.declared.Rate.{Rate}
 use Rattle.fund.specs.declared.Member.{Member}
-use Rattle.fund.specs.declared.Row.{Row}
-use Rattle.fund.specs.declared.Row.TheVariants.{Rate as RateRow, Member as MemberRow}
+use Rattle.fund.specs.declared.SheetRow.{SheetRow}
+use Rattle.fund.specs.declared.SheetRow.TheVariants.{Rate as RateRow, Member as MemberRow}
 use Rattle.fund.specs.Limits.{most_age, most_rate, least_group, most_group, most_amount, least_lives, most_lives}
 use Rattle.fund.specs.SheetCells.{or_else, seek, whole_of, rate_of, at_least, whole_in, amount_of, rate_in, rate_joined, member_joined, rate_taken, member_taken, rate_floats, member_floats, rate_width, member_width, rate_row_of, member_row_of}
 use Rattle.fund.specs.Sheets.{rows_of, sheet_rows, rate_row_in, member_row_in, rate_rows, member_rows}
@@ -59,7 +59,7 @@ rate_short None = tt
 rate_short (Some x) = below_more (suc most_rate) seven_digits (rate_of x) (omega arith) (seek_below _ (suc most_rate))
 
 -- ---- rows
-abbrev ShortRow : Option Row → Type 0
+abbrev ShortRow : Option SheetRow → Type 0
 ShortRow (Some (RateRow r)) = ShortRate r
 ShortRow (Some (MemberRow m)) = ShortMember m
 ShortRow None = Unit {0}
@@ -99,12 +99,12 @@ member_row_short row = go (eqb (length row) member_width)
     go false = tt
 
 -- A rate sheet's row is taken as no member, and a member sheet's as no rate.
-abbrev pub NoMember : Option Row → Type 0
+abbrev pub NoMember : Option SheetRow → Type 0
 NoMember (Some (RateRow r)) = Unit {0}
 NoMember (Some (MemberRow m)) = ⊥
 NoMember None = Unit {0}
 
-abbrev pub NoRate : Option Row → Type 0
+abbrev pub NoRate : Option SheetRow → Type 0
 NoRate (Some (RateRow r)) = ⊥
 NoRate (Some (MemberRow m)) = Unit {0}
 NoRate None = Unit {0}

@@ -1,4 +1,5 @@
 -- What the call answers, handed over field by field (hosts).
+use Rattle.std.specs.Prelude.{Ok}
 use mathlib.Core.Path.{◌≡◌, ◌∙◌, ap, subst}
 use mathlib.Core.List.{List}
 use Prim.Native.Nat.{ℕ, ◌+◌, ◌≤◌}
@@ -7,7 +8,6 @@ use lib.IntN.{ℤ}
 use lib.ListN.{length}
 use Rattle.fund.specs.Reading.{Reading}
 use Rattle.fund.specs.Refusals.{Lengths, number_in}
-use Rattle.fund.specs.declared.Verdict.TheVariants.{Accepted}
 use Rattle.fund.specs.Quantile.{quantile_of}
 use Rattle.fund.specs.Answer.{Answer, answer_to}
 use Rattle.fund.specs.Listing.{horizon_in}
@@ -23,7 +23,7 @@ module _ (text : List ℕ) (r : Reading) (level : ℕ) (n : Lengths) (p : Priced
   same : left_priced p D H f R F ≡ answer_to text n r
   same = k.answers.answer
 
-  zero_told : number_in (answer_to text n r).verdict ≡ 0 → p.verdict ≡ Accepted
+  zero_told : number_in (answer_to text n r).verdict ≡ 0 → p.verdict ≡ Ok tt
   zero_told z = ap (λ (x : Answer). x.verdict) same ∙ zero_accepted (answer_to text n r).verdict z
 
   pub hosts : (result : List ℕ) → (result ≡ priced_fields p) × (read_signed (bits_of p.figures.premium) ≡ p.figures.premium) → Hosts text r level n result D H f R F

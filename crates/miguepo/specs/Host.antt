@@ -1,9 +1,8 @@
 -- What the pricing call hands to a host in C.
-use Rattle.std.specs.Prelude.{◌≡◌, List, [], ◌∷◌, ℕ, ◌+◌, ◌-◌, ◌≤◌, ℤ, length}
+use Rattle.std.specs.Prelude.{◌≡◌, List, [], ◌∷◌, ℕ, ◌+◌, ◌-◌, ◌≤◌, ℤ, length, Option}
 use Rattle.fund.specs.Limits.{most_level}
 use Rattle.fund.specs.Reading.{FundFile, Reading, read}
 use Rattle.fund.specs.Refusals.{Lengths, number_in, place_in}
-use Rattle.fund.specs.declared.Quantile.{Quantile}
 use Rattle.fund.specs.Quantile.{quantile_of, reached_in, quantile_in}
 use Rattle.fund.specs.Answer.{Answer, answer_to}
 use Rattle.fund.specs.Listing.{horizon_in}
@@ -13,7 +12,7 @@ use Rattle.pricing.specs.Priced.{horizon_with}
 use Rattle.miguepo.specs.Bits.{bits_of, read_signed}
 
 -- The fields of the struct that C declares, in their order, for an answer, the horizon that was read and the answer at a level.
-abbrev pub result_fields : Answer → ℕ → Quantile → List ℕ
+abbrev pub result_fields : Answer → ℕ → Option ℕ → List ℕ
 result_fields a X q =
     number_in a.verdict
     ∷ place_in a.verdict

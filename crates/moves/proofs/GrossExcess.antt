@@ -15,7 +15,7 @@ use Rattle.fund.specs.declared.Fund.{Fund}
 use Rattle.fund.specs.Limits.{most_worth, least_worth, fourth_loading}
 use Rattle.fund.specs.Tariff.{loading, gross}
 use Rattle.laws.specs.Tariff.{loading_le, with_bound_pos}
-use Rattle.tariff.specs.declared.Gross.TheVariants.{Centimes, Outside}
+use Rattle.std.specs.Prelude.{Some, None}
 use Rattle.tariff.specs.Gross.{gross_of}
 use Rattle.tariff.proofs.GrossAnswers.{gross_inside}
 use Rattle.moves.specs.Move.{excess, most_within, most_gross, FiguresIn}
@@ -27,11 +27,11 @@ module _ (fund : Fund) (within : ℕ) (low : least_worth ≤ fund.worth) (high :
       let e : within + within ≡ 2 * within = omega arith in
       ap (λ n. up (n * fund.worth * loading fund.deductible) (10 ^ 15)) (with_bound_pos within within ∙ e)
 
-  pub excess_is : (c : ℕ) → gross_of fund (pos within) within ≡ Centimes c → c + 1 ≡ excess fund within
+  pub excess_is : (c : ℕ) → gross_of fund (pos within) within ≡ Some c → c + 1 ≡ excess fund within
   unfolding excess
   excess_is c e = let k : c ≡ gross fund.deductible fund.worth (pos within) within = cc (gross_inside fund (pos within) within low high) in omega (arith, k, twice)
 
-  pub not_outside : gross_of fund (pos within) within ≡ Outside → ⊥
+  pub not_outside : gross_of fund (pos within) within ≡ None → ⊥
   not_outside e = let z : ◌≡◌ {A = ℕ} 0 1 = cc (gross_inside fund (pos within) within low high) in omega arith
 
   pub excess_most : within ≤ most_within → excess fund within ≤ 100000000000

@@ -1,53 +1,53 @@
--- Two lists of member lines from line k on (Ahead): the same line on (ahead_step), or the answer where one differs or a list ends. And the line in which a
--- member line stands (line_is).
-use mathlib.Core.Path.{◌≡◌, refl, ◌∙◌}
-use mathlib.Core.Bool.{true, false}
-use mathlib.Core.List.{List}
-use Prim.Native.Nat.{ℕ, zero, suc, ◌+◌, ◌≤◌, ◌<◌}
-use native.Mathlib.Numerals.{add-one}
-use native.Mathlib.Omega.{arith}
-use borrow.Author.Tests.{ne_eqb}
-use lib.Dec.{eqb}
-use lib.ListN.{length, get_or, drop, drop_of_length-le, take}
-use lib.Seq.{drop-cons}
+-- Two lists of member lines from line `at` on: alike lines, lines that differ, and a list that ends. And the line in which a member line stands (line_is).
+use Rattle.std.specs.Prelude.{◌≡◌, refl, Bool, true, false, List, [], ◌∷◌, ℕ, zero, suc, ◌+◌, ◌<◌, ◌≤◌, length, if◌then◌else◌, Some, None}
+use Rattle.std.proofs.Common.{arith}
 use Rattle.fund.specs.declared.Member.{Member}
-use Rattle.std.specs.Prelude.{if◌then◌else◌}
-use Rattle.fund.specs.Reading.{header_lines}
+use Rattle.fund.specs.Reading.{FundFile, header_lines}
 use Rattle.fund.specs.Refusals.{first_member}
-use Rattle.laws.specs.Rows.{blank_member}
-use Rattle.rows.specs.declared.FileRead.{FileRead}
-use Rattle.moves.specs.Differences.{same_member, first_member_line, member_line, file_in}
+use Rattle.moves.specs.Differences.{same_member, first_member_line, member_line}
 
-abbrev pub Ahead : List Member → List Member → ℕ → Type 0
-Ahead ms ns k = first_member_line 1 ms ns ≡ first_member_line (suc k) (drop k ms) (drop k ns)
-
-pub ahead_all : (ms ns : List Member) → Ahead ms ns 0
-ahead_all ms ns = refl
-
-module _ (ms ns : List Member) (k : ℕ) (a : Ahead ms ns k) where
-  pub ahead_step : k < length ms → k < length ns → same_member (get_or ms k blank_member) (get_or ns k blank_member) ≡ true → Ahead ms ns (k + 1)
+module _ (at : ℕ) {old new : List Member} {m n : Member} {ms ns : List Member} (o : old ≡ m ∷ ms) (p : new ≡ n ∷ ns) where
+  pub alike : same_member m n ≡ true → first_member_line at old new ≡ first_member_line (suc at) ms ns
   unfolding first_member_line
-  ahead_step h g e = rw (add-one k) (a ∙ rw (drop-cons ms k blank_member h, drop-cons ns k blank_member g, e))
+  alike e = rw (o, p, e) refl
 
-  pub ahead_other : k < length ms → k < length ns → same_member (get_or ms k blank_member) (get_or ns k blank_member) ≡ false → first_member_line 1 ms ns ≡ k + 1
+  pub unlike : same_member m n ≡ false → first_member_line at old new ≡ Some at
   unfolding first_member_line
-  ahead_other h g e = rw (add-one k) (a ∙ rw (drop-cons ms k blank_member h, drop-cons ns k blank_member g, e))
+  unlike e = rw (o, p, e) refl
 
-  -- a list that ends before k
-  pub ahead_old : k < length ms → length ns ≤ k → first_member_line 1 ms ns ≡ k + 1
-  unfolding first_member_line
-  ahead_old h g = rw (add-one k) (a ∙ rw (drop-cons ms k blank_member h, drop_of_length-le ns g))
+pub both_ended : (at : ℕ) (old new : List Member) → length old ≡ 0 → length new ≡ 0 → first_member_line at old new ≡ None
+unfolding first_member_line
+both_ended at [] [] e f = refl
+both_ended at [] (n ∷ ns) e f = absurd (omega arith)
+both_ended at (m ∷ ms) new e f = absurd (omega arith)
 
-  pub ahead_new : length ms ≤ k → k < length ns → first_member_line 1 ms ns ≡ k + 1
-  unfolding first_member_line
-  ahead_new h g = rw (add-one k) (a ∙ rw (drop_of_length-le ms h, drop-cons ns k blank_member g))
+pub one_ended : (at : ℕ) (old new : List Member) → (length old ≡ 0) × (0 < length new) → first_member_line at old new ≡ Some at
+unfolding first_member_line
+one_ended at [] [] e = absurd (omega arith)
+one_ended at [] (n ∷ ns) e = refl
+one_ended at (m ∷ ms) new e = absurd (omega arith)
 
-  pub ahead_none : length ms ≤ k → length ns ≤ k → first_member_line 1 ms ns ≡ 0
-  unfolding first_member_line
-  ahead_none h g = a ∙ rw (drop_of_length-le ms h, drop_of_length-le ns g)
+pub other_ended : (at : ℕ) (old new : List Member) → (0 < length old) × (length new ≡ 0) → first_member_line at old new ≡ Some at
+unfolding first_member_line
+other_ended at [] new e = absurd (omega arith)
+other_ended at (m ∷ ms) [] e = refl
+other_ended at (m ∷ ms) (n ∷ ns) e = absurd (omega arith)
 
--- the line of a member line, from the rows that were read
-pub line_is : (r : FileRead) (k : ℕ) → (if eqb k 0 then 0 else length header_lines + length (take r.rated r.rates) + k) ≡ member_line (file_in r) k
-unfolding member_line first_member file_in header_lines
-line_is r zero = refl
-line_is r (suc k) = rw (ne_eqb (suc k) 0 (λ z. omega arith)) (omega arith)
+-- how large a line is
+pub first_between : (at : ℕ) (old new : List Member) (k : ℕ) → first_member_line at old new ≡ Some k → (at ≤ k) × (k ≤ at + length old + length new)
+unfolding first_member_line
+first_between at [] [] k e = let z : ◌≡◌ {A = ℕ} 0 1 = cc e in absurd (omega arith)
+first_between at [] (n ∷ ns) k e = let z : at ≡ k = cc e in (omega arith, omega arith)
+first_between at (m ∷ ms) [] k e = let z : at ≡ k = cc e in (omega arith, omega arith)
+first_between at (m ∷ ms) (n ∷ ns) k e = go (same_member m n) e (first_between (suc at) ms ns k)
+  where
+    go : (b : Bool) → (if b then first_member_line (suc at) ms ns else Some at) ≡ Some k →
+        (first_member_line (suc at) ms ns ≡ Some k → (suc at ≤ k) × (k ≤ suc at + length ms + length ns)) → (at ≤ k) × (k ≤ at + suc (length ms) + suc (length ns))
+    go true e h = (omega (arith, h e), omega (arith, h e))
+    go false e h = let z : at ≡ k = cc e in (omega arith, omega arith)
+
+-- the line of a member line behind so many rates
+pub line_is : (file : FundFile) (k : ℕ) → 0 < k → length header_lines + length file.rates + k ≡ member_line file k
+unfolding member_line first_member header_lines
+line_is file zero h = absurd (omega arith)
+line_is file (suc k) h = omega arith

@@ -1,5 +1,5 @@
 -- METHOD 11: the move of the premium from an old fund to a new one, and the most that arithmetic can have to do with it.
-use Rattle.std.specs.Prelude.{Bool, ◌&&◌, ℕ, suc, ◌+◌, ◌*◌, ◌^◌, ◌≤◌, leb, pos, nat_abs, ◌+ℤ◌, ◌-ℤ◌, if◌then◌else◌}
+use Rattle.std.specs.Prelude.{Bool, ◌&&◌, ℕ, suc, ◌+◌, ◌*◌, ◌^◌, ◌≤◌, leb, pos, nat_abs, ◌+ℤ◌, ◌-ℤ◌, if◌then◌else◌, Option, Some, None}
 use Rattle.rounding.specs.Rounding.{up}
 use Rattle.fund.specs.declared.Fund.{Fund}
 use Rattle.fund.specs.declared.Figures.{Figures}
@@ -7,8 +7,6 @@ use Rattle.fund.specs.Limits.{least_worth, most_worth}
 use Rattle.fund.specs.Reading.{between}
 use Rattle.fund.specs.Tariff.{loading}
 use Rattle.moves.specs.declared.Move.{Move}
-use Rattle.moves.specs.declared.Moved.{Moved}
-use Rattle.moves.specs.declared.Moved.TheVariants.{By, Outside}
 
 -- What a gross premium is above the exact premium's loaded worth at most, in centimes: the bound, which is in the gross premium and may be in the
 -- premium too, loaded and taken up; and less than one centime that the gross premium was taken up by.
@@ -54,7 +52,7 @@ unfoldable pub figures_in : Fund → Figures → Bool
 figures_in fund a =
     between least_worth most_worth fund.worth && (leb (nat_abs a.premium) most_premium && (leb a.within most_within && leb a.gross most_gross))
 
--- The move of figures that are in their ranges.
-unfoldable pub moved_of : Fund → Figures → Fund → Figures → Moved
+-- The move of figures that are in their ranges; of others none.
+unfoldable pub moved_of : Fund → Figures → Fund → Figures → Option Move
 moved_of old before new after =
-    if figures_in old before && figures_in new after then By (move_of old before new after) else Outside
+    if figures_in old before && figures_in new after then Some (move_of old before new after) else None

@@ -8,9 +8,8 @@ ghost use Rattle.std.specs.Prelude.{◌≡◌, ◌+◌, ◌^◌, ◌≤◌, pos,
 ghost use Rattle.fund.specs.Limits.{least_worth, most_worth};
 ghost use Rattle.moves.specs.Move.{excess as excess_of, move_of, most_within, FiguresIn, figures_in, moved_of};
 
-pub use files::{Differences, differing};
+pub use files::{Differences, MemberLine, differing};
 use fund::{Figures, Fund};
-use tariff::Gross;
 
 // The limits of figures that are compared: no accepted fund is above them.
 const MOST_PREMIUM: u64 = 1000000000000000000;
@@ -21,7 +20,7 @@ const MOST_GROSS: u64 = 100000000000000000;
 
 // The premium's move, the most that arithmetic can have to do with it, and the ends of the interval in which the exact move lies, in units of
 // 10^-12; the move of the gross premium, and the ends of the interval in which that of the exact premium's loaded worth lies, in centimes.
-#[derive(Clone, Copy)]
+#[derive(Clone, Copy, PartialEq, Eq)]
 pub struct Move {
     pub premium: i64,
     pub arithmetic: u64,
@@ -32,20 +31,13 @@ pub struct Move {
     pub gross_most: i64,
 }
 
-// The move of figures that are in their ranges.
-#[derive(Drop)]
-pub enum Moved {
-    By(Move),
-    Outside,
-}
-
 // The figures of a fund are within the limits.
 fn is_inside(fund: Fund, figures: Figures) -> bool
     ensures { result ≡ figures_in fund figures }
 {
     Fund::LEAST_WORTH <= fund.worth
         && fund.worth <= Fund::MOST_WORTH
-        && whole::magnitude(figures.premium) <= MOST_PREMIUM
+        && figures.premium.unsigned_abs() <= MOST_PREMIUM
         && figures.within <= MOST_WITHIN
         && figures.gross <= MOST_GROSS
 }
@@ -56,8 +48,8 @@ fn excess(fund: Fund, within: u64) -> u64
     ensures { result ≡ excess_of fund within }
 {
     match tariff::gross_premium(fund, within as i64, within) {
-        Gross::Centimes(centimes) => centimes + 1,
-        Gross::Outside => 0,
+        Some(centimes) => centimes + 1,
+        None => 0,
     }
 }
 
@@ -95,12 +87,13 @@ fn move_of(old: Fund, before: Figures, new: Fund, after: Figures) -> Move
     }
 }
 
-// The premium's move from the old fund's figures to the new one's.
-pub fn move_between(old: Fund, before: Figures, new: Fund, after: Figures) -> Moved
+// The premium's move from the old fund's figures to the new one's; of figures above the limits, none.
+pub fn move_between(old: Fund, before: Figures, new: Fund, after: Figures) -> Option<Move>
     ensures { result ≡ moved_of old before new after }
 {
-    if !is_inside(old, before) || !is_inside(new, after) {
-        return Moved::Outside;
+    if is_inside(old, before) && is_inside(new, after) {
+        Some(move_of(old, before, new, after))
+    } else {
+        None
     }
-    Moved::By(move_of(old, before, new, after))
 }

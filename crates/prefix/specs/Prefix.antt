@@ -3,7 +3,7 @@
 use Rattle.std.specs.Prelude.{◌≡◌, refl, List, [], ℕ, suc, ◌+◌, ◌≤◌, length, take, Err, Ok}
 use Rattle.std.proofs.Common.{sym, ◌∙◌, ap}
 use native.Mathlib.Omega.{arith}
-use Rattle.fund.specs.Verdict.{Verdict, refused_at}
+use Rattle.fund.specs.Verdict.{Verdict}
 use Rattle.fund.specs.Limits.{most_rates, most_members}
 use Rattle.fund.specs.Base.{bytes}
 use Rattle.fund.specs.Reading.{FundFile, Reading, read, stopped, header_lines, file_rows, reading}

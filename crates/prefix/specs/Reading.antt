@@ -8,7 +8,7 @@ use Rattle.fund.specs.declared.Fund.{Fund}
 use Rattle.fund.specs.declared.Rate.{Rate}
 use Rattle.fund.specs.declared.Member.{Member}
 use Rattle.fund.specs.declared.Refusal.TheVariants.{Form, Range}
-use Rattle.fund.specs.declared.Row.{Row}
+use Rattle.fund.specs.declared.SheetRow.{SheetRow}
 use Rattle.fund.specs.Limits.{most_rates, most_members}
 use Rattle.fund.specs.Base.{bytes}
 use Rattle.fund.specs.Lines.{Line}
@@ -132,7 +132,7 @@ module _ (after : ℕ → Fund → List Line → Reading) (enough : ℕ) (behind
 pub file_behind : (k : ℕ) (header : Fund) (n : ℕ) (xs ys : List Line) → Cut n xs ys → bytes_for (most_rates + most_members) ≤ n → file_rows k header xs ≡ file_rows k header ys
 file_behind k header n xs ys c room = rows_same k header [] [] c (record { few_rates = omega arith; few_members = omega arith; enough = omega arith })
 
-pub sheets_behind : (rows : List (Option Row)) (k : ℕ) (header : Fund) (n : ℕ) (xs ys : List Line) → Cut n xs ys → suc most_line ≤ n → read_sheets rows k header xs ≡ read_sheets rows k header ys
+pub sheets_behind : (rows : List (Option SheetRow)) (k : ℕ) (header : Fund) (n : ℕ) (xs ys : List Line) → Cut n xs ys → suc most_line ≤ n → read_sheets rows k header xs ≡ read_sheets rows k header ys
 unfolding read_sheets
 sheets_behind rows k header n xs ys over room = refl
 sheets_behind rows k header n xs ys (spent e) room = absurd (omega arith)

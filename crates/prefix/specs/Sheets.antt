@@ -1,20 +1,20 @@
 -- Reading stops at the 122nd rate row and at the 1,001st member row: the bytes behind them are not read (sheets_first).
 use Rattle.std.specs.Prelude.{◌≡◌, ℕ, suc, ◌+◌, ◌*◌, ◌≤◌, ◌<◌, length, take, None, Option}
 use Rattle.std.proofs.Math.Path.{refl}
-use Rattle.std.proofs.Common.{sym, ◌∙◌, ap, subst, arith}
+use Rattle.std.proofs.Common.{sym, ◌∙◌, ap, subst, arith, Some}
 use mathlib.Core.List.{List, [], ◌∷◌, ◌++◌, map, append_assoc}
 use Rattle.std.proofs.Math.ListN.{length-append}
 use Rattle.fund.specs.declared.Fund.{Fund}
 use Rattle.fund.specs.declared.Rate.{Rate}
 use Rattle.fund.specs.declared.Member.{Member}
 use Rattle.fund.specs.declared.Refusal.TheVariants.{Range}
-use Rattle.fund.specs.declared.Row.{Row}
-use Rattle.fund.specs.declared.Row.TheVariants.{Rate as RateRow, Member as MemberRow}
+use Rattle.fund.specs.declared.SheetRow.{SheetRow}
+use Rattle.fund.specs.declared.SheetRow.TheVariants.{Rate as RateRow, Member as MemberRow}
 use Rattle.fund.specs.Limits.{most_rates, most_members}
 use Rattle.fund.specs.Lines.{Line, lines}
 use Rattle.fund.specs.Reading.{stopped, header_lines, rate_in_range, member_in_range, read_header}
-use Rattle.fund.specs.SheetCells.{rate_width, member_width, rate_row_of, member_row_of}
-use Rattle.fund.specs.Sheets.{rows_of, sheet_rows, read_sheet_rows, read_sheets, sheet_reading}
+use Rattle.fund.specs.SheetCells.{rate_width, member_width}
+use Rattle.fund.specs.Sheets.{rows_of, sheet_rows, read_sheet_rows, read_sheets, sheet_reading, rate_row_in, member_row_in}
 use Rattle.laws.specs.Accepted.{All, all_front, all_of}
 use Rattle.laws.specs.PassedLines.{on_pass}
 use Rattle.laws.specs.Ranges.{rate_ok, member_ok}
@@ -22,9 +22,9 @@ use Rattle.laws.specs.SheetRows.{SameFirst, same, both, rows_first, map_first}
 use Rattle.laws.specs.TakenRows.{NoMember, NoRate, rate_row_lem, member_row_lem}
 
 -- ---- reading
-module _ (header : Fund) (x y : List (Option Row)) where
+module _ (header : Fund) (x y : List (Option SheetRow)) where
   -- Rate rows that are too many are not passed.
-  past_rates : (rows : List (Option Row)) (n : ℕ) (rates : List Rate) → All NoMember rows → length rates ≤ most_rates → most_rates < length rates + length rows →
+  past_rates : (rows : List (Option SheetRow)) (n : ℕ) (rates : List Rate) → All NoMember rows → length rates ≤ most_rates → most_rates < length rates + length rows →
       read_sheet_rows n header rates [] (rows ++ x) ≡ read_sheet_rows n header rates [] (rows ++ y)
   unfolding read_sheet_rows
   past_rates [] n rates k few many = absurd (omega arith)
@@ -34,7 +34,7 @@ module _ (header : Fund) (x y : List (Option Row)) where
       let more = length-append rates (r ∷ []) in
       on_pass (rate_in_range rates r) (stopped Range n) _ _ (λ t. past_rates rows (suc n) (rates ++ (r ∷ [])) k.1 (omega (arith, (rate_ok rates r t).0)) (omega arith))
 
-  past_members : (rows : List (Option Row)) (n : ℕ) (rates : List Rate) (members : List Member) → All NoRate rows → length members ≤ most_members → most_members < length members + length rows →
+  past_members : (rows : List (Option SheetRow)) (n : ℕ) (rates : List Rate) (members : List Member) → All NoRate rows → length members ≤ most_members → most_members < length members + length rows →
       read_sheet_rows n header rates members (rows ++ x) ≡ read_sheet_rows n header rates members (rows ++ y)
   unfolding read_sheet_rows
   past_members [] n rates members k few many = absurd (omega arith)
@@ -45,7 +45,7 @@ module _ (header : Fund) (x y : List (Option Row)) where
       on_pass (member_in_range members m) (stopped Range n) _ _ (λ t. past_members rows (suc n) rates (members ++ (m ∷ [])) k.1 (omega (arith, (member_ok members m t).0)) (omega arith))
 
   -- Rate rows are read alike before rows that are read alike.
-  behind_rates : (rows : List (Option Row)) (n : ℕ) (rates : List Rate) → All NoMember rows → ((k : ℕ) (rs : List Rate) → read_sheet_rows k header rs [] x ≡ read_sheet_rows k header rs [] y) →
+  behind_rates : (rows : List (Option SheetRow)) (n : ℕ) (rates : List Rate) → All NoMember rows → ((k : ℕ) (rs : List Rate) → read_sheet_rows k header rs [] x ≡ read_sheet_rows k header rs [] y) →
       read_sheet_rows n header rates [] (rows ++ x) ≡ read_sheet_rows n header rates [] (rows ++ y)
   unfolding read_sheet_rows
   behind_rates [] n rates k e = e n rates
@@ -54,7 +54,7 @@ module _ (header : Fund) (x y : List (Option Row)) where
   behind_rates (Some (RateRow r) ∷ rows) n rates k e = on_pass (rate_in_range rates r) (stopped Range n) _ _ (λ t. behind_rates rows (suc n) (rates ++ (r ∷ [])) k.1 e)
 
 module _ (n : ℕ) (header : Fund) where
-  rates_alike : (xs ys more : List (Option Row)) → All NoMember xs → SameFirst (suc most_rates) xs ys → read_sheet_rows n header [] [] (xs ++ more) ≡ read_sheet_rows n header [] [] (ys ++ more)
+  rates_alike : (xs ys more : List (Option SheetRow)) → All NoMember xs → SameFirst (suc most_rates) xs ys → read_sheet_rows n header [] [] (xs ++ more) ≡ read_sheet_rows n header [] [] (ys ++ more)
   rates_alike xs ys more k (same e) = ap (λ rows. read_sheet_rows n header [] [] (rows ++ more)) e
   rates_alike xs ys more k (both front x y d e h) =
       ap (λ rows. read_sheet_rows n header [] [] (rows ++ more)) d
@@ -63,7 +63,7 @@ module _ (n : ℕ) (header : Fund) where
       ∙ ap (read_sheet_rows n header [] []) (sym (append_assoc front y more))
       ∙ ap (λ rows. read_sheet_rows n header [] [] (rows ++ more)) (sym e)
 
-  members_alike : (xs ys : List (Option Row)) (rates : List Rate) → All NoRate xs → SameFirst (suc most_members) xs ys → read_sheet_rows n header rates [] xs ≡ read_sheet_rows n header rates [] ys
+  members_alike : (xs ys : List (Option SheetRow)) (rates : List Rate) → All NoRate xs → SameFirst (suc most_members) xs ys → read_sheet_rows n header rates [] xs ≡ read_sheet_rows n header rates [] ys
   members_alike xs ys rates k (same e) = ap (read_sheet_rows n header rates []) e
   members_alike xs ys rates k (both front x y d e h) =
       ap (read_sheet_rows n header rates []) d

@@ -1,5 +1,6 @@
 -- The fund that is read and matched: where reading stops, so does the call (stops); the horizon (horizon_read); the tables are matched as the file that
 -- was read (read_matched); and what 3 to 6 answer of it, with its model points (matched_verdict, matched_points).
+use Rattle.std.specs.Prelude.{Err, Ok}
 use mathlib.Core.Path.{◌≡◌, refl, sym, ◌∙◌, ap, ap₂}
 use mathlib.Core.List.{List}
 use Prim.Native.Nat.{ℕ, ◌≤◌}
@@ -9,8 +10,7 @@ use lib.ListN.{length, take, length-map}
 use Rattle.fund.specs.declared.Fund.{Fund}
 use Rattle.fund.specs.declared.ModelPoint.{ModelPoint}
 use Rattle.fund.specs.declared.Refusal.{Refusal}
-use Rattle.fund.specs.declared.Verdict.{Verdict}
-use Rattle.fund.specs.declared.Verdict.TheVariants.{Accepted, Refused}
+use Rattle.fund.specs.Verdict.{Verdict, refused_at}
 use Rattle.fund.specs.Limits.{most_rates, most_members}
 use Rattle.fund.specs.Reading.{FundFile, Reading, read, stopped}
 use Rattle.fund.specs.Folding.{point, points}
@@ -26,16 +26,16 @@ use Rattle.pricing.specs.Priced.{MatchedFund}
 
 -- ---- what was read
 module _ (r : Reading) (found : FileRead) (e : found ≡ file_read r) where
-  pub stops : (why : Refusal) (place : ℕ) → found.verdict ≡ Refused why place → (x : Reading) → r ≡ x → r ≡ stopped why place
+  pub stops : (why : Refusal) (place : ℕ) → found.verdict ≡ refused_at why place → (x : Reading) → r ≡ x → r ≡ stopped why place
   unfolding file_read
   stops why place v (read fund) z =
       let w : found ≡ file_read (read fund) = e ∙ ap file_read z in
-      let u : Accepted ≡ Refused why place = sym (ap (λ (x : FileRead). x.verdict) w) ∙ v in
+      let u : (Ok tt) ≡ refused_at why place = sym (ap (λ (x : FileRead). x.verdict) w) ∙ v in
       let n : ◌≡◌ {A = ℕ} 0 1 = cc in
       absurd (omega arith)
   stops why place v (stopped why' place') z =
       let w : found ≡ file_read (stopped why' place') = e ∙ ap file_read z in
-      let u : Refused why' place' ≡ Refused why place = sym (ap (λ (x : FileRead). x.verdict) w) ∙ v in
+      let u : refused_at why' place' ≡ refused_at why place = sym (ap (λ (x : FileRead). x.verdict) w) ∙ v in
       z ∙ cc
 
   -- the horizon of what was read, 0 where reading stopped
@@ -58,7 +58,7 @@ module _ (r : Reading) (found : FileRead) (e : found ≡ file_read r) where
         rows_back blank_member most_members fund.members,
       )
 
-  matched_fund : ((fund : FundFile) → r ≡ read fund → FundOk fund) → (m : Matched) → m ≡ matched_rows found → found.verdict ≡ Accepted → (x : Reading) → r ≡ x → MatchedFund r found.fund m found.enrolled
+  matched_fund : ((fund : FundFile) → r ≡ read fund → FundOk fund) → (m : Matched) → m ≡ matched_rows found → found.verdict ≡ Ok tt → (x : Reading) → r ≡ x → MatchedFund r found.fund m found.enrolled
   unfolding file_read
   matched_fund inside m k v (read fund) z =
       let w : found ≡ file_read (read fund) = e ∙ ap file_read z in
@@ -72,31 +72,31 @@ module _ (r : Reading) (found : FileRead) (e : found ≡ file_read r) where
       }
   matched_fund inside m k v (stopped why place) z =
       let w : found ≡ file_read (stopped why place) = e ∙ ap file_read z in
-      let u : Refused why place ≡ Accepted = sym (ap (λ (x : FileRead). x.verdict) w) ∙ v in
+      let u : refused_at why place ≡ Ok tt = sym (ap (λ (x : FileRead). x.verdict) w) ∙ v in
       let n : ◌≡◌ {A = ℕ} 0 1 = cc in
       absurd (omega arith)
 
-  pub read_matched : ((fund : FundFile) → r ≡ read fund → FundOk fund) → (m : Matched) → m ≡ matched_rows found → found.verdict ≡ Accepted → MatchedFund r found.fund m found.enrolled
+  pub read_matched : ((fund : FundFile) → r ≡ read fund → FundOk fund) → (m : Matched) → m ≡ matched_rows found → found.verdict ≡ Ok tt → MatchedFund r found.fund m found.enrolled
   read_matched inside m k v = matched_fund inside m k v r refl
 
 -- ---- what 3 to 6 answered
 verdict_with : (ps : List ModelPoint) (v : Verdict) → (with_points ps v).verdict ≡ v
 unfolding with_points
-verdict_with ps Accepted = refl
-verdict_with ps (Refused why place) = refl
+verdict_with ps (Ok tt) = refl
+verdict_with ps (Err stop) = refl
 
 module _ (r : Reading) (fund : Fund) (m : Matched) (enrolled : ℕ) (k : MatchedFund r fund m enrolled) where
-  pub matched_verdict : m.verdict ≡ matched k.of Accepted
+  pub matched_verdict : m.verdict ≡ matched k.of (Ok tt)
   unfolding matching
-  matched_verdict = ap (λ (x : Matched). x.verdict) k.matched ∙ verdict_with (points k.of) (matched k.of Accepted)
+  matched_verdict = ap (λ (x : Matched). x.verdict) k.matched ∙ verdict_with (points k.of) (matched k.of (Ok tt))
 
   pub few_enrolled : enrolled ≤ most_members
   few_enrolled = omega (arith, k.members, k.ok.rows.few_members)
 
-  pub matched_points : m.verdict ≡ Accepted → take enrolled m.points ≡ points k.of
+  pub matched_points : m.verdict ≡ Ok tt → take enrolled m.points ≡ points k.of
   unfolding matching with_points point_table points
   matched_points v =
-      let w : matched k.of Accepted ≡ Accepted = sym matched_verdict ∙ v in
-      let t : m ≡ with_points (points k.of) Accepted = k.matched ∙ ap (with_points (points k.of)) w in
+      let w : matched k.of (Ok tt) ≡ Ok tt = sym matched_verdict ∙ v in
+      let t : m ≡ with_points (points k.of) (Ok tt) = k.matched ∙ ap (with_points (points k.of)) w in
       let n : enrolled ≡ length (points k.of) = k.members ∙ sym (length-map k.of.members (point k.of.rates)) in
       ap₂ (λ (c : ℕ) (x : Matched). take c x.points) n t ∙ rows_back blank_point most_members (points k.of)

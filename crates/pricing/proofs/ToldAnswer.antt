@@ -1,13 +1,14 @@
 -- What is told of a valuation is the answer to what was read (tells_read). An answer of the definition's meets the contract of a call, demand 3, the answer at the level and the gross premium's cover included (prices); and the line that is handed back
 -- (line_inside, line_outside, line_reversed).
+use Rattle.std.specs.Prelude.{Err}
 use mathlib.Core.Path.{◌≡◌, refl, sym, ◌∙◌, ap, subst}
 use mathlib.Core.List.{List, []}
 use Prim.Native.Nat.{ℕ, ◌-◌, ◌≤◌, ◌<◌}
 use borrow.Author.Tests.{le-leb, lt-leb}
 use lib.IntN.{ℤ}
 use lib.ListN.{length, take, drop}
+use Rattle.fund.specs.Verdict.{refused_at}
 use Rattle.fund.specs.declared.Refusal.{Refusal}
-use Rattle.fund.specs.declared.Verdict.TheVariants.{Refused}
 use Rattle.fund.specs.Reading.{FundFile, Reading, read}
 use Rattle.fund.specs.Refusals.{Lengths}
 use Rattle.fund.specs.Quantile.{quantile_of}
@@ -24,7 +25,7 @@ use Rattle.pricing.specs.declared.Priced.{Priced}
 use Rattle.pricing.specs.Priced.{left_priced, lined, horizon_with, Told, read_answer, PricesRead, Answers, Prices, line_of}
 
 -- no horizon is told of a refusal
-pub refused_horizon : (a : Answer) (n : Lengths) (why : Refusal) (place X : ℕ) → a ≡ refused [] n (Refused why place) → horizon_with a.verdict 0 ≡ horizon_with a.verdict X
+pub refused_horizon : (a : Answer) (n : Lengths) (why : Refusal) (place X : ℕ) → a ≡ refused [] n (refused_at why place) → horizon_with a.verdict 0 ≡ horizon_with a.verdict X
 unfolding refused
 refused_horizon a n why place X e = rw e refl
 

@@ -1,4 +1,5 @@
 -- The answer of a fund that is read, from the refusals 3 to 6 (matched_answers) and from the valuation (valued_answers).
+use Rattle.std.specs.Prelude.{Err, Ok}
 use mathlib.Core.Path.{◌≡◌, refl, sym, ◌∙◌, ap, subst}
 use mathlib.Core.List.{List, []}
 use Prim.Native.Nat.{ℕ, ◌≤◌}
@@ -6,8 +7,7 @@ use borrow.Author.Tests.{ltb-false}
 use Rattle.fund.specs.declared.Fund.{Fund}
 use Rattle.fund.specs.declared.ModelPoint.{ModelPoint}
 use Rattle.fund.specs.declared.Refusal.{Refusal}
-use Rattle.fund.specs.declared.Verdict.{Verdict}
-use Rattle.fund.specs.declared.Verdict.TheVariants.{Accepted, Refused}
+use Rattle.fund.specs.Verdict.{Verdict, refused_at}
 use Rattle.fund.specs.Limits.{most_members}
 use Rattle.fund.specs.Reading.{FundFile, Reading, read}
 use Rattle.fund.specs.Folding.{points, copies, lives}
@@ -24,20 +24,20 @@ use Rattle.pricing.specs.JoinedSteps.{points_in, answer_matched, answer_valued}
 use Rattle.pricing.specs.Priced.{lined}
 
 -- With its line, what a refusal or a valuation leaves is the answer of a verdict.
-pub lined_refused : (text : List ℕ) (n : Lengths) (why : Refusal) (place : ℕ) → lined text (refused [] n (Refused why place)) ≡ refused text n (Refused why place)
+pub lined_refused : (text : List ℕ) (n : Lengths) (why : Refusal) (place : ℕ) → lined text (refused [] n (refused_at why place)) ≡ refused text n (refused_at why place)
 unfolding refused
 lined_refused text n why place = refl
 
 lined_outcome : (text : List ℕ) (n : Lengths) (fund : FundFile) (v : Verdict) → lined text (outcome fund.header (lives fund) n v) ≡ answer_of text n fund v
 unfolding answer_of accepted part
-lined_outcome text n fund Accepted = refl
-lined_outcome text n fund (Refused why place) = lined_refused text n why place
+lined_outcome text n fund (Ok tt) = refl
+lined_outcome text n fund (Err stop) = lined_refused text n stop.why stop.place
 
 module _ (text : List ℕ) (n : Lengths) (r : Reading) (fund : FundFile) (is : r ≡ read fund) where
-  pub matched_answers : (v : Verdict) (why : Refusal) (place : ℕ) (a : Answer) → v ≡ matched fund Accepted → v ≡ Refused why place → a ≡ refused [] n (Refused why place) → lined text a ≡ answer_to text n r
+  pub matched_answers : (v : Verdict) (why : Refusal) (place : ℕ) (a : Answer) → v ≡ matched fund (Ok tt) → v ≡ refused_at why place → a ≡ refused [] n (refused_at why place) → lined text a ≡ answer_to text n r
   matched_answers v why place a e w k = ap (lined text) k ∙ lined_refused text n why place ∙ sym (answer_matched text n r fund is why place (sym e ∙ w))
 
-  module _ (ok : FundOk fund) (ps : List ModelPoint) (m : matched fund Accepted ≡ Accepted) (same : ps ≡ points fund) where
+  module _ (ok : FundOk fund) (ps : List ModelPoint) (m : matched fund (Ok tt) ≡ Ok tt) (same : ps ≡ points fund) where
     in_range : Points ps
     in_range = subst (λ (qs : List ModelPoint). Points qs) (sym same) (points_in fund ok m)
 

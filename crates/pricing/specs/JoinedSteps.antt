@@ -1,17 +1,15 @@
 -- What joins the steps of a pricing call: a fund that is read and matched has model points in their ranges (points_in); refusals 3 to 6
 -- come before what follows them (matched_first); the answer of a call from the answers of its steps (answer_stopped,
 -- answer_matched, answer_valued); and its answer at the level, by the definitions (told_horizon, quantile_is).
-use Rattle.std.specs.Prelude.{◌≡◌, refl, Bool, true, false, List, [], ◌∷◌, map, ℕ, ◌+◌, ◌≤◌, eqb, ℤ, if◌then◌else◌}
+use Rattle.std.specs.Prelude.{◌≡◌, refl, Bool, true, false, List, [], ◌∷◌, map, ℕ, ◌+◌, ◌≤◌, eqb, ℤ, if◌then◌else◌, Err, None, Ok, Option, Some}
 use Rattle.std.proofs.Common.{◌∙◌, arith}
 use Rattle.std.proofs.Math.Path.{ap}
-use Rattle.std.proofs.Math.Option.{Option, none, some}
 use Rattle.fund.specs.declared.Rate.{Rate}
 use Rattle.fund.specs.declared.Member.{Member}
 use Rattle.fund.specs.declared.ModelPoint.{ModelPoint}
 use Rattle.fund.specs.declared.Refusal.{Refusal}
 use Rattle.fund.specs.declared.Refusal.TheVariants.{Edition, Deductible, Unmatched, Half}
-use Rattle.fund.specs.declared.Verdict.{Verdict}
-use Rattle.fund.specs.declared.Verdict.TheVariants.{Accepted, Refused}
+use Rattle.fund.specs.Verdict.{Verdict, refused_at}
 use Rattle.fund.specs.Limits.{most_rate}
 use Rattle.fund.specs.Reading.{FundFile, Reading, read, stopped}
 use Rattle.fund.specs.Folding.{rate_in_force, folded, life, point, points, lives}
@@ -29,9 +27,9 @@ use Rattle.pricing.specs.declared.Priced.{Priced}
 use Rattle.pricing.specs.Priced.{left_priced, horizon_with, Answers}
 
 -- ---- model points in their ranges
-folded_in : (o : Option Rate) (m : Member) → ((r : Rate) → o ≡ some r → RateOk r) → MemberOk m → Limited (folded o m) → InRange (folded o m)
+folded_in : (o : Option Rate) (m : Member) → ((r : Rate) → o ≡ Some r → RateOk r) → MemberOk m → Limited (folded o m) → InRange (folded o m)
 unfolding folded
-folded_in none m k ok c =
+folded_in None m k ok c =
     record {
       group_least = ok.group_least;
       group_most = ok.group_most;
@@ -42,7 +40,7 @@ folded_in none m k ok c =
       no_death = λ h. refl;
       no_disability = λ h. refl;
     }
-folded_in (some r) m k ok c =
+folded_in (Some r) m k ok c =
     record {
       group_least = ok.group_least;
       group_most = ok.group_most;
@@ -68,7 +66,7 @@ members_in rates (m ∷ ms) k ok c = (
   members_in rates ms k ok.1 c.1,
 )
 
-pub points_in : (file : FundFile) → FundOk file → matched file Accepted ≡ Accepted → Points (points file)
+pub points_in : (file : FundFile) → FundOk file → matched file (Ok tt) ≡ Ok tt → Points (points file)
 unfolding matched points
 points_in file ok e =
     let e3 = refuse_accepted _ _ _ e in
@@ -82,22 +80,22 @@ points_in file ok e =
 
 -- ---- refusals 3 to 6, then the rest
 abbrev pub then_verdict : Verdict → Verdict → Verdict
-then_verdict Accepted v = v
-then_verdict (Refused why place) v = Refused why place
+then_verdict (Ok tt) v = v
+then_verdict (Err stop) v = Err stop
 
 refuse_after : (why : Refusal) (o : Option ℕ) (u v : Verdict) → refuse why o (then_verdict u v) ≡ then_verdict (refuse why o u) v
 unfolding refuse
-refuse_after why none u v = refl
-refuse_after why (some place) u v = refl
+refuse_after why None u v = refl
+refuse_after why (Some place) u v = refl
 
-pub matched_first : (file : FundFile) (v : Verdict) → matched file v ≡ then_verdict (matched file Accepted) v
+pub matched_first : (file : FundFile) (v : Verdict) → matched file v ≡ then_verdict (matched file (Ok tt)) v
 unfolding matched
 matched_first file v =
-    ap (refuse Edition _) (ap (refuse Deductible _) (ap (refuse Unmatched _) (refuse_after Half _ Accepted v) ∙ refuse_after Unmatched _ _ v) ∙ refuse_after Deductible _ _ v)
+    ap (refuse Edition _) (ap (refuse Deductible _) (ap (refuse Unmatched _) (refuse_after Half _ (Ok tt) v) ∙ refuse_after Unmatched _ _ v) ∙ refuse_after Deductible _ _ v)
     ∙ refuse_after Edition _ _ v
 
 -- ---- the answer of a call
-pub answer_stopped : (text : List ℕ) (n : Lengths) (r : Reading) (why : Refusal) (place : ℕ) → r ≡ stopped why place → answer_to text n r ≡ refused text n (Refused why place)
+pub answer_stopped : (text : List ℕ) (n : Lengths) (r : Reading) (why : Refusal) (place : ℕ) → r ≡ stopped why place → answer_to text n r ≡ refused text n (refused_at why place)
 unfolding answer_to
 answer_stopped text n r why place e = ap (answer_to text n) e
 
@@ -105,19 +103,19 @@ module _ (text : List ℕ) (n : Lengths) (r : Reading) (fund : FundFile) (e : r 
   abbrev rest : Verdict
   rest = valued fund.header (lives fund) n (fund_cells fund.header (lives fund))
 
-  pub answer_matched : (why : Refusal) (place : ℕ) → matched fund Accepted ≡ Refused why place → answer_to text n r ≡ refused text n (Refused why place)
+  pub answer_matched : (why : Refusal) (place : ℕ) → matched fund (Ok tt) ≡ refused_at why place → answer_to text n r ≡ refused text n (refused_at why place)
   unfolding answer_to answer_of verdict
   answer_matched why place m = ap (answer_to text n) e ∙ ap (answer_of text n fund) (matched_first fund rest ∙ ap (λ u. then_verdict u rest) m)
 
-  pub answer_valued : matched fund Accepted ≡ Accepted → answer_to text n r ≡ answer_of text n fund (valued fund.header (lives fund) n (fund_cells fund.header (lives fund)))
+  pub answer_valued : matched fund (Ok tt) ≡ Ok tt → answer_to text n r ≡ answer_of text n fund (valued fund.header (lives fund) n (fund_cells fund.header (lives fund)))
   unfolding answer_to verdict
   answer_valued m = ap (answer_to text n) e ∙ ap (answer_of text n fund) (matched_first fund rest ∙ ap (λ u. then_verdict u rest) m)
 
 -- ---- the answer at the level
 -- of a refusal the horizon does not count
 pub told_horizon : (level X : ℕ) (F : List ℤ) (v : Verdict) → quantile_of level (horizon_with v X) F v ≡ quantile_of level X F v
-told_horizon level X F Accepted = refl
-told_horizon level X F (Refused why place) = refl
+told_horizon level X F (Ok tt) = refl
+told_horizon level X F (Err stop) = refl
 
 pub quantile_is : {text : List ℕ} {r : Reading} {level : ℕ} {p : Priced} {D : List ℤ} {H : List ℕ} {f : List ℤ} {R : List ℕ} {F : List ℤ} {is : Answer} → Answers text r level p (left_priced p D H f R F) is →
     p.quantile ≡ quantile_of level (horizon_in r) is.F is.verdict

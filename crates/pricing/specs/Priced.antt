@@ -1,10 +1,9 @@
 -- What a pricing call leaves: the answer of the method; of every fund that it accepts, demand 3, what the answer at the level says of the exact
 -- distribution function, and what the gross premium covers.
-use Rattle.std.specs.Prelude.{◌≡◌, ◌&&◌, List, [], ℕ, ◌-◌, ◌≤◌, leb, ℤ, length, take, drop, if◌then◌else◌}
+use Rattle.std.specs.Prelude.{◌≡◌, ◌&&◌, List, [], ℕ, ◌-◌, ◌≤◌, leb, ℤ, length, take, drop, if◌then◌else◌, Err, Ok}
 use Rattle.fund.specs.declared.Fund.{Fund}
 use Rattle.fund.specs.declared.ModelPoint.{ModelPoint}
-use Rattle.fund.specs.declared.Verdict.{Verdict}
-use Rattle.fund.specs.declared.Verdict.TheVariants.{Accepted, Refused}
+use Rattle.fund.specs.Verdict.{Verdict, refused_at}
 use Rattle.fund.specs.Limits.{most_level}
 use Rattle.fund.specs.Reading.{FundFile, Reading, read}
 use Rattle.fund.specs.Refusals.{Lengths}
@@ -36,8 +35,8 @@ left_priced p d h f r s =
 
 -- The horizon is told of a fund that is accepted.
 abbrev pub horizon_with : Verdict → ℕ → ℕ
-horizon_with Accepted X = X
-horizon_with (Refused why place) X = 0
+horizon_with (Ok tt) X = X
+horizon_with (Err stop) X = 0
 
 -- What is left is the answer, its part lies in the text, the horizon is that of what was read, and the answer at the level is that of the sums that
 -- are left.
@@ -54,10 +53,10 @@ pub record Answers (text : List ℕ) (r : Reading) (level : ℕ) (p : Priced) (a
 -- never below the exact premium's loaded worth; and with lambda 0 the exact premium is the average excess over M. The reading is that of a file, whose text it is, or that of a header text and two sheets.
 pub record Prices (text : List ℕ) (r : Reading) (level : ℕ) (n : Lengths) (p : Priced) (a : Answer) : Type 0 where
   pub answers : Answers text r level p a (answer_to text n r)
-  pub distance : (fund : FundFile) → r ≡ read fund → a.verdict ≡ Accepted → WithinBounds fund a
-  pub level_within : (fund : FundFile) → r ≡ read fund → a.verdict ≡ Accepted → level ≤ most_level → QuantileWithin fund a level p.quantile
-  pub never_below : (fund : FundFile) → r ≡ read fund → a.verdict ≡ Accepted → NeverBelow fund a
-  pub average : (fund : FundFile) → r ≡ read fund → a.verdict ≡ Accepted → AverageExcess fund
+  pub distance : (fund : FundFile) → r ≡ read fund → a.verdict ≡ Ok tt → WithinBounds fund a
+  pub level_within : (fund : FundFile) → r ≡ read fund → a.verdict ≡ Ok tt → level ≤ most_level → QuantileWithin fund a level p.quantile
+  pub never_below : (fund : FundFile) → r ≡ read fund → a.verdict ≡ Ok tt → NeverBelow fund a
+  pub average : (fund : FundFile) → r ≡ read fund → a.verdict ≡ Ok tt → AverageExcess fund
 
 -- Reading gave a fund, in its ranges, whose header and members these are, and whose refusals 3 to 6 and model points were found.
 pub record MatchedFund (r : Reading) (fund : Fund) (m : Matched) (enrolled : ℕ) : Type 0 where
@@ -74,16 +73,16 @@ lined text a = record { verdict = a.verdict; part = part text a.verdict; figures
 
 -- Where 3 to 6 stopped, their refusal; else what the valuation of the first model points leaves.
 abbrev pub valued_by : Fund → List ModelPoint → ℕ → Lengths → Verdict → Answer
-valued_by fund points enrolled n Accepted = valuation fund enrolled (take enrolled points) n
-valued_by fund points enrolled n (Refused why place) = refused [] n (Refused why place)
+valued_by fund points enrolled n (Ok tt) = valuation fund enrolled (take enrolled points) n
+valued_by fund points enrolled n (Err stop) = refused [] n (Err stop)
 
 abbrev pub valued_of : Fund → Matched → ℕ → Lengths → Answer
 valued_of fund m enrolled n = valued_by fund m.points enrolled n m.verdict
 
 -- Where reading stopped, its refusal; else what 3 to 6 and the valuation answer of the tables, with the line of the verdict.
 abbrev pub read_by : List ℕ → FileRead → Lengths → Verdict → Answer
-read_by text found n Accepted = lined text (valued_of found.fund (matched_rows found) found.enrolled n)
-read_by text found n (Refused why place) = refused text n (Refused why place)
+read_by text found n (Ok tt) = lined text (valued_of found.fund (matched_rows found) found.enrolled n)
+read_by text found n (Err stop) = refused text n (Err stop)
 
 abbrev pub read_answer : List ℕ → FileRead → Lengths → Answer
 read_answer text found n = read_by text found n found.verdict

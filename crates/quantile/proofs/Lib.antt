@@ -1,1 +1,2 @@
 mod ReachedLevel
+mod FirstPlace

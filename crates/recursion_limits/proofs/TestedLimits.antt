@@ -3,21 +3,23 @@ use mathlib.Core.Path.{◌≡◌, refl, sym, ◌∙◌, ap, subst}
 use mathlib.Core.Bool.{Bool, true, false, true≢false, ◌&&◌, ◌||◌, or-true}
 use mathlib.Core.Logic.{⊎_elim}
 use mathlib.Core.List.{List, [], ◌∷◌}
-use mathlib.Core.Option.{none, some}
 use Prim.Native.Nat.{ℕ, suc, ◌+◌, ◌<◌, ◌≤◌}
 use native.Mathlib.Nat.{eq-or-lt_of_le, le_of_suc-le-suc}
+use native.Mathlib.Numerals.{add-one}
 use native.Mathlib.Omega.{arith}
-use borrow.Author.Tests.{lt-ltb, le-ltb, leb-true, leb-false}
+use borrow.Author.Tests.{lt-ltb, lt-leb, le-ltb, leb-true, leb-false}
 use lib.Dec.{leb, ltb}
-use lib.IntN.{ℤ, nat_abs}
+use lib.IntN.{ℤ, pos, nat_abs}
 use lib.ListN.{length, get_or}
+use Rattle.std.proofs.Common.{Some, None, Ok, Err}
 use Rattle.fund.specs.Limits.{most_horizon, most_bound}
 use Rattle.fund.specs.Recursion.{Cell}
 use Rattle.fund.specs.Refusals.{wide, any_short}
 use Rattle.laws.specs.Accepted.{all_long}
 use Rattle.laws.specs.Valued.{first_none_of, first_some_of, narrow_cell}
-use Rattle.recursion_limits.specs.declared.Recursed.TheVariants.{Done, Short, Outside}
+use Rattle.recursion_limits.specs.declared.Broken.TheVariants.{Short, Outside}
 use Rattle.recursion_limits.specs.Limits.{sizes, most_transform, most_error, most_cell, CellFits}
+use Rattle.recursion_limits.proofs.PartialSums.{sum_n_grow}
 use Rattle.recursion_limits.specs.Tests.{large, error_at, sum_or_start, tested, Kept}
 
 pub small_cell : (y : Cell) → CellFits y → large y ≡ false
@@ -29,38 +31,46 @@ module _ (h : List ℕ) where
   pub errors_more : (k : ℕ) → ((j : ℕ) → j < k → get_or h (suc j) 0 ≤ most_error) → get_or h (suc k) 0 ≤ most_error → (j : ℕ) → j < suc k → get_or h (suc j) 0 ≤ most_error
   errors_more k i b j l = ⊎_elim (λ e. subst (λ n. get_or h (suc n) 0 ≤ most_error) (sym e) b) (λ g. i j g) (eq-or-lt_of_le (le_of_suc-le-suc l))
 
-  pub error_found : (X k : ℕ) → k < X → ((j : ℕ) → j < k → get_or h (suc j) 0 ≤ most_error) → most_error < get_or h (suc k) 0 → error_at X h ≡ some (suc k)
+  pub error_found : (X k : ℕ) → k < X → ((j : ℕ) → j < k → get_or h (suc j) 0 ≤ most_error) → most_error < get_or h (suc k) 0 → error_at X h ≡ Some (suc k)
   unfolding error_at
   error_found X k l i m =
       first_some_of (ltb most_error) 1 X k (λ j. get_or h (suc j) 0) l (λ j g. le-ltb _ _ (i j g)) (lt-ltb _ _ m)
-      ∙ ap some (let e : 1 + k ≡ suc k = omega arith in e)
+      ∙ ap Some (let e : 1 + k ≡ suc k = omega arith in e)
 
-  pub error_none : (X : ℕ) → ((j : ℕ) → j < X → get_or h (suc j) 0 ≤ most_error) → error_at X h ≡ none
+  pub error_none : (X : ℕ) → ((j : ℕ) → j < X → get_or h (suc j) 0 ≤ most_error) → error_at X h ≡ None
   unfolding error_at
   error_none X i = first_none_of (ltb most_error) 1 X (λ j. get_or h (suc j) 0) (λ j g. le-ltb _ _ (i j g))
 
+-- ---- the sum of |D(k)|: the limit is passed where less is left than the next size
+pub sizes_above : (d : List ℤ) (X k left size : ℕ) → k < X → left + sizes d k ≡ most_transform → size ≡ nat_abs (get_or d (k + 1) (pos 0)) → left < size →
+    false ≡ leb (sizes d X) most_transform
+sizes_above d X k left size h e s l =
+    let g = sum_n_grow (λ j. nat_abs (get_or d (suc j) (pos 0))) (suc k) X (omega arith) in
+    let n = rw add-one at s in
+    sym (lt-leb (sizes d X) most_transform (omega (arith, n)))
+
 -- ---- the answers
 module _ (X : ℕ) (d : List ℤ) (h : List ℕ) (start : Cell) (nf nr : ℕ) where
-  pub tested_horizon : most_horizon < X → tested X d h start nf nr ≡ Outside 0
+  pub tested_horizon : most_horizon < X → tested X d h start nf nr ≡ Err (Outside 0)
   unfolding tested
   tested_horizon l = rw (lt-ltb _ _ l)
 
   module _ (l : X ≤ most_horizon) where
-    pub tested_short : any_short (length d ∷ length h ∷ nf ∷ nr ∷ []) X ≡ true → tested X d h start nf nr ≡ Short
+    pub tested_short : any_short (length d ∷ length h ∷ nf ∷ nr ∷ []) X ≡ true → tested X d h start nf nr ≡ Err Short
     unfolding tested
     tested_short s = rw (le-ltb _ _ l, s)
 
     module _ (s : any_short (length d ∷ length h ∷ nf ∷ nr ∷ []) X ≡ false) where
-      pub tested_error : (k : ℕ) → error_at X h ≡ some k → tested X d h start nf nr ≡ Outside k
+      pub tested_error : (k : ℕ) → error_at X h ≡ Some k → tested X d h start nf nr ≡ Err (Outside k)
       unfolding tested
       tested_error k e = rw (le-ltb _ _ l, s, e)
 
-      module _ (e : error_at X h ≡ none) where
-        pub tested_start : sum_or_start X d start ≡ true → tested X d h start nf nr ≡ Outside 0
+      module _ (e : error_at X h ≡ None) where
+        pub tested_start : sum_or_start X d start ≡ true → tested X d h start nf nr ≡ Err (Outside 0)
         unfolding tested
         tested_start m = rw (le-ltb _ _ l, s, e, m)
 
-pub tested_kept : (X : ℕ) (d : List ℤ) (h : List ℕ) (start : Cell) (nf nr : ℕ) → Kept X d h start nf nr → tested X d h start nf nr ≡ Done
+pub tested_kept : (X : ℕ) (d : List ℤ) (h : List ℕ) (start : Cell) (nf nr : ℕ) → Kept X d h start nf nr → tested X d h start nf nr ≡ Ok tt
 unfolding tested sum_or_start
 tested_kept X d h start nf nr k =
     rw (

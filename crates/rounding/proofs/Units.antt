@@ -1,28 +1,26 @@
 -- A product of q units and l, over n units, is q / n or one more, by what `Rest` says of its rest.
 -- The quotient q fits a word, so the product is below 2^64 units.
-use mathlib.Core.Bool.{Bool, true}
 use mathlib.Core.Path.{◌≡◌, ◌∙◌, ap}
 use Prim.Native.Nat.{ℕ, ◌+◌, ◌*◌, ◌/◌, ◌%◌, ◌^◌, ◌<◌, ◌≤◌, zero-le}
 use native.Mathlib.Nat as N
 use native.Mathlib.Omega.{arith}
-use Rattle.rounding.specs.Division.{Divided}
 use Rattle.rounding.specs.Rounding.{near}
 use Rattle.rounding.specs.Word.{largest, word, scaled}
 use Rattle.rounding.proofs.Rest.{near_rest_low, near_rest_high, by_units, rest_below, half_low, half_high}
 use Rattle.rounding.proofs.Word.{near_rounds, scaled_few, word_is}
 
-module _ {p unit q l : ℕ} {fits : Bool} (d : Divided p unit q l fits) (t : fits ≡ true) (n : ℕ) (k : 0 < n) (g : q ≤ largest) where
+module _ {p unit q l : ℕ} (d : (p ≡ q * unit + l) × (l < unit)) (n : ℕ) (k : 0 < n) (g : q ≤ largest) where
   positive : 0 < unit
-  positive = N.lt_of_le_of_lt zero-le d.below
+  positive = N.lt_of_le_of_lt zero-le d.1
 
   few : p < 2 ^ 64 * unit
-  few = omega (arith, N.mul-le-mul_right unit g, d.whole t, d.below)
+  few = omega (arith, N.mul-le-mul_right unit g, d.0, d.1)
 
   split : p ≡ q / n * (n * unit) + (q % n * unit + l)
-  split = by_units p q l n unit (d.whole t)
+  split = by_units p q l n unit (d.0)
 
   below : q % n * unit + l < n * unit
-  below = rest_below (q % n) l n unit (N.mod-lt q k) d.below
+  below = rest_below (q % n) l n unit (N.mod-lt q k) d.1
 
   quotient_is : word (q / n) ≡ q / n
   quotient_is = word_is (q / n) (N.le_trans (N.div-le_self q n) g)

@@ -1,9 +1,11 @@
--- What holds of a row behind others: its line's place, whether it is in range, and what reading it settles.
-use Rattle.std.specs.Prelude.{◌≡◌, Bool, ◌&&◌, List, [], ◌∷◌, ℕ, suc, ◌+◌, leb, ltb, length}
+-- What holds of a row behind others: its line's place, whether it is in range, and the rows with it.
+use Rattle.std.specs.Prelude.{Bool, true, false, ◌&&◌, List, [], ◌∷◌, ◌++◌, ℕ, suc, ◌+◌, leb, ltb, length, Ok, if◌then◌else◌}
 use Rattle.fund.specs.declared.Rate.{Rate}
 use Rattle.fund.specs.declared.Member.{Member}
 use Rattle.fund.specs.Limits.{most_rates, most_age, most_rate, most_members, least_group, most_group, most_amount, least_lives, most_lives}
-use Rattle.fund.specs.Reading.{Reading, between, header_lines, lives_in_all}
+use Rattle.fund.specs.declared.Refusal.TheVariants.{Range}
+use Rattle.fund.specs.Verdict.{Verdict, refused_at}
+use Rattle.fund.specs.Reading.{between, header_lines, rate_in_range, member_in_range}
 
 -- The place of the line behind the header and so many rows.
 abbrev pub line_place : ℕ → ℕ → ℕ
@@ -35,17 +37,13 @@ member_fits enrolled lives m =
     && between least_lives most_lives m.lives
     && leb (lives + m.lives) most_lives
 
--- Rows of these counts; the next is of the least age or above it, behind so many lives.
-pub record Counted (rs : List Rate) (ms : List Member) (rated enrolled least lives : ℕ) : Type 0 where
-  pub rated_is : length rs ≡ rated
-  pub enrolled_is : length ms ≡ enrolled
-  pub least_is : least_age rs ≡ least
-  pub lives_are : lives_in_all ms ≡ lives
+-- Where a row behind others is in range, it is added to them; else range stops at its line.
+abbrev pub in_range_or : Bool → ℕ → Verdict
+in_range_or true line = Ok tt
+in_range_or false line = refused_at Range line
 
--- The reading behind rows.
-abbrev pub Behind : Type 0
-Behind = List Rate → List Member → Reading
+abbrev pub rates_with : List Rate → Rate → List Rate
+rates_with rs r = if rate_in_range rs r then rs ++ (r ∷ []) else rs
 
--- One reading leads to another, behind whatever rows of these counts.
-abbrev pub Leads : ℕ → ℕ → ℕ → ℕ → Behind → Behind → Type 0
-Leads rated enrolled least lives from to = (rs : List Rate) (ms : List Member) → Counted rs ms rated enrolled least lives → from rs ms ≡ to rs ms
+abbrev pub members_with : List Member → Member → List Member
+members_with ms m = if member_in_range ms m then ms ++ (m ∷ []) else ms

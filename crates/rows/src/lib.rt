@@ -3,56 +3,39 @@
 #![tactic(auto)]
 
 mod ranges;
+mod so_far;
 
-ghost use Rattle.std.specs.Prelude.{◌≡◌};
-ghost use Rattle.fund.specs.Reading.{stopped};
-ghost use Rattle.rows.specs.Read.{file_read};
+ghost use Rattle.rows.specs.Read.{RowsOf};
 
-use fund::{Frequencies, Fund, Member, Rate, Refusal, Verdict};
+use arrayvec::ArrayVec;
+use fund::{Fund, Member, Rate};
 pub use ranges::{member_in_range, rate_in_range, within};
+pub use so_far::RowsSoFar;
 
-// What reading found: the verdict of 1, 2 and 11, the header's figures, and the tables of the rate rows and of the member
-// rows with the number of rows at their start. The rows behind these are blank, and so is all but the verdict of a refusal.
-#[derive(Clone, Copy)]
+// What was read: the header's figures, the rate rows and the member rows.
+#[derive(Drop)]
 pub struct FileRead {
-    pub verdict: Verdict,
     pub fund: Fund,
-    pub rates: [Rate; Fund::RATE_ROWS],
-    pub rated: usize,
-    pub members: [Member; Fund::MEMBER_ROWS],
-    pub enrolled: usize,
+    pub rates: ArrayVec<Rate, { Fund::RATE_ROWS }>,
+    pub members: ArrayVec<Member, { Fund::MEMBER_ROWS }>,
 }
 
-// A refusal at a line; all else is blank.
-pub fn without_rows(why: Refusal, place: u64) -> FileRead
-    ensures { result ≡ file_read (stopped why place) }
-{
-    let fund = Fund {
-        rates: 0,
-        members: 0,
-        horizon: 0,
-        order: 0,
-        frequency: Frequencies {
-            death: 0,
-            disability: 0,
-        },
-        deductible: 0,
-        worth: 0,
-    };
-    let rate = Rate { age: 0, q: 0, i: 0 };
-    let member = Member {
-        age: 0,
-        group: 0,
-        d: 0,
-        e: 0,
-        lives: 0,
-    };
-    FileRead {
-        verdict: Verdict::Refused(why, place),
-        fund,
-        rates: [rate; Fund::RATE_ROWS],
-        rated: 0,
-        members: [member; Fund::MEMBER_ROWS],
-        enrolled: 0,
+// A fund's header and rows, wherever the rows stand.
+#[derive(Clone, Copy)]
+pub struct Rows<'a> {
+    pub fund: Fund,
+    pub rates: &'a [Rate],
+    pub members: &'a [Member],
+}
+
+impl FileRead {
+    pub fn rows(&self) -> Rows<'_>
+        ensures { RowsOf self.now result.fund result.rates.now result.members.now }
+    {
+        Rows {
+            fund: self.fund,
+            rates: &self.rates,
+            members: &self.members,
+        }
     }
 }

@@ -1,40 +1,39 @@
 -- An ascending sequence: floats q 0 to q most that are fractions g k / D with g growing strictly. What equals a term equals no other (`term_unique`), and a
 -- comparison with a term says on which side of it a float lies, which is a search by halves (`Within` and its four steps). The whole numbers are
 -- one, and so are the quotients by 1,000,000.
-use Rattle.std.specs.Prelude.{◌≡◌, refl, ◌⊎◌, ℕ, zero, suc, ◌+◌, ◌*◌, ◌/◌, ◌^◌, ◌≤◌, ◌<◌, Bool, true, false, T, Float}
+use Rattle.std.specs.Prelude.{◌≡◌, refl, ◌⊎◌, ℕ, zero, suc, ◌+◌, ◌*◌, ◌/◌, ◌^◌, ◌≤◌, ◌<◌, Bool, true, false, T, Float, None, Some}
 use Rattle.std.proofs.Common.{sym, ap, subst, inl, inr, zero-le, arith, lit≤, pow_pos}
 use native.Mathlib.Nat.{le_trans, le-suc, lt-suc_self, zero-lt-suc, lt_irrefl, le_of_suc-le-suc, not-suc-le-zero, eq-or-lt_of_le, eq_of_mul-eq-mul_right, lt_of_not-le, not-le_of_lt, mul-le-mul_right, div-le_self}
 use Rattle.std.specs.Float.{binary64}
 use Rattle.std.specs.Float.Ieee.{low, lt, eq}
 use Rattle.std.specs.Float.Ieee.Exact.{HasValue}
 use Rattle.std.specs.Float.Ieee.Scale.{grid}
-use Rattle.fund.specs.declared.Taken.TheVariants.{As, Not}
 use Rattle.fund.specs.Limits.{most_rate}
 use Rattle.fund.specs.SheetCells.{of_whole, quotient, or_else, seek}
 use Rattle.sheet_cells.specs.Values.{eq→is, is_one, lt→less, less→lt}
 use Rattle.sheet_cells.specs.Quotient.{whole_value, quotient_value, grid_less}
 
 -- ---- seeking by a test that only one number passes
-pub seek_none : (p : ℕ → Bool) (n : ℕ) → ((k : ℕ) → k < n → T (p k) → ⊥) → seek p n ≡ Not
+pub seek_none : (p : ℕ → Bool) (n : ℕ) → ((k : ℕ) → k < n → T (p k) → ⊥) → seek p n ≡ None
 unfolding seek or_else
 seek_none p zero h = refl
 seek_none p (suc n) h = go (p n) (h n (lt-suc_self n)) (seek_none p n (λ k l t. h k (le_trans l (le-suc n)) t))
   where
-    go : (b : Bool) → (T b → ⊥) → seek p n ≡ Not → or_else b n (seek p n) ≡ Not
+    go : (b : Bool) → (T b → ⊥) → seek p n ≡ None → or_else b n (seek p n) ≡ None
     go true x e = absurd (x tt)
     go false x e = e
 
-seek_at : (p : ℕ → Bool) (n k : ℕ) → k < n → T (p k) → ((j : ℕ) → j < n → T (p j) → j ≡ k) → seek p n ≡ As k
+seek_at : (p : ℕ → Bool) (n k : ℕ) → k < n → T (p k) → ((j : ℕ) → j < n → T (p j) → j ≡ k) → seek p n ≡ Some k
 unfolding seek or_else
 seek_at p zero k l t u = absurd (not-suc-le-zero l)
 seek_at p (suc n) k l t u = go (p n) refl (u n (lt-suc_self n)) (λ m. seek_at p n k m t (λ j i s. u j (le_trans i (le-suc n)) s))
   where
-    rest : (k ≡ n) ⊎ (k < n) → p n ≡ false → (k < n → seek p n ≡ As k) → seek p n ≡ As k
+    rest : (k ≡ n) ⊎ (k < n) → p n ≡ false → (k < n → seek p n ≡ Some k) → seek p n ≡ Some k
     rest (inl e) z ih = absurd (subst T z (subst (λ (w : ℕ). T (p w)) e t))
     rest (inr m) z ih = ih m
 
-    go : (b : Bool) → p n ≡ b → (T b → n ≡ k) → (k < n → seek p n ≡ As k) → or_else b n (seek p n) ≡ As k
-    go true z x ih = ap As (x tt)
+    go : (b : Bool) → p n ≡ b → (T b → n ≡ k) → (k < n → seek p n ≡ Some k) → or_else b n (seek p n) ≡ Some k
+    go true z x ih = ap Some (x tt)
     go false z x ih = rest (eq-or-lt_of_le (le_of_suc-le-suc l)) z ih
 
 pub record Ascending (q : ℕ → Float) (most : ℕ) : Type 0 where
@@ -98,11 +97,11 @@ module _ (q : ℕ → Float) (most : ℕ) (l : Ascending q most) where
       let h : k < j = term_above x j k J K s (λ (t : T (eq x (q k))). subst T n t) (λ (t : T (lt x (q k))). subst T m t) in
       (omega arith, (w j J s).1)
 
-  pub found : (x : Float) (k : ℕ) → k ≤ most → eq x (q k) ≡ true → As k ≡ seek (λ (j : ℕ). eq x (q j)) (suc most)
+  pub found : (x : Float) (k : ℕ) → k ≤ most → eq x (q k) ≡ true → Some k ≡ seek (λ (j : ℕ). eq x (q j)) (suc most)
   found x k K t = sym (seek_at (λ (j : ℕ). eq x (q j)) (suc most) k (omega arith) (subst T (sym t) tt)
       (λ j J s. term_unique x j k (le_of_suc-le-suc J) K s (subst T (sym t) tt)))
 
-  pub none : (x : Float) (lo hi : ℕ) → Within q most x lo hi → hi ≤ lo → Not ≡ seek (λ (j : ℕ). eq x (q j)) (suc most)
+  pub none : (x : Float) (lo hi : ℕ) → Within q most x lo hi → hi ≤ lo → None ≡ seek (λ (j : ℕ). eq x (q j)) (suc most)
   none x lo hi w h = sym (seek_none (λ (j : ℕ). eq x (q j)) (suc most) (λ j J s. let p = w j (le_of_suc-le-suc J) s in empty lo hi j h p.0 p.1))
     where
       empty : (lo hi j : ℕ) → hi ≤ lo → lo ≤ j → j < hi → ⊥

@@ -1,6 +1,7 @@
 -- The number of m + n bytes, least first, is the number of the first m and 256 to the power of m times that of the other n (`joined`).
-use Rattle.std.specs.Prelude.{◌≡◌, refl, List, ℕ, zero, suc, ◌+◌, ◌*◌, ◌^◌, ◌≤◌, ◌<◌, length, take, drop, get_or}
-use Rattle.std.proofs.Common.{sym, ap, ◌∙◌, pow-suc, add-zero, zero-add, suc-add, mul-one, mul_assoc, add-mul, add_assoc, arith, drop-cons}
+use Rattle.std.specs.Prelude.{◌≡◌, refl, List, [], ◌∷◌, ℕ, zero, suc, ◌+◌, ◌*◌, ◌^◌, ◌≤◌, ◌<◌, length, take, drop, get_or}
+use Rattle.std.proofs.Common.{sym, ap, ◌∙◌, pow-suc, add-zero, zero-add, suc-add, mul-one, mul_assoc, add-mul, add_assoc, arith, add-one, drop-cons, w64}
+use Rattle.std.specs.Int.{from_le_bytes}
 use Rattle.fund.specs.SheetCells.{least_first}
 
 -- one byte more in front
@@ -37,3 +38,25 @@ one_byte s at h = front s at 0 h ∙ ap (λ (z : ℕ). z * 256 + get_or s at 0) 
 pub halves : (s : List ℕ) (at m : ℕ) {high low : ℕ} → at + m ≤ length s → high ≡ least_first (take m (drop (at + m) s)) → low ≡ least_first (take m (drop at s))
     → high * 256 ^ m + low ≡ least_first (take (m + m) (drop at s))
 halves s at m h p q = rw (p, q) (sym (joined s at m m h))
+
+-- the number of eight bytes is that of the library's conversion
+spelled_out : (a b c d e f g h : ℕ) → from_le_bytes w64 (a ∷ b ∷ c ∷ d ∷ e ∷ f ∷ g ∷ h ∷ []) ≡ least_first (a ∷ b ∷ c ∷ d ∷ e ∷ f ∷ g ∷ h ∷ [])
+unfolding least_first
+spelled_out a b c d e f g h = omega arith
+
+next : (s : List ℕ) (at n then : ℕ) → at < length s → then ≡ at + 1 → take (suc n) (drop at s) ≡ get_or s at 0 ∷ take n (drop then s)
+next s at n then h e = rw (drop-cons s at 0 h, e, add-one at)
+
+pub eight : (s : List ℕ) (at : ℕ) → at + 8 ≤ length s → from_le_bytes w64 (get_or s at 0 ∷ get_or s (at + 1) 0 ∷ get_or s (at + 2) 0 ∷ get_or s (at + 3) 0 ∷ get_or s (at + 4) 0 ∷ get_or s (at + 5) 0 ∷ get_or s (at + 6) 0 ∷ get_or s (at + 7) 0 ∷ []) ≡ least_first (take 8 (drop at s))
+eight s at h =
+    spelled_out _ _ _ _ _ _ _ _
+    ∙ ap least_first (sym (rw (
+      next s at 7 (at + 1) (omega arith) refl,
+      next s (at + 1) 6 (at + 2) (omega arith) (omega arith),
+      next s (at + 2) 5 (at + 3) (omega arith) (omega arith),
+      next s (at + 3) 4 (at + 4) (omega arith) (omega arith),
+      next s (at + 4) 3 (at + 5) (omega arith) (omega arith),
+      next s (at + 5) 2 (at + 6) (omega arith) (omega arith),
+      next s (at + 6) 1 (at + 7) (omega arith) (omega arith),
+      next s (at + 7) 0 (at + 8) (omega arith) (omega arith),
+    )))

@@ -1,7 +1,7 @@
 -- What is taken, by a cell's 64 bits: a blank is any NaN (`blank_bits`, `number_bits`); the patterns beside a rate's are no rate's (`above_rate`,
 -- `below_rate`); what has a sign, a subnormal and an infinity are never taken (`negative_bits`, `subnormal_bits`, `infinity_bits`); both zeros are 0.
 -- The idea: a pattern without a sign is `units` of 2 ^ -1074, and from a pattern to the next these grow by `ulp` of its exponent's field.
-use Rattle.std.specs.Prelude.{◌≡◌, refl, ◌⊎◌, Bool, true, false, not, cond, ℕ, zero, suc, ◌+◌, ◌-◌, ◌*◌, ◌/◌, ◌%◌, ◌^◌, ◌≤◌, ◌<◌, T, eqb, leb, ltb, Float}
+use Rattle.std.specs.Prelude.{◌≡◌, refl, ◌⊎◌, Bool, true, false, not, cond, ℕ, zero, suc, ◌+◌, ◌-◌, ◌*◌, ◌/◌, ◌%◌, ◌^◌, ◌≤◌, ◌<◌, T, eqb, leb, ltb, Float, None, Some}
 use Rattle.std.proofs.Common.{sym, ap, ◌∙◌, subst, inl, inr, zero-le, le_trans, lt_irrefl, lt_of_lt_of_le, lt_of_not-le, zero-lt-suc, zero-add, zero-mul, mul-one, one-mul, pow-suc, add-mul, mul_assoc, mul_comm, mul-pos, mul-le-mul_left, mul-le-mul_right, mod-eq_of_lt, eq-or-lt_of_le, le-add_right, le_of_lt, arith, lit≤, lit<, eqb→eq, leb→le, ltb→lt, lt→ltb, le→leb, pow-add, pow_pos, pow_mono}
 use Rattle.std.proofs.Math.Nat.{eq_of_mul-eq-mul_right}
 use Rattle.std.proofs.Math.Dec.{not_T}
@@ -11,8 +11,6 @@ use Rattle.std.specs.Float.Ieee.{prec, low, hid, ones, top, up, size, odd, of_fi
 use Rattle.std.specs.Float.Ieee.Bits.{is_true, is_false, cond_no, nan_bits_is, nan_bits_above}
 use Rattle.std.specs.Float.Ieee.Fits.{down_pos}
 use Rattle.std.specs.Float.Ieee.Exact.{HasValue, odd_sign}
-use Rattle.fund.specs.declared.SheetCell.TheVariants.{Number, Blank}
-use Rattle.fund.specs.declared.Taken.TheVariants.{As, Not}
 use Rattle.fund.specs.Limits.{most_rate}
 use Rattle.fund.specs.SheetCells.{cell_of, quotient, of_whole, whole_of, rate_of}
 use Rattle.sheet_cells.specs.Values.{Is, has→is, eq→is, is_one}
@@ -20,20 +18,20 @@ use Rattle.sheet_cells.specs.Quotient.{whole_value}
 use Rattle.sheet_cells.specs.Taken.{NeverTaken, never_taken, infinite, rate_at, whole_at, whole_none, rate_value, rate_units, rate_most, rate_near}
 
 -- ---- blanks
-pub blank_of : (x : Float) → (T (is_nan x) → cell_of x ≡ Blank) × (T (not (is_nan x)) → cell_of x ≡ Number x)
+pub blank_of : (x : Float) → (T (is_nan x) → cell_of x ≡ None) × (T (not (is_nan x)) → cell_of x ≡ Some x)
 unfolding cell_of is_nan
 blank_of nan = ((λ t. refl), (λ t. absurd t))
 blank_of (inf s) = ((λ t. absurd t), (λ t. refl))
 blank_of (fin s m p) = ((λ t. absurd t), (λ t. refl))
 
 -- "a blank is any NaN": a pattern above the infinity's, whatever its sign and payload
-pub blank_bits : (b : ℕ) → 0x7ff0000000000000 < b % 2 ^ 63 → cell_of (of_bits binary64 b) ≡ Blank
+pub blank_bits : (b : ℕ) → 0x7ff0000000000000 < b % 2 ^ 63 → cell_of (of_bits binary64 b) ≡ None
 blank_bits b h =
     let x = of_bits binary64 b in
     (blank_of x).0 (subst T (sym (nan_bits_above binary64 b) ∙ nan_bits_is binary64 b) (lt→ltb 0x7ff0000000000000 (b % 2 ^ 63) h))
 
 -- and every other pattern is a number
-pub number_bits : (b : ℕ) → b % 2 ^ 63 ≤ 0x7ff0000000000000 → cell_of (of_bits binary64 b) ≡ Number (of_bits binary64 b)
+pub number_bits : (b : ℕ) → b % 2 ^ 63 ≤ 0x7ff0000000000000 → cell_of (of_bits binary64 b) ≡ Some (of_bits binary64 b)
 number_bits b h =
     let x = of_bits binary64 b in
     (blank_of x).1 (subst (λ (t : Bool). T (not t)) (sym (nan_bits_above binary64 b) ∙ nan_bits_is binary64 b)
@@ -132,7 +130,7 @@ ulp_small zero h = pow-lt {i = 0} {j = 1053} (lit< tt)
 ulp_small (suc x) h = pow-lt {i = x} {j = 1053} (le_trans h (lit≤ tt))
 
 -- a pattern that is taken as k is as many units as k's quotient
-taken_units : (p k : ℕ) → p < 0x7ff0000000000000 → rate_of (of_bits binary64 p) ≡ As k → (k ≤ most_rate) × (units p ≡ rate_units k) × (p / 2 ^ 52 ≤ 1023)
+taken_units : (p k : ℕ) → p < 0x7ff0000000000000 → rate_of (of_bits binary64 p) ≡ Some k → (k ≤ most_rate) × (units p ≡ rate_units k) × (p / 2 ^ 52 ≤ 1023)
 unfolding units
 taken_units p k h t =
     let x = of_bits binary64 p in
@@ -148,7 +146,7 @@ room : (p : ℕ) → p / 2 ^ 52 ≤ 1023 → suc p < 0x7ff0000000000000
 room p h = omega arith
 
 -- the pattern above a rate's is no rate's
-pub above_rate : (p k : ℕ) → p < 0x7ff0000000000000 → rate_of (of_bits binary64 p) ≡ As k → rate_of (of_bits binary64 (suc p)) ≡ Not
+pub above_rate : (p k : ℕ) → p < 0x7ff0000000000000 → rate_of (of_bits binary64 p) ≡ Some k → rate_of (of_bits binary64 (suc p)) ≡ None
 above_rate p k h t =
     let w = taken_units p k h t in
     let u = ulp (p / 2 ^ 52) in
@@ -159,7 +157,7 @@ above_rate p k h t =
 field_below : (p : ℕ) → suc p / 2 ^ 52 ≤ 1023 → p / 2 ^ 52 ≤ 1023
 field_below p h = omega arith
 
-pub below_rate : (p k : ℕ) → suc p < 0x7ff0000000000000 → rate_of (of_bits binary64 (suc p)) ≡ As k → rate_of (of_bits binary64 p) ≡ Not
+pub below_rate : (p k : ℕ) → suc p < 0x7ff0000000000000 → rate_of (of_bits binary64 (suc p)) ≡ Some k → rate_of (of_bits binary64 p) ≡ None
 below_rate p k h t =
     let w = taken_units (suc p) k h t in
     let u = ulp (p / 2 ^ 52) in
@@ -226,7 +224,7 @@ subnormal_bits t P h =
 
 -- ---- both zeros are 0, as a rate and as a whole number
 abbrev pub TakenAsZero : Float → Type 0
-TakenAsZero x = (rate_of x ≡ As 0) × ((most : ℕ) → most ≤ 2 ^ 53 → whole_of x most ≡ As 0)
+TakenAsZero x = (rate_of x ≡ Some 0) × ((most : ℕ) → most ≤ 2 ^ 53 → whole_of x most ≡ Some 0)
 
 pub plus_zero : TakenAsZero (of_bits binary64 0)
 unfolding eq of_bits quotient of_int div
@@ -242,20 +240,20 @@ unfolding of_bits
 infinity_bits = infinite false
 
 -- ---- some rates by their bits: 0.5 is 500,000 millionths and 1 is 1,000,000; 0.1 is 100,000, and so the patterns beside it are none
-half : rate_of (of_bits binary64 0x3fe0000000000000) ≡ As 500000
+half : rate_of (of_bits binary64 0x3fe0000000000000) ≡ Some 500000
 unfolding eq of_bits quotient of_int div
 half = (rate_at (of_bits binary64 0x3fe0000000000000) 500000).1 (lit≤ tt) tt
 
-one : rate_of (of_bits binary64 0x3ff0000000000000) ≡ As 1000000
+one : rate_of (of_bits binary64 0x3ff0000000000000) ≡ Some 1000000
 unfolding eq of_bits quotient of_int div
 one = (rate_at (of_bits binary64 0x3ff0000000000000) 1000000).1 (lit≤ tt) tt
 
-tenth : rate_of (of_bits binary64 0x3fb999999999999a) ≡ As 100000
+tenth : rate_of (of_bits binary64 0x3fb999999999999a) ≡ Some 100000
 unfolding eq of_bits quotient of_int div
 tenth = (rate_at (of_bits binary64 0x3fb999999999999a) 100000).1 (lit≤ tt) tt
 
-above_tenth : rate_of (of_bits binary64 0x3fb999999999999b) ≡ Not
+above_tenth : rate_of (of_bits binary64 0x3fb999999999999b) ≡ None
 above_tenth = above_rate 0x3fb999999999999a 100000 (lit< tt) tenth
 
-below_tenth : rate_of (of_bits binary64 0x3fb9999999999999) ≡ Not
+below_tenth : rate_of (of_bits binary64 0x3fb9999999999999) ≡ None
 below_tenth = below_rate 0x3fb9999999999999 100000 (lit< tt) tenth

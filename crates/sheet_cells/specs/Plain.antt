@@ -1,26 +1,14 @@
 -- The numbers that float operations are done on: neither a NaN nor a subnormal, by their bits (`Plain`). A host may have its processor take a
 -- subnormal as 0, and a comparison would then say that it equals 0; it is never taken (`subnormal_never`).
-use Rattle.std.specs.Prelude.{◌≡◌, Bool, true, false, not, ◌&&◌, ℕ, ◌%◌, ◌^◌, ◌<◌, T, ltb, Float}
+use Rattle.std.specs.Prelude.{◌≡◌, Bool, true, false, not, ◌&&◌, ℕ, ◌%◌, ◌^◌, ◌<◌, T, ltb, Float, Option, Some}
 use Rattle.std.proofs.Common.{sym, subst, ⊎_elim, arith, ltb→lt}
 use Rattle.std.specs.Float.{nan, inf, fin, binary64}
 use Rattle.std.specs.Float.Ieee.{fits, is_nan, of_bits, to_bits}
 use Rattle.std.specs.Float.Ieee.Bits.{of_bits-to_bits, to_bits-lt}
 use Rattle.std.specs.Float.Ieee.Fits.{and_l, and_r}
-use Rattle.fund.specs.declared.RateFloats.{RateFloats}
-use Rattle.fund.specs.declared.MemberFloats.{MemberFloats}
-use Rattle.fund.specs.declared.SheetCell.{SheetCell}
-use Rattle.fund.specs.declared.SheetCell.TheVariants.{Number}
 use Rattle.fund.specs.SheetCells.{cell_of}
 use Rattle.sheet_cells.specs.Taken.{NeverTaken}
 use Rattle.sheet_cells.specs.Patterns.{negative_bits, subnormal_bits, full_or_not}
-
--- ---- the floats of the bits of a row's cells
-abbrev pub rates_of : ℕ → ℕ → ℕ → RateFloats
-rates_of age q i = record { age = of_bits binary64 age; q = of_bits binary64 q; i = of_bits binary64 i }
-
-abbrev pub members_of : ℕ → ℕ → ℕ → ℕ → ℕ → MemberFloats
-members_of age group d e lives =
-    record { age = of_bits binary64 age; group = of_bits binary64 group; d = of_bits binary64 d; e = of_bits binary64 e; lives = of_bits binary64 lives }
 
 -- ---- subnormals
 -- the exponent's bits are 0 and the fraction's are not, whatever the sign
@@ -42,8 +30,8 @@ subnormal_never x h e =
     subst NeverTaken (of_bits-to_bits binary64 x h) (never_by_bits b (to_bits-lt binary64 x h) low high)
 
 -- ---- a cell's number is no NaN
-abbrev pub NoNan : SheetCell → Type 0
-NoNan cell = cell ≡ Number nan → ⊥
+abbrev pub NoNan : Option Float → Type 0
+NoNan cell = cell ≡ Some nan → ⊥
 
 pub cell_no_nan : (x : Float) → NoNan (cell_of x)
 unfolding cell_of
@@ -51,7 +39,7 @@ cell_no_nan nan e = let z : ◌≡◌ {A = ℕ} 0 1 = cc in omega arith
 cell_no_nan (inf s) e = let z : ◌≡◌ {A = ℕ} 0 1 = cc in omega arith
 cell_no_nan (fin s m p) e = let z : ◌≡◌ {A = ℕ} 0 1 = cc in omega arith
 
-pub number_no_nan : {cell : SheetCell} (x : Float) → cell ≡ Number x → NoNan cell → T (not (is_nan x))
+pub number_no_nan : {cell : (Option Float)} (x : Float) → cell ≡ Some x → NoNan cell → T (not (is_nan x))
 unfolding is_nan
 number_no_nan nan e h = absurd (h e)
 number_no_nan (inf s) e h = tt

@@ -1,7 +1,7 @@
 -- What a float is taken as. A whole number exactly where it is that number (`whole_at`, `whole_exactly`); a rate exactly where it equals the
 -- quotient of some k by 1,000,000 (`rate_at`, `quotient_taken`), and k is unique (`rate_unique`). Two rates' quotients are at least 2 ^ -21 apart
 -- (`rate_apart`), and what is nearer to one without being equal to it is not taken (`rate_near`).
-use Rattle.std.specs.Prelude.{◌≡◌, refl, Bool, true, false, ℕ, zero, suc, ◌+◌, ◌*◌, ◌^◌, ◌≤◌, ◌<◌, ℤ, T, Float}
+use Rattle.std.specs.Prelude.{◌≡◌, refl, Bool, true, false, ℕ, zero, suc, ◌+◌, ◌*◌, ◌^◌, ◌≤◌, ◌<◌, ℤ, T, Float, None, Some}
 use Rattle.std.proofs.Common.{sym, subst, le_trans, lt-suc_self, zero-lt-suc, le_of_suc-le-suc, le_of_mul-le-mul_right, add-mul, mul-one, one-mul, lt_irrefl, arith, lit≤, pow_pos}
 use Rattle.std.proofs.Math.Nat.{le-suc, eq_of_mul-eq-mul_right}
 use Rattle.std.specs.Float.{nan, inf, fin, binary64}
@@ -11,7 +11,6 @@ use Rattle.std.specs.Float.Ieee.Exact.{HasValue}
 use Rattle.std.specs.Float.Ieee.Back.{round_whole}
 use Rattle.std.specs.Float.Ieee.Order.{round_mono}
 use Rattle.std.specs.Float.Ieee.Scale.{grid}
-use Rattle.fund.specs.declared.Taken.TheVariants.{As, Not}
 use Rattle.fund.specs.Limits.{most_rate}
 use Rattle.fund.specs.SheetCells.{of_whole, quotient, or_else, seek, whole_of, rate_of}
 use Rattle.sheet_cells.specs.Values.{Is, has→is, eq→is, is→eq, is_one, le→cross}
@@ -19,7 +18,7 @@ use Rattle.sheet_cells.specs.Quotient.{whole_value, round_value, quotient_value,
 use Rattle.sheet_cells.specs.Ascending.{wholes, millionths, few, term_unique, found, seek_none}
 
 -- what is found is below the bound and passes the test
-sought : (p : ℕ → Bool) (n k : ℕ) → seek p n ≡ As k → (k < n) × T (p k)
+sought : (p : ℕ → Bool) (n k : ℕ) → seek p n ≡ Some k → (k < n) × T (p k)
 unfolding seek or_else
 sought p zero k e = let z : ◌≡◌ {A = ℕ} 0 1 = cc in absurd (clash z)
   where
@@ -27,7 +26,7 @@ sought p zero k e = let z : ◌≡◌ {A = ℕ} 0 1 = cc in absurd (clash z)
     clash z = omega arith
 sought p (suc n) k e = go (p n) refl (sought p n k) e
   where
-    go : (b : Bool) → p n ≡ b → (seek p n ≡ As k → (k < n) × T (p k)) → or_else b n (seek p n) ≡ As k → (k < suc n) × T (p k)
+    go : (b : Bool) → p n ≡ b → (seek p n ≡ Some k → (k < n) × T (p k)) → or_else b n (seek p n) ≡ Some k → (k < suc n) × T (p k)
     go true z ih e = let i : n ≡ k = cc in (subst (λ (j : ℕ). j < suc n) i (lt-suc_self n), subst (λ (j : ℕ). T (p j)) i (subst T (sym z) tt))
     go false z ih e = let r = ih e in (le_trans r.0 (le-suc n), r.1)
 
@@ -37,7 +36,7 @@ pub whole_exactly : (x : Float) (n : ℕ) → n ≤ 2 ^ 53 → (T (eq x (of_whol
 whole_exactly x n h = (eq→is x (of_whole n) n 1 (whole_value n h), (λ i. is→eq x (of_whole n) n 1 n 1 (zero-lt-suc 0) (zero-lt-suc 0) i (whole_value n h) refl))
 
 -- x is taken as n exactly where n is in range and x equals it
-pub whole_at : (x : Float) (most n : ℕ) → most ≤ 2 ^ 53 → (whole_of x most ≡ As n → (n ≤ most) × T (eq x (of_whole n))) × (n ≤ most → T (eq x (of_whole n)) → whole_of x most ≡ As n)
+pub whole_at : (x : Float) (most n : ℕ) → most ≤ 2 ^ 53 → (whole_of x most ≡ Some n → (n ≤ most) × T (eq x (of_whole n))) × (n ≤ most → T (eq x (of_whole n)) → whole_of x most ≡ Some n)
 unfolding whole_of
 whole_at x most n m = (
   (λ e. let r = sought (λ (j : ℕ). eq x (of_whole j)) (suc most) n e in (le_of_suc-le-suc r.0, r.1)),
@@ -45,13 +44,13 @@ whole_at x most n m = (
 )
 
 -- what equals no number that is sought is not taken
-pub whole_none : (x : Float) (most : ℕ) → ((n : ℕ) → n ≤ most → T (eq x (of_whole n)) → ⊥) → whole_of x most ≡ Not
+pub whole_none : (x : Float) (most : ℕ) → ((n : ℕ) → n ≤ most → T (eq x (of_whole n)) → ⊥) → whole_of x most ≡ None
 unfolding whole_of
 whole_none x most h = seek_none (λ (n : ℕ). eq x (of_whole n)) (suc most) (λ n l. h n (le_of_suc-le-suc l))
 
 -- ---- rates
 -- x is taken as k exactly where k is in range and x equals the quotient of k by 1,000,000
-pub rate_at : (x : Float) (k : ℕ) → (rate_of x ≡ As k → (k ≤ most_rate) × T (eq x (quotient k 1000000))) × (k ≤ most_rate → T (eq x (quotient k 1000000)) → rate_of x ≡ As k)
+pub rate_at : (x : Float) (k : ℕ) → (rate_of x ≡ Some k → (k ≤ most_rate) × T (eq x (quotient k 1000000))) × (k ≤ most_rate → T (eq x (quotient k 1000000)) → rate_of x ≡ Some k)
 unfolding rate_of
 rate_at x k = (
   (λ e. let r = sought (λ (j : ℕ). eq x (quotient j 1000000)) (suc most_rate) k e in (le_of_suc-le-suc r.0, r.1)),
@@ -70,7 +69,7 @@ itself k K =
     is→eq x x (l.g k) l.D (l.g k) l.D l.above l.above (has→is x (l.g k) l.D v) v refl
 
 -- each of the 1,000,001 quotients is taken, with its own k
-pub quotient_taken : (k : ℕ) → k ≤ most_rate → rate_of (quotient k 1000000) ≡ As k
+pub quotient_taken : (k : ℕ) → k ≤ most_rate → rate_of (quotient k 1000000) ≡ Some k
 quotient_taken k K = (rate_at (quotient k 1000000) k).1 K (itself k K)
 
 -- and no two of them are equal
@@ -78,7 +77,7 @@ pub quotient_unique : (j k : ℕ) → j ≤ most_rate → k ≤ most_rate → T 
 quotient_unique j k J K t = rate_unique (quotient j 1000000) j k J K (itself j J) t
 
 -- what equals no quotient is not taken
-pub rate_none : (x : Float) → ((k : ℕ) → k ≤ most_rate → T (eq x (quotient k 1000000)) → ⊥) → rate_of x ≡ Not
+pub rate_none : (x : Float) → ((k : ℕ) → k ≤ most_rate → T (eq x (quotient k 1000000)) → ⊥) → rate_of x ≡ None
 unfolding rate_of
 rate_none x h = seek_none (λ (k : ℕ). eq x (quotient k 1000000)) (suc most_rate) (λ k l. h k (le_of_suc-le-suc l))
 
@@ -106,7 +105,7 @@ order : (j k : ℕ) → (j ≡ k → ⊥) → (j < k → ⊥) → (k < j → ⊥
 order j k n l m = omega arith
 
 -- what is nearer than that to a rate's quotient, and not equal to it, is not taken
-pub rate_near : (x : Float) (a k : ℕ) → k ≤ most_rate → HasValue x false a (2 ^ 1074) → a < rate_units k + 2 ^ 1053 → rate_units k < a + 2 ^ 1053 → (a ≡ rate_units k → ⊥) → rate_of x ≡ Not
+pub rate_near : (x : Float) (a k : ℕ) → k ≤ most_rate → HasValue x false a (2 ^ 1074) → a < rate_units k + 2 ^ 1053 → rate_units k < a + 2 ^ 1053 → (a ≡ rate_units k → ⊥) → rate_of x ≡ None
 rate_near x a k K v above below other = rate_none x none
   where
     none : (j : ℕ) → j ≤ most_rate → T (eq x (quotient j 1000000)) → ⊥
@@ -127,7 +126,7 @@ rate_most k K =
 -- ---- never taken
 -- not as a rate, and as no whole number of any range up to 2 ^ 53
 abbrev pub NeverTaken : Float → Type 0
-NeverTaken x = (rate_of x ≡ Not) × ((most : ℕ) → most ≤ 2 ^ 53 → whole_of x most ≡ Not)
+NeverTaken x = (rate_of x ≡ None) × ((most : ℕ) → most ≤ 2 ^ 53 → whole_of x most ≡ None)
 
 -- so what is no fraction from 0 on is never taken: a NaN, an infinity, a number below 0
 pub never_taken : (x : Float) → ((a c : ℕ) → Is x a c → ⊥) → NeverTaken x

@@ -6,92 +6,58 @@ mod floats;
 mod number;
 
 ghost use Rattle.std.specs.Prelude.{◌≡◌};
-ghost use Rattle.fund.specs.SheetCells.{rate_joined, member_joined, rate_row_of, member_row_of};
+ghost use Rattle.fund.specs.SheetCells.{rate_row_of, member_row_of};
 
-use fund::{Fund, Member, Rate, SheetRow, Taken};
+use floats::{float, word};
+use fund::{Fund, Member, MemberFloats, Rate, RateFloats};
+use number::{amount, classed, number, rate_in};
 
 // A row of the rates' sheet: the bits of its cells, and the record of floats that they are. Each is classified by its bits, then taken or not.
-pub fn rate_row(row: &[u8]) -> SheetRow
+pub fn rate_row(row: &[u8]) -> Option<Rate>
     ensures { result ≡ rate_row_of row.now }
 {
     if row.len() != Fund::RATE_WIDTH {
-        return SheetRow::NotTaken;
+        return None;
     }
-    let age = floats::word(row, 0);
-    let q = floats::word(row, 8);
-    let i = floats::word(row, 16);
-    let r = floats::rate_floats(age, q, i);
-    rate_joined(
-        number::number(0, Fund::MOST_AGE, number::classed(age, r.age)),
-        number::rate_in(number::classed(q, r.q)),
-        number::rate_in(number::classed(i, r.i)),
-    )
+    let age = word(row, 0);
+    let q = word(row, 8);
+    let i = word(row, 16);
+    let r = RateFloats {
+        age: float(age),
+        q: float(q),
+        i: float(i),
+    };
+    Some(Rate {
+        age: number(0, Fund::MOST_AGE, classed(age, r.age))?,
+        q: rate_in(classed(q, r.q))?,
+        i: rate_in(classed(i, r.i))?,
+    })
 }
 
 // A row of the members' sheet, in the same way.
-pub fn member_row(row: &[u8]) -> SheetRow
+pub fn member_row(row: &[u8]) -> Option<Member>
     ensures { result ≡ member_row_of row.now }
 {
     if row.len() != Fund::MEMBER_WIDTH {
-        return SheetRow::NotTaken;
+        return None;
     }
-    let age = floats::word(row, 0);
-    let group = floats::word(row, 8);
-    let d = floats::word(row, 16);
-    let e = floats::word(row, 24);
-    let lives = floats::word(row, 32);
-    let r = floats::member_floats(age, group, d, e, lives);
-    let age_cell = number::classed(age, r.age);
-    let group_cell = number::classed(group, r.group);
-    let lives_cell = number::classed(lives, r.lives);
-    member_joined(
-        number::number(0, Fund::MOST_AGE, age_cell),
-        number::number(Fund::LEAST_GROUP, Fund::MOST_GROUP, group_cell),
-        number::amount(number::classed(d, r.d)),
-        number::amount(number::classed(e, r.e)),
-        number::number(Fund::LEAST_LIVES, Fund::MOST_LIVES, lives_cell),
-    )
-}
-
-// A row is taken where all its cells are.
-fn rate_joined(age: Taken, q: Taken, i: Taken) -> SheetRow
-    ensures { result ≡ rate_joined age q i }
-{
-    let Taken::As(age) = age else {
-        return SheetRow::NotTaken;
+    let age = word(row, 0);
+    let group = word(row, 8);
+    let d = word(row, 16);
+    let e = word(row, 24);
+    let lives = word(row, 32);
+    let r = MemberFloats {
+        age: float(age),
+        group: float(group),
+        d: float(d),
+        e: float(e),
+        lives: float(lives),
     };
-    let Taken::As(q) = q else {
-        return SheetRow::NotTaken;
-    };
-    let Taken::As(i) = i else {
-        return SheetRow::NotTaken;
-    };
-    SheetRow::Rate(Rate { age, q, i })
-}
-
-fn member_joined(age: Taken, group: Taken, d: Taken, e: Taken, lives: Taken) -> SheetRow
-    ensures { result ≡ member_joined age group d e lives }
-{
-    let Taken::As(age) = age else {
-        return SheetRow::NotTaken;
-    };
-    let Taken::As(group) = group else {
-        return SheetRow::NotTaken;
-    };
-    let Taken::As(d) = d else {
-        return SheetRow::NotTaken;
-    };
-    let Taken::As(e) = e else {
-        return SheetRow::NotTaken;
-    };
-    let Taken::As(lives) = lives else {
-        return SheetRow::NotTaken;
-    };
-    SheetRow::Member(Member {
-        age,
-        group,
-        d,
-        e,
-        lives,
+    Some(Member {
+        age: number(0, Fund::MOST_AGE, classed(age, r.age))?,
+        group: number(Fund::LEAST_GROUP, Fund::MOST_GROUP, classed(group, r.group))?,
+        d: amount(classed(d, r.d))?,
+        e: amount(classed(e, r.e))?,
+        lives: number(Fund::LEAST_LIVES, Fund::MOST_LIVES, classed(lives, r.lives))?,
     })
 }

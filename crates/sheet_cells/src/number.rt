@@ -4,23 +4,19 @@
 ghost use Rattle.std.specs.Prelude.{◌≡◌, ◌^◌, ◌≤◌, not, T};
 ghost use Rattle.std.specs.Float.{binary64};
 ghost use Rattle.std.specs.Float.Ieee.{of_bits, is_nan};
-ghost use Rattle.fund.specs.SheetCells.{cell_of, whole_of, rate_of, at_least, whole_in, amount_of, rate_in};
+ghost use Rattle.fund.specs.SheetCells.{cell_of, whole_of, rate_of, whole_in, amount_of, rate_in};
 ghost use Rattle.sheet_cells.specs.Part.{OnlyWhole};
 ghost use Rattle.sheet_cells.specs.Plain.{subnormal, Plain, NoNan};
 
 use crate::floats;
-use fund::{Fund, SheetCell, Taken};
+use fund::Fund;
 
 // The cell of x, whose bits these are.
-pub(crate) fn classed(bits: u64, x: f64) -> SheetCell
+pub(crate) fn classed(bits: u64, x: f64) -> Option<f64>
     requires { x ≡ of_bits binary64 bits }
     ensures { (result ≡ cell_of x) × NoNan result }
 {
-    if floats::is_nan(bits) {
-        SheetCell::Blank
-    } else {
-        SheetCell::Number(x)
-    }
+    if floats::is_nan(bits) { None } else { Some(x) }
 }
 
 // Whether the exponent's bits are 0 and the fraction's are not.
@@ -47,91 +43,82 @@ fn whole_part(bits: u64) -> u64
 }
 
 // A number that is no subnormal, as a whole number up to `most`; up to 2^53 these are floats.
-fn whole(x: f64, most: u64) -> Taken
+fn whole(x: f64, most: u64) -> Option<u64>
     requires { (most ≤ 2 ^ 53) × Plain x }
     ensures { result ≡ whole_of x most }
 {
     let k = whole_part(f64::to_bits(x));
     if k <= most && x == k as f64 {
-        return Taken::As(k);
+        return Some(k);
     }
-    Taken::Not
+    None
 }
 
 // A number that is no subnormal, as a rate in millionths; each quotient is one division, rounded once.
-fn rate(x: f64) -> Taken
+fn rate(x: f64) -> Option<u64>
     requires { Plain x }
     ensures { result ≡ rate_of x }
 {
     let mut lo = 0u64;
     let mut hi = Fund::MOST_RATE + 1;
     while lo < hi {
-        let mid = lo + (hi - lo) / 2;
+        let mid = lo.midpoint(hi);
         let quotient = mid as f64 / 1000000.0;
+        if x == quotient {
+            return Some(mid);
+        }
         if x < quotient {
             hi = mid;
-            continue;
+        } else {
+            lo = mid + 1;
         }
-        if x == quotient {
-            return Taken::As(mid);
-        }
-        lo = mid + 1;
     }
-    Taken::Not
+    None
 }
 
 // x as a whole number up to `most`: a subnormal is none.
-fn whole_of(x: f64, most: u64) -> Taken
+fn whole_of(x: f64, most: u64) -> Option<u64>
     requires { (most ≤ 2 ^ 53) × T (not (is_nan x)) }
     ensures { result ≡ whole_of x most }
 {
     if is_subnormal(x) {
-        return Taken::Not;
+        return None;
     }
     whole(x, most)
 }
 
-fn at_least(least: u64, taken: Taken) -> Taken
-    ensures { result ≡ at_least least taken }
-{
-    let Taken::As(n) = taken else {
-        return Taken::Not;
-    };
-    if n < least { Taken::Not } else { taken }
-}
-
 // A whole number from `least` to `most`.
-pub(crate) fn number(least: u64, most: u64, cell: SheetCell) -> Taken
+pub(crate) fn number(least: u64, most: u64, cell: Option<f64>) -> Option<u64>
     requires { (most ≤ 2 ^ 53) × NoNan cell }
     ensures { result ≡ whole_in least most cell }
 {
-    match cell {
-        SheetCell::Blank => Taken::Not,
-        SheetCell::Number(x) => at_least(least, whole_of(x, most)),
+    let x = cell?;
+    let n = whole_of(x, most)?;
+    if n < least {
+        return None;
     }
+    Some(n)
 }
 
 // "A blank is allowed only in an amount and is 0 there."
-pub(crate) fn amount(cell: SheetCell) -> Taken
+pub(crate) fn amount(cell: Option<f64>) -> Option<u64>
     requires { NoNan cell }
     ensures { result ≡ amount_of cell }
 {
     match cell {
-        SheetCell::Blank => Taken::As(0),
-        SheetCell::Number(x) => whole_of(x, Fund::MOST_AMOUNT),
+        None => Some(0),
+        Some(x) => whole_of(x, Fund::MOST_AMOUNT),
     }
 }
 
 // A rate: a blank and a subnormal are none.
-pub(crate) fn rate_in(cell: SheetCell) -> Taken
+pub(crate) fn rate_in(cell: Option<f64>) -> Option<u64>
     requires { NoNan cell }
     ensures { result ≡ rate_in cell }
 {
-    let SheetCell::Number(q) = cell else {
-        return Taken::Not;
-    };
+    let q = cell?;
     if is_subnormal(q) {
-        return Taken::Not;
+        return None;
     }
     rate(q)
 }

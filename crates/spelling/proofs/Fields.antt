@@ -1,136 +1,101 @@
--- Laws of the numbers between commas: the fields of a text are what stands before its first comma and the fields behind it,
--- so the numbers are collected one by one.
-use mathlib.Core.Path.{◌≡◌, refl, sym, ap, ◌∙◌}
-use mathlib.Core.Bool.{Bool, true, false, ◌&&◌, and-false, and-true}
-use mathlib.Core.List.{List, [], ◌∷◌, ◌++◌, map, append_assoc}
-use mathlib.Core.Option.{Option, none, some}
-use Prim.Native.Nat.{ℕ, suc, ◌+◌, ◌-◌, ◌≤◌, ◌<◌}
-use native.Mathlib.Omega.{arith}
-use borrow.Author.Tests.{eqb-true, eqb-false, eq-eqb, ne_eqb}
-use lib.Dec.{eqb, eqb-suc-suc}
-use lib.ListN.{length, take, drop, set, length-drop}
-use lib.Seq.{take-suc-set, take_all, drop-drop}
-use Rattle.std.specs.Prelude.{if◌then◌else◌}
+-- Laws of the numbers between commas: `split` gives the fields of a text one by one, and their numbers are collected.
+use Rattle.std.proofs.Common.{◌≡◌, ℕ, suc, ◌≤◌, Bool, true, false, ◌&&◌, cond, List, [], ◌∷◌, ◌++◌, map, Option, Some, None, MatchOption, length, take, drop, replicate, refl, sym, ap, ◌∙◌, append_assoc, append-nil, arith, eqb, if◌then◌else◌}
+use Rattle.std.specs.Bool.{MatchBool}
+use Rattle.std.specs.Fn.{CalledAt, ComputesKey}
+use Rattle.std.specs.List.{All, slice_split, onto_first, IsFirstMatchOrLen}
+use Rattle.std.specs.Slice.Iter.{split_rest, split_done, split_callee, split_steps}
+use Rattle.std.specs.declared.slice.Split.{Split}
+use Rattle.std.proofs.lemmas.Fn.{always_returns_same}
+use Rattle.std.proofs.lemmas.Grind.{common_steps}
+use Rattle.std.proofs.lemmas.List.Splits.{slice_split_none, slice_split_at}
+use denote.Param.Members.{Mut}
+use denote.Ref.{Bor}
+use mathlib.Core.Bool.{and-false}
+use lib.Dec.{eqb-suc-suc}
+use borrow.Author.Tests.{ne_eqb, le-leb}
 use Rattle.fund.specs.Spelling.{is_number, value, in_first, fields, all_numbers, numbers}
-use Rattle.spelling.specs.declared.Number.TheVariants.{Value, Misspelled}
-use Rattle.spelling.specs.Text.{before, read_number}
-use Rattle.spelling.proofs.Texts.{before_within}
+use Rattle.spelling.specs.Text.{number_in, few_numbers, NumbersOf}
 
-fields_last : (s : List ℕ) → length s ≤ before 44 s → fields s ≡ s ∷ []
-unfolding before fields in_first
-fields_last [] h = refl
-fields_last (b ∷ s) h = go (eqb b 44) h (fields_last s)
+abbrev comma : ℕ → Bool
+comma b = eqb b 44
+
+fields_are : (s : List ℕ) → slice_split comma s ≡ fields s
+unfolding fields in_first
+fields_are [] = refl
+fields_are (b ∷ s) = rw (fields_are s) (go (comma b) (fields s))
   where
-    go : (t : Bool) → suc (length s) ≤ (if t then 0 else suc (before 44 s)) → (length s ≤ before 44 s → fields s ≡ s ∷ []) → (if t then [] ∷ fields s else in_first b (fields s)) ≡ (b ∷ s) ∷ []
-    go true w ih = absurd (omega arith)
-    go false w ih = rw (ih (omega arith))
+    first : (fs : List (List ℕ)) → onto_first b fs ≡ in_first b fs
+    first [] = refl
+    first (f ∷ fs) = refl
 
-fields_split : (s : List ℕ) → before 44 s < length s → fields s ≡ take (before 44 s) s ∷ fields (drop (suc (before 44 s)) s)
-unfolding before fields in_first
-fields_split [] h = absurd (omega arith)
-fields_split (b ∷ s) h = go (eqb b 44) h (fields_split s)
-  where
-    go
-        : (t : Bool)
-        → (if t then 0 else suc (before 44 s)) < suc (length s)
-        → (before 44 s < length s → fields s ≡ take (before 44 s) s ∷ fields (drop (suc (before 44 s)) s))
-        → (if t then [] ∷ fields s else in_first b (fields s))
-        ≡ take (if t then 0 else suc (before 44 s)) (b ∷ s) ∷ fields (drop (suc (if t then 0 else suc (before 44 s))) (b ∷ s))
-    go true w ih = refl
-    go false w ih = rw (ih (omega arith))
+    go : (t : Bool) (fs : List (List ℕ)) → cond t ([] ∷ fs) (onto_first b fs) ≡ (if t then [] ∷ fs else in_first b fs)
+    go true fs = refl
+    go false fs = first fs
 
-fields_first : (s : List ℕ) → (rest : List (List ℕ)) × (fields s ≡ take (before 44 s) s ∷ rest)
-unfolding before fields in_first
-fields_first [] = ([], refl)
-fields_first (b ∷ s) = go (eqb b 44) (fields_first s)
-  where
-    go
-        : (t : Bool)
-        → (rest : List (List ℕ)) × (fields s ≡ take (before 44 s) s ∷ rest)
-        → (rest : List (List ℕ)) × ((if t then [] ∷ fields s else in_first b (fields s)) ≡ take (if t then 0 else suc (before 44 s)) (b ∷ s) ∷ rest)
-    go true ih = (fields s, refl)
-    go false ih = (ih.0, rw ih.1)
+-- The fields that a split has still to give.
+abbrev pub fields_left : {F : Type 0} → Split ℕ F → List (List ℕ)
+fields_left s = cond (split_done s) [] (fields (split_rest s))
 
--- The numbers ns and then just `left` more from a text, or none.
-unfoldable pub collected : List ℕ → ℕ → List ℕ → Option (List ℕ)
-collected ns left s = if eqb (length (fields s)) left && all_numbers (fields s) then some (ns ++ map value (fields s)) else none
+field_first : (s x rest : List ℕ) (done : Bool) → MatchBool done (s ≡ x) ((y : ℕ) × (s ≡ x ++ (y ∷ rest))) → IsFirstMatchOrLen comma s (length x) → fields s ≡ x ∷ cond done [] (fields rest)
+field_first s x rest true e h =
+    let none : All (λ b. comma b ≡ false) x = λ k d l. let a = h.0 k d (omega arith) l in grind (arith, common_steps) in
+    sym (fields_are s) ∙ ap (slice_split comma) e ∙ slice_split_none comma x none
+field_first s x rest false e h =
+    let before : All (λ b. comma b ≡ false) x = λ k d l. let a = h.0 k d (omega arith) l in let b = e.1 in grind (arith, common_steps) in
+    let here : comma e.0 ≡ true = let b = e.1 in let a = h.1 (grind (arith, common_steps)) e.0 in grind (arith, common_steps) in
+    sym (fields_are s) ∙ ap (slice_split comma) e.1 ∙ slice_split_at comma x e.0 rest before here ∙ ap (λ fs. x ∷ fs) (fields_are rest)
 
-pub numbers_collected : (count : ℕ) (s : List ℕ) → numbers count s ≡ collected [] count s
+-- What a step of a split gives, which cuts where its closure answers that a byte is a comma.
+pub field_next : {F : Type 0} (g : Mut F (Bor ℕ × Unit {0}) Bool) (s t : Split ℕ F) (r : Option (Bor (List ℕ))) → split_steps g s r t →
+    ((x : ℕ) (b : Bool) (q : F) → CalledAt g (split_callee s) x b q → (q ≡ split_callee s) × (b ≡ comma x)) →
+    MatchOption r (fields_left s ≡ []) (λ x. fields_left s ≡ x.now ∷ fields_left t)
+field_next g s t None k tests = ap (λ b. cond b [] (fields (split_rest s))) k.0
+field_next g s t (Some x) k tests =
+    let computes : ComputesKey g comma (split_callee s) =
+    always_returns_same g (λ a r. r ≡ comma a.0.now) (split_callee s) (λ a r q m. let n = tests a.0.now r q (record { shown = a.0; shows = refl; called = m }) in (n.1, n.0)) in
+    ap (λ b. cond b [] (fields (split_rest s))) k.0 ∙ field_first (split_rest s) x.now (split_rest t) (split_done t) k.1 (k.2 comma computes).1
+
+-- The numbers ns and then just `left` more from fields, or none.
+unfoldable pub collected : List ℕ → ℕ → List (List ℕ) → Option (List ℕ)
+collected ns left fs = if eqb (length fs) left && all_numbers fs then Some (ns ++ map value fs) else None
+
+pub numbers_collected : (count : ℕ) (s : List ℕ) → numbers count s ≡ collected [] count (fields s)
 unfolding numbers collected
 numbers_collected count s = refl
 
-spelled_well : (t : List ℕ) (v : ℕ) → read_number t ≡ Value v → (is_number t ≡ true) × (value t ≡ v)
-unfolding read_number
-spelled_well t v e = go (is_number t) refl e
-  where
-    go : (b : Bool) → is_number t ≡ b → (if b then Value (value t) else Misspelled) ≡ Value v → (is_number t ≡ true) × (value t ≡ v)
-    go true w e' = (w, (cc))
-    go false w e' = let z : ◌≡◌ {A = ℕ} 0 1 = cc in absurd (omega arith)
-
-spelled_ill : (t : List ℕ) → read_number t ≡ Misspelled → is_number t ≡ false
-unfolding read_number
-spelled_ill t e = go (is_number t) refl e
-  where
-    go : (b : Bool) → is_number t ≡ b → (if b then Value (value t) else Misspelled) ≡ Misspelled → is_number t ≡ false
-    go true w e' = let z : ◌≡◌ {A = ℕ} 0 1 = cc in absurd (omega arith)
-    go false w e' = w
-
-collected_more : (ns : List ℕ) (left : ℕ) (s : List ℕ) (v : ℕ) → before 44 s < length s → read_number (take (before 44 s) s) ≡ Value v → collected ns (suc left) s ≡ collected (ns ++ (v ∷ [])) left (drop (suc (before 44 s)) s)
-unfolding collected all_numbers
-collected_more ns left s v h e =
-    let w = spelled_well (take (before 44 s) s) v e in
-    rw (fields_split s h, eqb-suc-suc (length (fields (drop (suc (before 44 s)) s))) left, w.0, w.1, append_assoc ns (v ∷ []) (map value (fields (drop (suc (before 44 s)) s))))
-
-collected_last : (ns : List ℕ) (left : ℕ) (s : List ℕ) (v : ℕ) → length s ≤ before 44 s → read_number s ≡ Value v → collected ns left s ≡ (if eqb 1 left then some (ns ++ (v ∷ [])) else none)
-unfolding collected all_numbers
-collected_last ns left s v h e =
-    let w = spelled_well s v e in
-    rw (fields_last s h, w.0, w.1, and-true (eqb 1 left))
-
-collected_ill : (ns : List ℕ) (left : ℕ) (s : List ℕ) → read_number (take (before 44 s) s) ≡ Misspelled → collected ns left s ≡ none
-unfolding collected all_numbers
-collected_ill ns left s e =
-    let f = fields_first s in
-    rw (f.1, spelled_ill (take (before 44 s) s) e, and-false (eqb (suc (length f.0)) left))
-
-pub collected_over : (ns s : List ℕ) → collected ns 0 s ≡ none
+pub collected_missing : (ns : List ℕ) (left : ℕ) → collected ns (suc left) [] ≡ None
 unfolding collected
-collected_over ns s =
-    let f = fields_first s in
-    rw (f.1, ne_eqb (suc (length f.0)) 0 (λ w. omega arith))
+collected_missing ns left = rw (ne_eqb 0 (suc left) (λ e. omega arith))
 
--- The last number is the count's, or there are too few.
-pub last_one : (values : List ℕ) (k count v : ℕ) → k < count → k < length values → (if eqb (k + 1) count then some (take count (set values k v)) else none) ≡ (if eqb 1 (count - k) then some (take k values ++ (v ∷ [])) else none)
-last_one values k count v h g = go (eqb (k + 1) count) refl
+pub collected_over : (ns t : List ℕ) (fs : List (List ℕ)) → collected ns 0 (t ∷ fs) ≡ None
+unfolding collected
+collected_over ns t fs = rw (ne_eqb (suc (length fs)) 0 (λ e. omega arith))
+
+pub collected_all : (ns : List ℕ) → collected ns 0 [] ≡ Some ns
+unfolding collected all_numbers
+collected_all ns = simp append-nil
+
+pub collected_ill : (ns : List ℕ) (left : ℕ) (t : List ℕ) (fs : List (List ℕ)) → number_in t ≡ None → collected ns left (t ∷ fs) ≡ None
+unfolding collected all_numbers number_in
+collected_ill ns left t fs e = go (is_number t) refl e
   where
-    go : (t : Bool) → eqb (k + 1) count ≡ t → (if t then some (take count (set values k v)) else none) ≡ (if eqb 1 (count - k) then some (take k values ++ (v ∷ [])) else none)
-    go true e =
-        let n = eqb-true (k + 1) count e in
-        let w : suc k ≡ count = omega arith in
-        rw (eq-eqb 1 (count - k) (omega arith)) (ap some (ap (λ m. take m (set values k v)) (sym w) ∙ take-suc-set values k v g))
-    go false e =
-        let n = eqb-false (k + 1) count e in
-        rw (ne_eqb 1 (count - k) (λ q. n (omega arith)))
+    go : (b : Bool) → is_number t ≡ b → (if b then Some (value t) else None) ≡ None → collected ns left (t ∷ fs) ≡ None
+    go true w h = cc
+    go false w h = rw (w, and-false (eqb (suc (length fs)) left))
 
--- The same at a place of a text, whose next comma or end is `end`.
-module _ (text : List ℕ) (at end : ℕ) (e : end ≡ at + before 44 (drop at text)) where
-  size : end - at ≡ before 44 (drop at text)
-  size = omega arith
+pub collected_more : (ns : List ℕ) (left : ℕ) (t : List ℕ) (fs : List (List ℕ)) (v : ℕ) → number_in t ≡ Some v → collected ns (suc left) (t ∷ fs) ≡ collected (ns ++ (v ∷ [])) left fs
+unfolding collected all_numbers number_in
+collected_more ns left t fs v e = go (is_number t) refl e
+  where
+    go : (b : Bool) → is_number t ≡ b → (if b then Some (value t) else None) ≡ Some v → collected ns (suc left) (t ∷ fs) ≡ collected (ns ++ (v ∷ [])) left fs
+    go true w h = let z : value t ≡ v = cc in rw (w, z, eqb-suc-suc (length fs) left, append_assoc ns (v ∷ []) (map value fs))
+    go false w h = cc
 
-  pub end_within : at ≤ length text → end ≤ length text
-  end_within h = omega (arith, before_within 44 (drop at text), length-drop at text)
+-- ---- what is answered
+pub no_numbers : (count : ℕ) (text : List ℕ) (r : Option (List ℕ)) → count ≤ 5 → r ≡ None → numbers count text ≡ None → NumbersOf count text r
+unfolding few_numbers
+no_numbers count text r h e n = rw e (record { numbers_are = rw (le-leb count 5 h) (sym n); behind = tt })
 
-  pub more_at : (ns : List ℕ) (left v : ℕ) → end < length text → read_number (take (end - at) (drop at text)) ≡ Value v → collected ns (suc left) (drop at text) ≡ collected (ns ++ (v ∷ [])) left (drop (end + 1) text)
-  more_at ns left v h n =
-      let w : before 44 (drop at text) < length (drop at text) = omega (arith, length-drop at text) in
-      let p : at + suc (before 44 (drop at text)) ≡ end + 1 = omega arith in
-      collected_more ns left (drop at text) v w (ap (λ k. read_number (take k (drop at text))) (sym size) ∙ n)
-      ∙ ap (collected (ns ++ (v ∷ [])) left) (drop-drop (suc (before 44 (drop at text))) at text ∙ ap (λ k. drop k text) p)
-
-  pub last_at : (ns : List ℕ) (left v : ℕ) → length text ≤ end → read_number (take (end - at) (drop at text)) ≡ Value v → collected ns left (drop at text) ≡ (if eqb 1 left then some (ns ++ (v ∷ [])) else none)
-  last_at ns left v h n =
-      let w : length (drop at text) ≤ end - at = omega (arith, length-drop at text) in
-      collected_last ns left (drop at text) v (omega (arith, size)) (ap read_number (sym (take_all (end - at) (drop at text) w)) ∙ n)
-
-  pub ill_at : (ns : List ℕ) (left : ℕ) → read_number (take (end - at) (drop at text)) ≡ Misspelled → collected ns left (drop at text) ≡ none
-  ill_at ns left n = collected_ill ns left (drop at text) (ap (λ k. read_number (take k (drop at text))) (sym size) ∙ n)
+pub all_numbers_lem : (count : ℕ) (text values : List ℕ) → count ≤ 5 → numbers count text ≡ Some (take count values) → drop count values ≡ drop count (replicate 5 0) → NumbersOf count text (Some values)
+unfolding few_numbers
+all_numbers_lem count text values h e z = record { numbers_are = rw (le-leb count 5 h) (sym e); behind = z }

@@ -1,4 +1,3 @@
 pub mod Texts
 pub mod Digits
-mod Fields
-pub mod Levels
+pub mod Fields

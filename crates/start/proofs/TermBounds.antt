@@ -134,10 +134,10 @@ alternate_signed n t false e =
     let even : n % 2 ≡ 1 → ⊥ = eqb-false (n % 2) 1 e in
     (alternate_is n (pos t)).0 (omega arith)
 
-pub terms_none : (lambda : ℕ) → TermsTo lambda 0 (record { plus = 0; minus = 0; bound = 0 })
+pub terms_none : (lambda : ℕ) (s : Sums) → (s.plus ≡ 0) × ((s.minus ≡ 0) × (s.bound ≡ 0)) → TermsTo lambda 0 s
 unfolding sum sumℤ
-terms_none lambda =
-    record { sum_is = refl; bound_is = refl; plus_within = omega arith; minus_within = omega arith; bound_within = omega arith }
+terms_none lambda s e =
+    record { sum_is = rw (e.0, e.1.0) refl; bound_is = e.1.1; plus_within = omega arith; minus_within = omega arith; bound_within = omega arith }
 
 pub terms_more : (lambda n : ℕ) (s r : Sums) → lambda ≤ most_load → n < 64 → TermsTo lambda n s →
     WithPart s (eqb (n % 2) 1) (t lambda n) (c lambda n) r → TermsTo lambda (suc n) r

@@ -31,12 +31,12 @@ pub record TermsTo (lambda n : ℕ) (s : Sums) : Type 0 where
 
 -- the sums of all, by sign and size; 0 has no sign
 pub record StartSumIs (lambda : ℕ) (s : StartSum) : Type 0 where
-  pub sum_is : signed s.negative s.size ≡ alternating lambda
-  pub unsigned : s.size ≡ 0 → s.negative ≡ false
+  pub sum_is : signed s.sum.negative s.sum.size ≡ alternating lambda
+  pub unsigned : s.sum.size ≡ 0 → s.sum.negative ≡ false
   pub bound_is : s.bound ≡ sum 64 (c lambda)
 
 -- of a lambda up to the largest load
 pub record StartSums (lambda : ℕ) (s : StartSum) : Type 0 where
   pub is : StartSumIs (min lambda most_load) s
-  pub size_within : s.size ≤ 200 * most_t
+  pub size_within : s.sum.size ≤ 200 * most_t
   pub bound_within : s.bound ≤ 691

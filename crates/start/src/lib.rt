@@ -8,12 +8,12 @@ ghost use Rattle.start.specs.Terms.{most_t, most_c, next_c, TermsTo, StartSums};
 
 use fund::Fund;
 use rounding::UNIT;
+use whole::{Signed, Sums};
 
 // The sum that f(0) starts from, and the sum that R(0) starts from.
-#[derive(Clone, Copy)]
+#[derive(Clone, Copy, PartialEq, Eq)]
 pub struct StartSum {
-    pub negative: bool,
-    pub size: u64,
+    pub sum: Signed,
     pub bound: u64,
 }
 
@@ -40,23 +40,21 @@ fn next_bound(c: u64, lambda: u64, n: u64) -> u64
 }
 
 // The sums for n to 63.
-fn terms(lambda: u64) -> whole::Sums
+fn terms(lambda: u64) -> Sums
     requires { lambda ≤ most_load }
     ensures { TermsTo lambda 64 result }
 {
-    let mut s = whole::Sums {
-        plus: 0,
-        minus: 0,
-        bound: 0,
-    };
+    let mut s = Sums::default();
     let mut t = UNIT;
     let mut c: u64 = 0;
-    let mut n: u64 = 0;
-    while n < 64 {
-        s = whole::with_part(s, n % 2 == 1, t, c);
-        n += 1;
-        t = next_term(t, lambda, n);
-        c = next_bound(c, lambda, n);
+    for n in 0..64 {
+        let part = Signed {
+            negative: n % 2 == 1,
+            size: t,
+        };
+        s = s.with_part(part, c);
+        t = next_term(t, lambda, n + 1);
+        c = next_bound(c, lambda, n + 1);
     }
     s
 }
@@ -65,11 +63,9 @@ fn terms(lambda: u64) -> whole::Sums
 pub fn sums(lambda: u64) -> StartSum
     ensures { StartSums lambda result }
 {
-    let parts = terms(whole::least(lambda, Fund::MOST_LOAD));
-    let sum = whole::difference(parts.plus, parts.minus);
+    let parts = terms(lambda.min(Fund::MOST_LOAD));
     StartSum {
-        negative: sum.negative,
-        size: sum.size,
+        sum: Signed::difference(parts.plus, parts.minus),
         bound: parts.bound,
     }
 }

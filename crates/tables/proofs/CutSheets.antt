@@ -24,13 +24,13 @@ use Rattle.fund.specs.Answer.{fund_terms, fund_start, fund_cells, fund_truncatio
 use Rattle.fund.specs.Listing.{digits_within, decimal, signed_decimal, joined, cell_line, cell_lines, listed, refused_line, printed, horizon_in, listing_to}
 use Rattle.fund.specs.Limits.{most_rate}
 use Rattle.fund.specs.SheetCells.{least_first, cell_of, quotient, or_else, seek, whole_of, rate_of, at_least, whole_in, amount_of, member_joined, rate_row_of, member_row_of}
-use Rattle.fund.specs.Sheets.{row_count, row_at, rows_of, sheet_rows, read_sheet_rows, read_sheets, sheet_reading, sheet_listing}
+use Rattle.fund.specs.Sheets.{rate_row_in, member_row_in, row_count, row_at, rows_of, sheet_rows, read_sheet_rows, read_sheets, sheet_reading, sheet_listing}
 use Rattle.fund.specs.Starred.{text, file}
 use Rattle.tables.specs.SheetFunds.{header_text, first_header, one}
 use Rattle.tables.specs.CutSheets.{SheetBytes, cut_sheets}
 
 pub every_cut : map (λ (r : SheetBytes). record { rates = r.rates; members = r.members; listing = sheet_listing first_header r.rates r.members }) cut_sheets ≡ cut_sheets
-unfolding near nearest up bytes total sum sumℤ table alternate begun lines_from lines digits is_number value_from value in_first fields all_numbers numbers behind spelled between in_ranges header_lines header_of row_of rising rate_in_range lives_in_all member_in_range no_member at_end read_rows read_header reading held_until rate_in_force folded life point points copies lives unit next_row row placed term_of row_terms single_terms death_weight disability_weight replaced_term replaced_terms terms sum_d sum_h D H lambda load w truncation mean t alternating multiplied start c start_bound entries sum_r sum_f next_cell cells sum_below bound_below premium within loading with_bound gross first unmatched half half_line wide any_short short refuse at0 first_member valued matched verdict running_sum distribution_bound fund_terms fund_start fund_cells fund_truncation fund_mean fund_premium fund_within fund_figures line_at part refused lent accepted answer_of answer_to digits_within decimal signed_decimal joined cell_line cell_lines listed refused_line printed horizon_in listing_to text file least_first of_bits eq of_int cell_of or_else seek whole_of at_least whole_in amount_of member_joined rate_row_of member_row_of row_count row_at rows_of sheet_rows read_sheet_rows read_sheets sheet_reading header_text cut_sheets
+unfolding near nearest up bytes total sum sumℤ table alternate begun lines_from lines digits is_number value_from value in_first fields all_numbers numbers behind spelled between in_ranges header_lines header_of row_of rising rate_in_range lives_in_all member_in_range no_member at_end read_rows read_header reading held_until rate_in_force folded life point points copies lives unit next_row row placed term_of row_terms single_terms death_weight disability_weight replaced_term replaced_terms terms sum_d sum_h D H lambda load w truncation mean t alternating multiplied start c start_bound entries sum_r sum_f next_cell cells sum_below bound_below premium within loading with_bound gross first unmatched half half_line wide any_short short refuse at0 first_member valued matched verdict running_sum distribution_bound fund_terms fund_start fund_cells fund_truncation fund_mean fund_premium fund_within fund_figures line_at part refused lent accepted answer_of answer_to digits_within decimal signed_decimal joined cell_line cell_lines listed refused_line printed horizon_in listing_to text file least_first of_bits eq of_int cell_of or_else seek whole_of at_least whole_in amount_of member_joined rate_row_of member_row_of rate_row_in member_row_in row_count row_at rows_of sheet_rows read_sheet_rows read_sheets sheet_reading header_text cut_sheets
 every_cut = refl
 
 -- the largest number that is asked comes first

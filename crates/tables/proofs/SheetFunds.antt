@@ -19,7 +19,7 @@ use Rattle.fund.specs.Distribution.{distribution_bound}
 use Rattle.fund.specs.Answer.{fund_terms, fund_start, fund_cells, fund_truncation, fund_mean, fund_premium, fund_within, fund_figures, line_at, part, refused, lent, accepted, answer_of, answer_to}
 use Rattle.fund.specs.Listing.{digits_within, decimal, signed_decimal, joined, cell_line, cell_lines, listed, refused_line, printed, horizon_in, enough, listing_to}
 use Rattle.fund.specs.SheetCells.{least_first, cell_of, or_else, seek, whole_of, at_least, whole_in, amount_of, member_joined, member_row_of}
-use Rattle.fund.specs.Sheets.{read_sheet_rows, read_sheets, rows_reading}
+use Rattle.fund.specs.Sheets.{read_sheet_rows, read_sheets, rows_reading, member_row_in}
 use Rattle.fund.specs.Starred.{text}
 use Rattle.tables.specs.SheetFunds.{SheetFund, RowBytes, header_text, sheet_funds, member_bytes}
 

@@ -1,9 +1,9 @@
 -- METHOD 9 (§6): header texts with the rows that sheets are taken as, with what the program prints for them and the part of the header text that is
 -- handed back. Then rows of sheets from their bytes.
-use Rattle.std.specs.Prelude.{List, [], ◌∷◌, ◌++◌, ℕ, None, Option}
+use Rattle.std.specs.Prelude.{List, [], ◌∷◌, ◌++◌, ℕ, None, Option, Some}
 use Prim.Native.String.{String}
-use Rattle.fund.specs.declared.Row.{Row}
-use Rattle.fund.specs.declared.Row.TheVariants.{Rate as RateRow, Member as MemberRow}
+use Rattle.fund.specs.declared.SheetRow.{SheetRow}
+use Rattle.fund.specs.declared.SheetRow.TheVariants.{Rate as RateRow, Member as MemberRow}
 use Rattle.fund.specs.Base.{bytes}
 use Rattle.fund.specs.Answer.{Part, empty}
 use Rattle.fund.specs.Starred.{text, one_member_listing}
@@ -11,17 +11,17 @@ use Rattle.fund.specs.SeveralLives.{two_lives_listing}
 
 pub record SheetFund : Type 0 where
   pub header : List ℕ
-  pub rows : List (Option Row)
+  pub rows : List (Option SheetRow)
   pub listing : List ℕ
   pub part : Part
 
 unfoldable pub header_text : String → String → List String → List ℕ
 header_text members horizon more = text ("rates=2030" ∷ members ∷ horizon ∷ "order=3" ∷ "frequency=1000,1000" ∷ "deductible=2" ∷ more)
 
-abbrev pub rate : ℕ → ℕ → ℕ → Option Row
+abbrev pub rate : ℕ → ℕ → ℕ → Option SheetRow
 rate age q i = Some (RateRow (record { age = age; q = q; i = i }))
 
-abbrev pub member : ℕ → ℕ → ℕ → ℕ → ℕ → Option Row
+abbrev pub member : ℕ → ℕ → ℕ → ℕ → ℕ → Option SheetRow
 member age group d e lives = Some (MemberRow (record { age = age; group = group; d = d; e = e; lives = lives }))
 
 -- The header text of the first fund.
@@ -29,7 +29,7 @@ abbrev pub first_header : List ℕ
 first_header = header_text "members=2030" "horizon=2" ("worth=100" ∷ [])
 
 -- Behind it, rows that are refused: no part is handed back.
-abbrev pub behind_header : List (Option Row) → String → SheetFund
+abbrev pub behind_header : List (Option SheetRow) → String → SheetFund
 behind_header rows refused = record { header = first_header; rows = rows; listing = text (refused ∷ []); part = empty }
 
 unfoldable pub sheet_funds : List SheetFund
@@ -69,7 +69,7 @@ sheet_funds =
 -- Cells from their bytes.
 pub record RowBytes : Type 0 where
   pub bytes : List ℕ
-  pub row : Option Row
+  pub row : Option SheetRow
 
 abbrev pub one : List ℕ
 one = 0 ∷ 0 ∷ 0 ∷ 0 ∷ 0 ∷ 0 ∷ 240 ∷ 63 ∷ []

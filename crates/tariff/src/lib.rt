@@ -16,13 +16,6 @@ const PART: u64 = 100000000;
 
 const PARTS: u64 = 10000000;
 
-// A gross premium in whole centimes, or that the worth is not one that a fund may state.
-#[derive(Clone, Copy)]
-pub enum Gross {
-    Centimes(u64),
-    Outside,
-}
-
 // A number that may be more than a word: high * 10^15 + low.
 #[derive(Clone, Copy)]
 struct TwoWords {
@@ -35,27 +28,23 @@ fn loading(deductible: u64) -> u64
     ensures { result ≡ loading deductible }
 {
     if deductible < Fund::SECOND_STEP {
-        return Fund::FIRST_LOADING;
+        Fund::FIRST_LOADING
+    } else if deductible < Fund::THIRD_STEP {
+        Fund::SECOND_LOADING
+    } else if deductible < Fund::FOURTH_STEP {
+        Fund::THIRD_LOADING
+    } else {
+        Fund::FOURTH_LOADING
     }
-    if deductible < Fund::THIRD_STEP {
-        return Fund::SECOND_LOADING;
-    }
-    if deductible < Fund::FOURTH_STEP {
-        return Fund::THIRD_LOADING;
-    }
-    Fund::FOURTH_LOADING
 }
 
 // The premium with its bound.
 fn with_bound(premium: i64, within: u64) -> TwoWords
     ensures { InTwoWords premium within result }
 {
-    let size = whole::magnitude(premium);
+    let size = premium.unsigned_abs();
     if premium < 0 {
-        if within < size {
-            return TwoWords { high: 0, low: 0 };
-        }
-        let left = within - size;
+        let left = within.saturating_sub(size);
         return TwoWords {
             high: left / SCALE,
             low: left % SCALE,
@@ -76,18 +65,15 @@ fn centimes(high: u64, low: u64, loaded: u64) -> u64
     high * loaded + (low / PART * loaded + rest / PART) / PARTS
 }
 
-// The gross premium of a fund with these terms, whatever the premium and its bound.
-pub fn gross_premium(fund: Fund, premium: i64, within: u64) -> Gross
+// The gross premium of a fund with these terms, in whole centimes, whatever the premium and its bound; of a worth that no fund may state, none.
+pub fn gross_premium(fund: Fund, premium: i64, within: u64) -> Option<u64>
     ensures { result ≡ gross_of fund premium within }
 {
-    if fund.worth < Fund::LEAST_WORTH {
-        return Gross::Outside;
-    }
-    if Fund::MOST_WORTH < fund.worth {
-        return Gross::Outside;
+    if fund.worth < Fund::LEAST_WORTH || Fund::MOST_WORTH < fund.worth {
+        return None;
     }
     // The loaded worth of one unit.
     let loaded = fund.worth * loading(fund.deductible);
     let sum = with_bound(premium, within);
-    Gross::Centimes(centimes(sum.high, sum.low, loaded))
+    Some(centimes(sum.high, sum.low, loaded))
 }

@@ -1,3 +1,2 @@
-mod ClearedList
 mod Quotients
 pub mod Signs

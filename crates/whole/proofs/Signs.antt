@@ -1,10 +1,9 @@
--- A number by its sign and its magnitude: how an i64 holds it (sign, Minus, Flip, keep), and differences, sums and roundings of it
+-- A number by its sign and its magnitude: how an i64 holds it (sign, Flip), and differences, sums and roundings of it
 -- (diff, diff_neg, with_part_is, nearest_signed, nearest_times).
-use Rattle.std.proofs.Common.{◌≡◌, ℕ, zero, suc, ◌+◌, ◌-◌, ◌*◌, ◌^◌, ◌<◌, ◌≤◌, Bool, true, false, T, ℤ, pos, negsuc, ◌+ℤ◌, ◌-ℤ◌, ◌*ℤ◌, neg_ℤ, nat_abs, sym, refl, ap, ◌∙◌, arith, to_z-of_z, w64, SFits, to_z, of_z, ltb-true}
+use Rattle.std.proofs.Common.{◌≡◌, ℕ, suc, ◌+◌, ◌-◌, ◌*◌, ◌^◌, ◌<◌, ◌≤◌, Bool, true, false, ℤ, pos, negsuc, ◌+ℤ◌, ◌-ℤ◌, ◌*ℤ◌, neg_ℤ, nat_abs, sym, refl, ap, ◌∙◌, arith, to_z-of_z, w64, SFits, to_z, of_z, ltb-true}
 use native.Mathlib.Nat as N
-use lib.IntN.{+ℤ_comm, +ℤ_idl, -ℤ_one, neg_ℤ-+ℤ, neg_ℤ-neg_ℤ, +ℤ-neg_ℤ_cancel}
-use lib.Signed.{lt_z, non_neg}
-use mir.Facts.{to_z_pos}
+use lib.IntN.{+ℤ_comm, -ℤ_one, neg_ℤ-+ℤ, neg_ℤ-neg_ℤ, +ℤ-neg_ℤ_cancel}
+use lib.Signed.{lt_z}
 use Rattle.rounding.specs.Rounding.{near, nearest}
 use Rattle.rounding.proofs.Laws.{nearest_pos, nearest_neg}
 use Rattle.algebra.specs.Integer.{ℤ_ring, neg_ℤ_*ℤ}
@@ -16,20 +15,6 @@ use Rattle.whole.specs.Sums.{with_part, PartFits, WithPart}
 -- the test of the sign is made on the word's bits
 pub sign : (z : ℤ) {b : Bool} → SFits w64 z → lt_z (to_z w64 (of_z w64 z)) (pos 0) ≡ b → lt_z z (pos 0) ≡ b
 sign z f t = ap (λ k. lt_z k (pos 0)) (sym (to_z-of_z f)) ∙ t
-
--- 0 - m, for a magnitude m
-neg_fits : (m : ℕ) → m < 2 ^ 63 → SFits w64 (neg_ℤ (pos m))
-neg_fits zero h = record { sfits = h }
-neg_fits (suc m) h = record { sfits = omega arith }
-
-pub record Minus (m : ℕ) : Type 0 where
-  pub fits : SFits w64 (pos 0 -ℤ to_z w64 m)
-  pub is : to_z w64 (of_z w64 (pos 0 -ℤ to_z w64 m)) ≡ neg_ℤ (pos m)
-
-pub minus : (m : ℕ) → m < 2 ^ 63 → Minus m
-minus m h =
-    let e : pos 0 -ℤ to_z w64 m ≡ neg_ℤ (pos m) = ap (λ k. pos 0 -ℤ k) (to_z_pos w64 h) ∙ +ℤ_idl (neg_ℤ (pos m)) in
-    record { fits = rw e (neg_fits m h); is = rw e (to_z-of_z (neg_fits m h)) }
 
 -- -1 - z, for a negative z
 minus_one : (n : ℕ) → negsuc 0 -ℤ negsuc n ≡ pos n
@@ -51,17 +36,6 @@ flip_at (negsuc n) f t =
 
 pub flip : (z : ℤ) → SFits w64 z → lt_z (to_z w64 (of_z w64 z)) (pos 0) ≡ true → Flip z
 flip z f t = flip_at z f (sign z f t)
-
--- a number that is not negative
-keep_at : (z : ℤ) → SFits w64 z → lt_z z (pos 0) ≡ false → T (non_neg z) × (nat_abs z < 2 ^ 64)
-keep_at (pos n) f t = (tt, omega (arith, f.sfits))
-keep_at (negsuc n) f t = absurd (clash t)
-  where
-    clash : true ≡ false → ⊥
-    clash e = let u : ◌≡◌ {A = ℕ} 0 1 = cc in omega arith
-
-pub keep : (z : ℤ) → SFits w64 z → lt_z (to_z w64 (of_z w64 z)) (pos 0) ≡ false → T (non_neg z) × (nat_abs z < 2 ^ 64)
-keep z f t = keep_at z f (sign z f t)
 
 -- differences
 pub diff : (m n : ℕ) → n ≤ m → pos (m - n) ≡ pos m -ℤ pos n

@@ -10,7 +10,7 @@ returns-in_default g c =
     let r = c.in_default.ensures.reads_more in
     record {
       read = record { long = r.extends.long ∙ i.1; inside = omega (arith, r.extends.long, i.0) };
-      memory = λ e. stops (i.3 e) r.extends (stops_failed (r.gives (still_memory i.2 e)) c.loop-size-test.true);
+      memory = λ e. stops _ refl (i.3 e) r.extends (stops_failed (r.gives (still_memory i.2 e)) c.loop-size-test.true);
       closed = λ e _. record { nothing = i.4 e; failed = refl };
     }
 
@@ -20,7 +20,7 @@ returns-then-count-eq0 g c =
     let r = c.in-Some.ensures.reads_more in
     record {
       read = record { long = r.extends.long ∙ i.1; inside = omega (arith, r.extends.long, i.0) };
-      memory = λ e. stops (i.3 e) r.extends (stops_ended (r.gives (still_memory i.2 e)) c.if-count-eq0.true c.loop-size-test.true);
+      memory = λ e. stops _ refl (i.3 e) r.extends (stops_ended (r.gives (still_memory i.2 e)) c.if-count-eq0.true c.loop-size-test.true);
       closed = λ e _. absurd (true≢false (r.closed (still_closed i.2 e)));
     }
 
@@ -40,6 +40,6 @@ returns g c =
     let i = c.loop-size.invariant in
     record {
       read = record { long = i.1; inside = i.0 };
-      memory = λ e. stops (i.3 e) record { long = refl; kept = refl } (full (omega (arith, c.loop-size-test.false)));
+      memory = λ e. stops _ refl (i.3 e) record { long = refl; kept = refl } (full (omega (arith, c.loop-size-test.false)));
       closed = λ e k. absurd (omega (arith, i.1, i.4 e, k, c.loop-size-test.false));
     }

@@ -8,4 +8,4 @@ pub returns : goal.returns
 returns c =
     let s = c.before.before.args in
     rw (split_right s.a s.b 1000000)
-    (c.with_whole.ensures (s.a * (s.b % 1000000)) 1000000 c.before.part_by_million.ensures.divided)
+    (c.with_whole.ensures (s.a * (s.b % 1000000)) 1000000 c.before.part_by_million.ensures)

@@ -1,7 +1,5 @@
 -- The parts of the product in base 10^6 fit a word each (`million_parts`), and their sum is the product.
 -- The quotient fits because b is below the unit, so that it is at most a.
-use mathlib.Core.Path.{refl}
-use mathlib.Core.Bool.{true≢false}
 use native.Mathlib.Omega.{arith}
 use Rattle.rounding.proofs.Product.{MillionParts, million_parts}
 use Rattle.rounding.proofs.part_by_million.Goals as goal
@@ -20,4 +18,4 @@ pub overflow_add-result : goal.overflow_add-result
 overflow_add-result c = omega (arith, parts c)
 
 pub returns : goal.returns
-returns c = record { divided = record { whole = λ _. omega (arith, parts c); below = omega arith; many = λ f. absurd (true≢false f) }; fits_value = refl }
+returns c = (omega (arith, parts c), omega arith)

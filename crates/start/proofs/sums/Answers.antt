@@ -22,18 +22,15 @@ unsigned true m n size e d z =
     let s = ap nat_abs (sym (neg_ℤ-neg_ℤ (pos size)) ∙ ap neg_ℤ (d ∙ sym (diff_neg m n (N.le_of_lt h))) ∙ neg_ℤ-neg_ℤ (pos (n - m))) in
     absurd (omega (arith, s))
 
-pub terms-parts-requires : goal.terms-parts-requires
-terms-parts-requires c = omega (arith, c.least.ensures)
-
 pub returns : goal.returns
 unfolding alternating
 returns c =
-    let d = c.difference-sum.ensures in
+    let d = c.difference.ensures in
     let s = c.terms-parts.ensures in
     record {
       is =
-          subst (λ l. StartSumIs l (record { negative = c.difference-sum.result.negative; size = c.difference-sum.result.size; bound = c.terms-parts.result.bound })) c.least.ensures
+          subst (λ l. StartSumIs l (record { sum = c.difference.result; bound = c.terms-parts.result.bound })) c.min.ensures
           (record { sum_is = d.0 ∙ s.sum_is; unsigned = unsigned _ c.terms-parts.result.plus c.terms-parts.result.minus _ d.2 d.0; bound_is = s.bound_is });
       size_within = omega (arith, d.1, s.plus_within, s.minus_within);
-      bound_within = omega (arith, s.bound_is, c_sum c.least.result (omega (arith, c.least.ensures)));
+      bound_within = omega (arith, s.bound_is, c_sum c.min.result (omega (arith, c.min.ensures)));
     }

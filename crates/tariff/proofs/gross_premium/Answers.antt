@@ -2,20 +2,17 @@
 use Prim.Native.Nat.{◌*◌, ◌≤◌}
 use native.Mathlib.Omega.{arith}
 use mir.Facts.{to_z-of_z}
-use Rattle.tariff.proofs.GrossAnswers.{loaded_le, gross_low, gross_high, gross_from}
+use Rattle.tariff.proofs.GrossAnswers.{loaded_le, gross_outside, gross_from}
 use Rattle.tariff.proofs.gross_premium.Goals as goal
 use Rattle.tariff.proofs.gross_premium.Goals.{After-loading}
 
 pub returns-then-fund-lt-LEAST_WORTH : goal.returns-then-fund-lt-LEAST_WORTH
-returns-then-fund-lt-LEAST_WORTH c = let a = c.args in gross_low a.fund a.premium a.within (omega arith)
-
-pub returns-then-fund-gt-MOST_WORTH : goal.returns-then-fund-gt-MOST_WORTH
-returns-then-fund-gt-MOST_WORTH c = let a = c.args in gross_high a.fund a.premium a.within (omega arith) (omega arith)
+returns-then-fund-lt-LEAST_WORTH c = let a = c.args in gross_outside a.fund a.premium a.within c.then-fund-lt-LEAST_WORTH.either
 
 -- the loaded worth fits a word
-loaded_small : (c : After-loading) → let f = c.before.before.before.before.before.args.fund in f.worth * c.loading.result ≤ 21000000000
+loaded_small : (c : After-loading) → let f = c.args.fund in f.worth * c.loading.result ≤ 21000000000
 loaded_small c =
-    let f = c.before.before.before.before.before.args.fund in
+    let f = c.args.fund in
     rw c.loading.ensures (loaded_le f.worth _ (omega arith))
 
 pub overflow_mul-loaded : goal.overflow_mul-loaded

@@ -17,6 +17,6 @@ pub returns-then-deductible-lt-FOURTH_STEP : goal.returns-then-deductible-lt-FOU
 unfolding loading
 returns-then-deductible-lt-FOURTH_STEP c = let M = c.args.deductible in rw (le-ltb M second_step (omega arith), le-ltb M third_step (omega arith), lt-ltb M fourth_step (omega arith))
 
-pub returns : goal.returns
+pub returns-else-deductible-lt-FOURTH_STEP : goal.returns-else-deductible-lt-FOURTH_STEP
 unfolding loading
-returns c = let M = c.args.deductible in rw (le-ltb M second_step (omega arith), le-ltb M third_step (omega arith), le-ltb M fourth_step (omega arith))
+returns-else-deductible-lt-FOURTH_STEP c = let M = c.args.deductible in rw (le-ltb M second_step (omega arith), le-ltb M third_step (omega arith), le-ltb M fourth_step (omega arith))

@@ -1,70 +1,59 @@
--- `moves::files::first_member_line`: whether a list ends before line k, and else what the comparison says of its two lines.
-use mathlib.Core.Path.{◌≡◌, sym, ◌∙◌}
-use mathlib.Core.Bool.{Bool, true, false}
-use mathlib.Core.List.{List}
-use Prim.Native.Nat.{ℕ, ◌+◌, ◌≤◌, ◌<◌}
-use native.Mathlib.Omega.{arith}
-use lib.ListN.{length, get_or, take, length-take}
-use lib.Seq.{get_or-take}
-use Rattle.fund.specs.declared.Member.{Member}
-use Rattle.laws.specs.Rows.{blank_member}
-use Rattle.moves.specs.Differences.{same_member, first_member_line}
-use Rattle.moves.proofs.Lines.{Ahead, ahead_step, ahead_none, ahead_old, ahead_new, ahead_other}
+-- The lines that both iterators give next are compared; where one has ended, the lists' lengths decide.
+use Rattle.std.proofs.Common.{arith, ◌≡◌, refl, sym, ◌∙◌, ap, ◌+◌, suc, length, Bool, true, false, Some, true≢false, inl, inr}
+use Rattle.std.specs.Prelude.{not}
+use Rattle.moves.specs.Differences.{first_member_line, same_member}
+use Rattle.moves.proofs.Lines.{alike, unlike, both_ended, one_ended, other_ended}
 use Rattle.moves.proofs.files.first_member_line.Goals as goal
-use Rattle.moves.proofs.files.first_member_line.Goals.{then-enrolled-k-2-via-then-enrolled-k-2, then-enrolled-k-2-via-else-enrolled-k-2+then-others-k-2, then-enrolled-k-2-via-else-enrolled-k-2+else-others-k-2+then-not-is_same}
+use Rattle.moves.proofs.files.first_member_line.Goals.{After-min}
 
--- The lines before `enrolled` and `others`, of which line k is in both tables.
-module _ (old new : List Member) (enrolled others k : ℕ) (a : Ahead (take enrolled old) (take others new) k) (old_has : k < length old) (new_has : k < length new) where
-  neither : enrolled ≤ k → others ≤ k → first_member_line 1 (take enrolled old) (take others new) ≡ 0
-  neither g h = ahead_none _ _ k a (omega (arith, length-take enrolled old)) (omega (arith, length-take others new))
+other : {b : Bool} → not b ≡ true → b ≡ false
+other {b = true} e = absurd (true≢false (sym e))
+other {b = false} e = refl
 
-  only_new : enrolled ≤ k → k < others → first_member_line 1 (take enrolled old) (take others new) ≡ k + 1
-  only_new g h = ahead_new _ _ k a (omega (arith, length-take enrolled old)) (omega (arith, length-take others new))
+same : {b : Bool} → not b ≡ false → b ≡ true
+same {b = true} e = refl
+same {b = false} e = absurd (true≢false e)
 
-  only_old : k < enrolled → others ≤ k → first_member_line 1 (take enrolled old) (take others new) ≡ k + 1
-  only_old g h = ahead_old _ _ k a (omega (arith, length-take enrolled old)) (omega (arith, length-take others new))
-
-  says : {b : Bool} → k < enrolled → k < others → b ≡ same_member (get_or old k blank_member) (get_or new k blank_member)
-      → same_member (get_or (take enrolled old) k blank_member) (get_or (take others new) k blank_member) ≡ b
-  says g h e = rw (get_or-take enrolled old k blank_member g, get_or-take others new k blank_member h) (sym e)
-
-  other : {b : Bool} → k < enrolled → k < others → b ≡ same_member (get_or old k blank_member) (get_or new k blank_member) → b ≡ false
-      → first_member_line 1 (take enrolled old) (take others new) ≡ k + 1
-  other g h e f = ahead_other _ _ k a (omega (arith, length-take enrolled old)) (omega (arith, length-take others new)) (says g h e ∙ f)
-
-  step : {b : Bool} → k < enrolled → k < others → b ≡ same_member (get_or old k blank_member) (get_or new k blank_member) → b ≡ true
-      → Ahead (take enrolled old) (take others new) (k + 1)
-  step g h e f = ahead_step _ _ k a (omega (arith, length-take enrolled old)) (omega (arith, length-take others new)) (says g h e ∙ f)
-
-pub returns-then-others-k : goal.returns-then-others-k
-returns-then-others-k c =
-    let a = c.args in
-    (sym (neither a.old a.new a.enrolled a.others c.loop-k.k c.loop-k.invariant.1 (omega arith) (omega arith) (omega arith) (omega arith)), omega arith)
-
-pub returns-then-enrolled-k-2 : goal.returns-then-enrolled-k-2
-returns-then-enrolled-k-2 c =
-    let a = c.args in
-    let k = c.loop-k.k in
-    let i = c.loop-k.invariant.1 in (
-      elim c.then-enrolled-k-2.branch [
-        | then-enrolled-k-2-via-then-enrolled-k-2 w ↦
-            sym (only_new a.old a.new a.enrolled a.others k i (omega arith) (omega arith) (omega arith) (grind (arith, c.else-enrolled-k.either)))
-        | then-enrolled-k-2-via-else-enrolled-k-2+then-others-k-2 w ↦
-            sym (only_old a.old a.new a.enrolled a.others k i (omega arith) (omega arith) (omega arith) (omega arith))
-        | then-enrolled-k-2-via-else-enrolled-k-2+else-others-k-2+then-not-is_same w ↦
-            sym (other a.old a.new a.enrolled a.others k i (omega arith) (omega arith) (omega arith) (omega arith) w.is_same.ensures w.if-not-is_same.true)
-      ],
-      omega arith,
-    )
+pub returns-then-ne : goal.returns-then-ne
+unfolding same_member
+returns-then-ne c =
+    let s = c.in-Some.ensures.steps in
+    let k : suc c.loop-k.k-iterator.count ≡ c.in-Some.k + 1 = omega (arith, s.1) in
+    ap Some (sym k) ∙ sym (c.loop-k.invariant.0 ∙ unlike _ s.0.0 s.0.1 (other (sym c.ne.ensures ∙ c.if-ne.true)))
 
 pub loop-k-preserved : goal.loop-k-preserved
+unfolding same_member
 loop-k-preserved c =
-    let a = c.args in (
-      omega arith,
-      step a.old a.new a.enrolled a.others c.loop-k.k c.loop-k.invariant.1 (omega arith) (omega arith) (omega arith) (omega arith) c.is_same.ensures c.if-not-is_same.false,
+    let s = c.in-Some.ensures.steps in
+    let i = c.loop-k.invariant in
+    let k : suc (suc c.loop-k.k-iterator.count) ≡ suc c.next.new.self.count = omega (arith, s.2) in
+    let a : length c.loop-k.k-iterator.iter.a.rest.now ≡ suc (length c.next.new.self.iter.a.rest.now) = ap length s.0.0 in
+    let b : length c.loop-k.k-iterator.iter.b.rest.now ≡ suc (length c.next.new.self.iter.b.rest.now) = ap length s.0.1 in (
+      i.0 ∙ alike _ s.0.0 s.0.1 (same (sym c.ne.ensures ∙ c.if-ne.false)) ∙ ap (λ n. first_member_line n c.next.new.self.iter.a.rest.now c.next.new.self.iter.b.rest.now) k,
+      omega (arith, i.1, a, s.2),
+      omega (arith, i.2, b, s.2),
     )
+
+pub returns-then-old-new : goal.returns-then-old-new
+returns-then-old-new c =
+    let s = c.in-None.ensures.steps in
+    let i = c.loop-k.invariant in
+    sym (i.0 ∙ both_ended _ _ _ (grind (arith, s.0, i.1, i.2, c.if-old-new.true)) (grind (arith, s.0, i.1, i.2, c.if-old-new.true)))
+
+ended : (c : After-min) →
+    let k = c.loop-k.k-iterator in
+    first_member_line (suc k.count) k.iter.a.rest.now k.iter.b.rest.now ≡ Some (suc k.count)
+ended c =
+    let s = c.in-None.ensures.steps in
+    let i = c.loop-k.invariant in
+    elim s.0 [
+      | inl a ↦ one_ended _ _ _ (a.1.0, omega (arith, a.1.0, i.1, i.2, c.if-old-new.false))
+      | inr b ↦ other_ended _ _ _ (omega (arith, b.1.0, i.1, i.2, c.if-old-new.false), b.1.0)
+    ]
 
 pub returns : goal.returns
 returns c =
-    let a = c.args in
-    (sym (ahead_none _ _ c.loop-k.k c.loop-k.invariant.1 (omega (arith, length-take a.enrolled a.old)) (omega (arith, length-take a.others a.new))), omega arith)
+    let s = c.in-None.ensures.steps in
+    let i = c.loop-k.invariant in
+    let n : suc c.loop-k.k-iterator.count ≡ c.min.result + 1 = grind (arith, s.0, i.1, i.2, c.min.ensures) in
+    ap Some (sym n) ∙ sym (i.0 ∙ ended c)

@@ -1,12 +1,10 @@
--- `moves::files::first_member_line`. The invariant: what is left to compare are the lines from k on.
-use Prim.Native.Nat.{◌≤◌, ◌-◌}
-use lib.ListN.{take}
-use Rattle.fund.specs.Limits.{most_members}
-use Rattle.moves.proofs.Lines.{Ahead}
+-- What is left to compare are the lines that both iterators have not given yet.
+use Rattle.std.proofs.Common.{◌≡◌, ◌+◌, suc, length}
+use Rattle.moves.specs.Differences.{first_member_line}
 use Rattle.moves.proofs.files.first_member_line.Given as goal
 
 abbrev pub invariant-loop-k : goal.invariant-loop-k
-invariant-loop-k l = (l.k ≤ most_members) × Ahead (take l.enrolled l.old) (take l.others l.new) l.k
-
-abbrev pub decreases-loop-k : goal.decreases-loop-k
-decreases-loop-k l = most_members - l.k
+invariant-loop-k l =
+    (first_member_line 1 l.old l.new ≡ first_member_line (suc l.k-iterator.count) l.k-iterator.iter.a.rest.now l.k-iterator.iter.b.rest.now) ×
+    (l.k-iterator.count + length l.k-iterator.iter.a.rest.now ≡ length l.old) ×
+    (l.k-iterator.count + length l.k-iterator.iter.b.rest.now ≡ length l.new)

@@ -1,8 +1,7 @@
--- `cells::floats::word`: four bytes and four.
-use native.Mathlib.Omega.{arith}
-use Rattle.sheet_cells.specs.Bytes.{halves}
+-- `sheet_cells::floats::word`: the number of eight bytes is that of the library's conversion.
+use Rattle.std.proofs.Common.{◌∙◌}
+use Rattle.sheet_cells.specs.Bytes.{eight}
 use Rattle.sheet_cells.proofs.floats.word.Goals as goal
 
 pub returns : goal.returns
-returns c =
-    halves c.args.row.now c.args.at 4 (omega arith) c.four.ensures.0 c.four-2.ensures.0
+returns c = c.from_le_bytes.ensures ∙ eight c.args.row.now c.args.at c.requires

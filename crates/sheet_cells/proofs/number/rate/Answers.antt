@@ -1,7 +1,7 @@
 -- `sheet_cells::number::rate`: the invariant: every k whose quotient x equals lies from lo on and below hi.
 use mathlib.Core.Path.{◌≡◌}
 use mathlib.Core.Bool.{Bool}
-use Prim.Native.Nat.{ℕ, ◌+◌, ◌-◌, ◌/◌, ◌≤◌}
+use Prim.Native.Nat.{ℕ, ◌≤◌}
 use native.Mathlib.Nat.{le_trans}
 use native.Mathlib.Omega.{arith}
 use lib.Dec.{le→leb, lit≤}
@@ -24,24 +24,23 @@ loop-lo-init c = (omega arith, ascending.within_all q 1000000 ascending.milliont
 pub int_to_float-quotient : goal.int_to_float-quotient
 unfolding in_float
 int_to_float-quotient c =
-    let at = c.loop-lo in
-    let small : at.lo + (at.hi - at.lo) / 2 ≤ 1000000 = omega arith in
+    let small : c.midpoint-mid.result ≤ 1000000 = omega arith in
     le→leb _ _ (le_trans small (lit≤ tt))
 
-pub returns-then-x-quotient-2 : goal.returns-then-x-quotient-2
+pub returns-then-x-quotient : goal.returns-then-x-quotient
 unfolding rate_of
-returns-then-x-quotient-2 c = let x = c.args.x in ascending.found q 1000000 ascending.millionths x _ (omega arith) (is eq x _ c.if-x-quotient-2.true)
+returns-then-x-quotient c = let x = c.args.x in ascending.found q 1000000 ascending.millionths x _ (omega arith) (is eq x _ c.if-x-quotient.true)
 
-pub loop-lo-preserved-then-x-quotient : goal.loop-lo-preserved-then-x-quotient
-loop-lo-preserved-then-x-quotient c =
+pub loop-lo-preserved-then-x-quotient-2 : goal.loop-lo-preserved-then-x-quotient-2
+loop-lo-preserved-then-x-quotient-2 c =
     let x = c.args.x in
-    (omega arith, ascending.within_left q 1000000 ascending.millionths x c.loop-lo.lo c.loop-lo.hi _ c.loop-lo.invariant.1 (omega arith) (is lt x _ c.if-x-quotient.true))
+    (omega arith, ascending.within_left q 1000000 ascending.millionths x c.loop-lo.lo c.loop-lo.hi _ c.loop-lo.invariant.1 (omega arith) (is lt x _ c.if-x-quotient-2.true))
 
 pub loop-lo-preserved : goal.loop-lo-preserved
 loop-lo-preserved c =
     let x = c.args.x in (
       omega arith,
-      ascending.within_right q 1000000 ascending.millionths x c.loop-lo.lo c.loop-lo.hi _ c.loop-lo.invariant.1 (omega arith) (is eq x _ c.if-x-quotient-2.false) (is lt x _ c.if-x-quotient.false),
+      ascending.within_right q 1000000 ascending.millionths x c.loop-lo.lo c.loop-lo.hi _ c.loop-lo.invariant.1 (omega arith) (is eq x _ c.if-x-quotient.false) (is lt x _ c.if-x-quotient-2.false),
     )
 
 pub returns : goal.returns

@@ -1,4 +1,5 @@
 -- `sheet_cells::number::whole`: the only whole number that x can equal is the one of its bits (`only`), and it is compared with that.
+use Rattle.std.specs.Prelude.{None}
 use borrow.Author.Rules.{rules}
 use mathlib.Core.Path.{◌≡◌, sym, ap, ◌∙◌, subst}
 use mathlib.Core.Bool.{false}
@@ -7,7 +8,6 @@ use native.Mathlib.Nat.{le_trans, not-le_of_lt}
 use lib.Dec.{T, le→leb}
 use lib.Ieee.{Float, binary64, fits, in_float, of_bits, to_bits, eq}
 use lib.Ieee.Bits.{of_bits-to_bits}
-use Rattle.fund.specs.declared.Taken.TheVariants.{Not}
 use Rattle.fund.specs.SheetCells.{of_whole, whole_of}
 use Rattle.sheet_cells.specs.Taken.{whole_at, whole_none}
 use Rattle.sheet_cells.specs.Part.{OnlyWhole}
@@ -17,10 +17,10 @@ use Rattle.sheet_cells.proofs.number.whole.Goals.{else-k-most-via-then-k-most+el
 only : (x : Float) (k : ℕ) → T (fits binary64 x) → OnlyWhole (of_bits binary64 (to_bits binary64 x)) k → OnlyWhole x k
 only x k h o = subst (λ (y : Float). OnlyWhole y k) (of_bits-to_bits binary64 x h) o
 
-above : (x : Float) (most k : ℕ) → most ≤ 2 ^ 53 → OnlyWhole x k → most < k → Not ≡ whole_of x most
+above : (x : Float) (most k : ℕ) → most ≤ 2 ^ 53 → OnlyWhole x k → most < k → None ≡ whole_of x most
 above x most k m o l = sym (whole_none x most (λ n h t. not-le_of_lt l (subst (λ (z : ℕ). z ≤ most) (o n (le_trans h m) t) h)))
 
-other : (x : Float) (most k : ℕ) → most ≤ 2 ^ 53 → OnlyWhole x k → eq x (of_whole k) ≡ false → Not ≡ whole_of x most
+other : (x : Float) (most k : ℕ) → most ≤ 2 ^ 53 → OnlyWhole x k → eq x (of_whole k) ≡ false → None ≡ whole_of x most
 other x most k m o e = sym (whole_none x most (λ n h t. subst T (ap (λ (z : ℕ). eq x (of_whole z)) (o n (le_trans h m) t) ∙ e) t))
 
 pub int_to_float-k : goal.int_to_float-k
