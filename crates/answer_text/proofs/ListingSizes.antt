@@ -1,23 +1,21 @@
--- How long a piece can be: a cell line is no longer than `most_cell_line`, a listing no longer than `room`, and every other line no longer
--- than `level_room`.
-use mathlib.Core.Path.{◌≡◌, sym}
+-- How long a piece can be: a cell line is no longer than `most_cell_line`, the other lines of a listing together no longer than `most_other_lines`, and
+-- the line of an answer at a level no longer than `level_room`.
+use mathlib.Core.Path.{◌≡◌}
 use mathlib.Core.List.{List}
 use Prim.Native.Nat.{ℕ, suc, ◌+◌, ◌*◌, ◌^◌, ◌≤◌, ◌<◌}
 use native.Mathlib.Omega.{arith}
 use lib.IntN.{ℤ, pos}
 use lib.ListN.{length, get_or, length-append}
+use Rattle.std.specs.Prelude.{Option, Some, None, IfSome}
 use mir.Syntax.{w64}
 use mir.Val.{SFits}
 use Rattle.fund.specs.declared.Figures.{Figures}
-use Rattle.fund.specs.declared.Quantile.TheVariants.{At}
-use Rattle.fund.specs.declared.Refusal.{Refusal}
 use Rattle.fund.specs.Base.{bytes}
 use Rattle.fund.specs.Limits.{most_horizon}
-use Rattle.fund.specs.Refusals.{number_of}
-use Rattle.fund.specs.Listing.{joined, cell_lines, refused_line}
+use Rattle.fund.specs.Listing.{joined, cell_lines}
 use Rattle.answer_text.specs.Shown.{most_cell_line, room}
 use Rattle.answer_text.specs.Level.{place_text, quantile_line, level_room}
-use Rattle.answer_text.specs.Pieces.{cell_text, head, premium_lines, foot, accepted_lines}
+use Rattle.answer_text.specs.Pieces.{cell_text, head, foot, accepted_lines}
 use Rattle.writing.proofs.Decimal.{decimal_length}
 use Rattle.writing.proofs.NumberSizes.{decimal_word, signed_word}
 use Rattle.answer_text.proofs.Pieces.{bound_before, cells_step}
@@ -27,7 +25,7 @@ cell_size : (x : ℕ) (f : ℤ) (within : ℕ) (F : ℤ) (bound : ℕ) → x ≤
 unfolding cell_text joined bytes
 cell_size x f within F bound h g w G b =
     simp length-append
-    (omega (arith, decimal_length 3 x (omega arith), signed_word f g, decimal_length 8 within w, signed_word F G, decimal_length 9 bound b))
+    (omega (arith, decimal_length 3 x (omega arith) (omega arith), signed_word f g, decimal_length 8 within w (omega arith), signed_word F G, decimal_length 9 bound b (omega arith)))
 
 -- One cell line more.
 pub cells_size : (E : ℕ) (f : List ℤ) (R : List ℕ) (F : List ℤ) (x bound : ℕ)
@@ -42,20 +40,16 @@ unfolding head joined bytes
 head_size a h g = simp length-append (omega (arith, decimal_word a.truncation h, decimal_word a.mean g))
 
 pub foot_size : (a : Figures) → SFits w64 a.premium → a.within < 2 ^ 64 → a.gross < 2 ^ 64 → length (foot a) ≤ 84
-unfolding foot premium_lines joined bytes
+unfolding foot joined bytes
 foot_size a h g k = simp length-append (omega (arith, signed_word a.premium h, decimal_word a.within g, decimal_word a.gross k))
 
-pub accepted_size : (a : Figures) (f : List ℤ) (R : List ℕ) (F : List ℤ) (count : ℕ) {size : ℕ}
-    → length (head a) ≤ 58 → length (cell_lines a.truncation f R F 0 count) ≤ most_cell_line * count → length (foot a) ≤ 84 → count ≤ suc most_horizon → room ≤ size
-    → length (accepted_lines a f R F count) ≤ size
+pub accepted_size : (a : Figures) (f : List ℤ) (R : List ℕ) (F : List ℤ) (count : ℕ)
+    → length (head a) ≤ 58 → length (cell_lines a.truncation f R F 0 count) ≤ most_cell_line * count → length (foot a) ≤ 84 → count ≤ suc most_horizon
+    → length (accepted_lines a f R F count) ≤ room
 unfolding accepted_lines
-accepted_size a f R F count h c g k r = simp length-append (omega arith)
+accepted_size a f R F count h c g k = simp length-append (omega arith)
 
-pub refusal_size : (why : Refusal) (place n : ℕ) {size : ℕ} → n ≡ number_of why → n < 2 ^ 64 → place < 2 ^ 64 → level_room ≤ size
-    → length (refused_line why place) ≤ size
-unfolding refused_line joined bytes
-refusal_size why place n e h g r = simp (length-append, sym e) (omega (arith, decimal_word n h, decimal_word place g))
-
-pub quantile_size : (x : ℕ) {size : ℕ} → x < 2 ^ 64 → level_room ≤ size → length (quantile_line (At x)) ≤ size
+pub quantile_size : (quantile : Option ℕ) → IfSome quantile (λ x. x < 2 ^ 64) → length (quantile_line quantile) ≤ level_room
 unfolding quantile_line place_text joined bytes
-quantile_size x h r = simp length-append (omega (arith, decimal_word x h))
+quantile_size (Some x) h = simp length-append (omega (arith, decimal_word x h))
+quantile_size None h = omega arith

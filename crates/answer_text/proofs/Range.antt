@@ -1,23 +1,19 @@
 -- The range test as facts (in_range), and what `listing` writes where it holds and where it does not.
-use mathlib.Core.Path.{◌≡◌, ap, ◌∙◌}
+use mathlib.Core.Path.{◌≡◌, ap}
 use mathlib.Core.Bool.{true, false}
 use mathlib.Core.List.{List, [], append_assoc}
 use Prim.Native.Nat.{ℕ, suc, ◌+◌, ◌≤◌, ◌<◌}
 use native.Mathlib.Numerals.{add-one}
 use native.Mathlib.Omega.{arith}
-use borrow.Author.Tests.{leb-true, ltb-true}
-use lib.Dec.{leb, ltb}
+use Rattle.std.proofs.lemmas.Bool.Decides.{nat_tests}
 use lib.IntN.{ℤ}
 use lib.ListN.{length, take}
-use Rattle.fund.specs.declared.Refusal.{Refusal}
-use Rattle.fund.specs.declared.Verdict.TheVariants.{Accepted, Refused}
 use Rattle.std.specs.Prelude.{if◌then◌else◌}
 use Rattle.fund.specs.Limits.{most_horizon, most_truncation}
 use Rattle.fund.specs.Answer.{Answer}
-use Rattle.fund.specs.Listing.{printed, listed, refused_line}
+use Rattle.fund.specs.Listing.{printed, listed}
 use Rattle.answer_text.specs.Shown.{room, bounded, printable, listing_of}
-use Rattle.answer_text.specs.Pieces.{head, premium_lines, foot, accepted_lines, PrintableCells}
-use Rattle.answer_text.proofs.Pieces.{and_left, and_right}
+use Rattle.answer_text.specs.Pieces.{head, foot, accepted_lines, PrintableCells}
 
 pub record Printable (E X cells : ℕ) (R : List ℕ) (sums size : ℕ) : Type 0 where
   pub horizon : X ≤ most_horizon
@@ -31,19 +27,14 @@ pub record Printable (E X cells : ℕ) (R : List ℕ) (sums size : ℕ) : Type 0
 pub in_range : (E X cells : ℕ) (R : List ℕ) (sums size : ℕ) → printable E X cells R sums size ≡ true → Printable E X cells R sums size
 unfolding printable
 in_range E X cells R sums size e =
-    let e₁ = and_right (leb X most_horizon) _ e in
-    let e₂ = and_right (ltb X cells) _ e₁ in
-    let e₃ = and_right (ltb X (length R)) _ e₂ in
-    let e₄ = and_right (ltb X sums) _ e₃ in
-    let e₅ = and_right (leb E most_truncation) _ e₄ in
     record {
-      horizon = leb-true _ _ (and_left _ _ e);
-      enough_f = ltb-true _ _ (and_left _ _ e₁);
-      enough_R = ltb-true _ _ (and_left _ _ e₂);
-      enough_F = ltb-true _ _ (and_left _ _ e₃);
-      truncation = leb-true _ _ (and_left _ _ e₄);
-      enough_text = leb-true _ _ (and_left _ _ e₅);
-      bounds = and_right (leb room size) _ e₅;
+      horizon = grind (arith, nat_tests, e);
+      enough_f = grind (arith, nat_tests, e);
+      enough_R = grind (arith, nat_tests, e);
+      enough_F = grind (arith, nat_tests, e);
+      truncation = grind (arith, nat_tests, e);
+      enough_text = grind (arith, nat_tests, e);
+      bounds = grind (arith, nat_tests, e);
     }
 
 -- The figures of the cells 0 to X.
@@ -67,16 +58,6 @@ module _ (a : Answer) (X size : ℕ) where
   unfolding listing_of
   listing_in e = ap (λ b. if b then printed a X a.verdict else []) e
 
-  listed_lines : listed X a ≡ accepted_lines a.figures a.f a.R a.F (X + 1)
-  unfolding listed accepted_lines head premium_lines foot
+  pub listed_lines : listed X a ≡ accepted_lines a.figures a.f a.R a.F (X + 1)
+  unfolding listed accepted_lines head foot
   listed_lines = rw add-one (simp append_assoc)
-
-  pub listing_accepted : printable a.figures.truncation X (length a.f) a.R (length a.F) size ≡ true → a.verdict ≡ Accepted
-      → listing_of a X size ≡ accepted_lines a.figures a.f a.R a.F (X + 1)
-  unfolding printed
-  listing_accepted e v = listing_in e ∙ ap (printed a X) v ∙ listed_lines
-
-  pub listing_refused : (why : Refusal) (place : ℕ) → printable a.figures.truncation X (length a.f) a.R (length a.F) size ≡ true → a.verdict ≡ Refused why place
-      → listing_of a X size ≡ refused_line why place
-  unfolding printed
-  listing_refused why place e v = listing_in e ∙ ap (printed a X) v

@@ -6,23 +6,16 @@ use Rattle.fund.specs.Limits.{most_horizon, most_truncation}
 use Rattle.fund.specs.Listing.{decimal, signed_decimal, joined, cell_lines}
 use Rattle.answer_text.specs.Shown.{bounded}
 
--- A figure and its bound, and the byte behind them.
-unfoldable pub bounded_text : ℤ → ℕ → ℕ → List ℕ
-bounded_text z bound end = (signed_decimal z ++ (44 ∷ [])) ++ (decimal bound ++ (end ∷ []))
-
 -- The line of a cell, from its figures.
 unfoldable pub cell_text : ℕ → ℤ → ℕ → ℤ → ℕ → List ℕ
 cell_text x f within F bound = bytes "cell=" ++ joined (decimal x) (signed_decimal f ∷ decimal within ∷ signed_decimal F ∷ decimal bound ∷ [])
 
--- The lines before the cells, those of the premium and its bound, and all lines behind the cells.
+-- The lines before the cells, and those behind them.
 unfoldable pub head : Figures → List ℕ
 head a = (bytes "truncation=" ++ joined (decimal a.truncation) []) ++ (bytes "mean=" ++ joined (decimal a.mean) [])
 
-unfoldable pub premium_lines : Figures → List ℕ
-premium_lines a = (bytes "premium=" ++ joined (signed_decimal a.premium) []) ++ (bytes "within=" ++ joined (decimal a.within) [])
-
 unfoldable pub foot : Figures → List ℕ
-foot a = premium_lines a ++ (bytes "gross=" ++ joined (decimal a.gross) [])
+foot a = (bytes "premium=" ++ joined (signed_decimal a.premium) []) ++ ((bytes "within=" ++ joined (decimal a.within) []) ++ (bytes "gross=" ++ joined (decimal a.gross) []))
 
 -- The lines of an accepted fund, from its figures and so many cells.
 unfoldable pub accepted_lines : Figures → List ℤ → List ℕ → List ℤ → ℕ → List ℕ

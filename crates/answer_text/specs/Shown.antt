@@ -1,7 +1,8 @@
 -- What `listing` writes: the listing of the figures that it is given, where they are in range and there is room for it.
-use Rattle.std.specs.Prelude.{Bool, true, ◌&&◌, List, [], ◌∷◌, ℕ, suc, ◌+◌, ◌*◌, leb, ltb, ℤ, length, take, if◌then◌else◌}
+use Rattle.std.specs.Prelude.{Bool, ◌&&◌, List, [], ℕ, suc, ◌+◌, ◌*◌, leb, ltb, ℤ, length, take, if◌then◌else◌}
+use Rattle.std.specs.List.{list_all}
 use Rattle.fund.specs.declared.Figures.{Figures}
-use Rattle.fund.specs.declared.Verdict.{Verdict}
+use Rattle.fund.specs.Verdict.{Verdict}
 use Rattle.fund.specs.Limits.{most_horizon, most_truncation, most_bound}
 use Rattle.fund.specs.Answer.{Answer, empty}
 use Rattle.fund.specs.Listing.{printed}
@@ -22,9 +23,8 @@ abbrev pub shown_answer : Verdict → Figures → List ℤ → List ℕ → List
 shown_answer verdict figures f R F = record { verdict = verdict; part = empty; figures = figures; D = []; H = []; f = f; R = R; F = F }
 
 -- No R(x) is above its limit.
-unfoldable pub bounded : List ℕ → Bool
-bounded [] = true
-bounded (R ∷ Rs) = leb R most_bound && bounded Rs
+abbrev pub bounded : List ℕ → Bool
+bounded R = list_all (λ bound. leb bound most_bound) R
 
 -- The figures of the cells 0 to X are there and in range, and a text of that size has room for every listing.
 unfoldable pub printable : ℕ → ℕ → ℕ → List ℕ → ℕ → ℕ → Bool

@@ -33,18 +33,15 @@ fn print_pair<R: Env + Files + Print + Eprint>(rt: &R, i: usize)
     let mut new = [0u8; MOST_BYTES];
     let first = input::read_argument(rt, i, &mut old);
     let second = input::read_argument(rt, i + 1, &mut new);
-    if first.failed {
+    if first.is_err() {
         print_text(rt, b"unreadable=old\n");
     }
-    if second.failed {
+    if second.is_err() {
         print_text(rt, b"unreadable=new\n");
     }
-    if first.failed || second.failed {
-        return;
+    if let (Ok(old_size), Ok(new_size)) = (first, second) {
+        print_listing(rt, &old[..old_size], &new[..new_size]);
     }
-    let old_size = first.size;
-    let new_size = second.size;
-    print_listing(rt, &old[..old_size], &new[..new_size]);
 }
 
 fn main(rt: HostRuntime) {
@@ -53,13 +50,10 @@ fn main(rt: HostRuntime) {
         print_usage(&rt);
         return;
     }
-    let pairs = count / 2;
-    let mut k: usize = 0;
-    while k < pairs {
-        if 0 < k {
+    for i in (1..count).step_by(2) {
+        if 1 < i {
             print_text(&rt, b"\n");
         }
-        print_pair(&rt, 2 * k + 1);
-        k += 1;
+        print_pair(&rt, i);
     }
 }

@@ -1,15 +1,14 @@
 -- METHOD 11: the listing of a comparison: the lines of the old fund, those of the new one, and where both are accepted those of the move.
-use Rattle.std.specs.Prelude.{Bool, ◌&&◌, List, [], ◌∷◌, ◌++◌, ℕ, eqb, ℤ, if◌then◌else◌}
+use Rattle.std.specs.Prelude.{Bool, ◌&&◌, List, [], ◌∷◌, ◌++◌, ℕ, ℤ, Option, None, Some, Ok, Err, is_none, if◌then◌else◌}
 use Rattle.fund.specs.declared.Figures.{Figures}
-use Rattle.fund.specs.declared.Verdict.{Verdict}
-use Rattle.fund.specs.declared.Verdict.TheVariants.{Accepted, Refused}
+use Rattle.fund.specs.Verdict.{Verdict}
 use Rattle.fund.specs.Base.{bytes}
 use Rattle.fund.specs.Listing.{decimal, joined, refused_line}
 use Rattle.writing.specs.Pointed.{pointed, signed_pointed}
 use Rattle.moves.specs.declared.Move.{Move}
 use Rattle.moves.specs.declared.files.Differences.{Differences}
+use Rattle.moves.specs.declared.files.MemberLine.{MemberLine}
 use Rattle.comparison.specs.declared.Comparison.{Comparison}
-use Rattle.comparison.specs.declared.Comparison.TheVariants.{Moved, Refused as Unpriced}
 
 -- A key, and a number with so many digits behind its point; and an interval, by its ends.
 unfoldable pub pointed_line : List ℕ → ℕ → ℕ → List ℕ
@@ -28,22 +27,24 @@ figure_lines name a =
     (name ++ signed_line (bytes "premium=") 12 a.premium) ++ ((name ++ pointed_line (bytes "within=") 12 a.within) ++ (name ++ pointed_line (bytes "gross=") 2 a.gross))
 
 unfoldable pub fund_lines : List ℕ → Verdict → Figures → List ℕ
-fund_lines name Accepted a = figure_lines name a
-fund_lines name (Refused why place) a = name ++ refused_line why place
+fund_lines name (Ok tt) a = figure_lines name a
+fund_lines name (Err stop) a = name ++ refused_line stop.why stop.place
 
 -- Nothing differs beside the editions and the rate lines.
 unfoldable pub nothing_else : Differences → Bool
-nothing_else d = eqb d.header 0 && eqb d.member 0
+nothing_else d = is_none d.header && is_none d.member
 
 -- What else differs: the first header line, and the first member line with its line in each file.
-unfoldable pub other_header : Differences → List ℕ
-other_header d = if eqb d.header 0 then [] else bytes "other=header," ++ joined (decimal d.header) []
+unfoldable pub other_header : Option ℕ → List ℕ
+other_header None = []
+other_header (Some line) = bytes "other=header," ++ joined (decimal line) []
 
-unfoldable pub other_member : Differences → List ℕ
-other_member d = if eqb d.member 0 then [] else bytes "other=member," ++ joined (decimal d.member) (decimal d.old_line ∷ decimal d.new_line ∷ [])
+unfoldable pub other_member : Option MemberLine → List ℕ
+other_member None = []
+other_member (Some l) = bytes "other=member," ++ joined (decimal l.member) (decimal l.old_line ∷ decimal l.new_line ∷ [])
 
 unfoldable pub other_lines : Differences → List ℕ
-other_lines d = if nothing_else d then bytes "other=none\n" else other_header d ++ other_member d
+other_lines d = if nothing_else d then bytes "other=none\n" else other_header d.header ++ other_member d.member
 
 -- The key of an interval says `rates` where nothing else differs: there the exact move is that of the rates.
 unfoldable pub interval_lines : Bool → Move → List ℕ
@@ -52,9 +53,12 @@ interval_lines rates_alone m =
     ++ (signed_line (bytes "gross-move=") 2 m.gross
     ++ interval_line (if rates_alone then bytes "gross-rates=" else bytes "gross-exact=") 2 m.gross_least m.gross_most)
 
-unfoldable pub move_lines : Comparison → List ℕ
-move_lines Unpriced = []
-move_lines (Moved m d) = signed_line (bytes "move=") 12 m.premium ++ (pointed_line (bytes "arithmetic=") 12 m.arithmetic ++ (interval_lines (nothing_else d) m ++ other_lines d))
+unfoldable pub move_lines : Option Comparison → List ℕ
+move_lines None = []
+move_lines (Some c) =
+    let m = c.moved in
+    let d = c.differences in
+    signed_line (bytes "move=") 12 m.premium ++ (pointed_line (bytes "arithmetic=") 12 m.arithmetic ++ (interval_lines (nothing_else d) m ++ other_lines d))
 
-unfoldable pub comparison_lines : Verdict → Figures → Verdict → Figures → Comparison → List ℕ
+unfoldable pub comparison_lines : Verdict → Figures → Verdict → Figures → Option Comparison → List ℕ
 comparison_lines v a w b c = fund_lines (bytes "old-") v a ++ (fund_lines (bytes "new-") w b ++ move_lines c)

@@ -5,14 +5,14 @@
 
 mod sheets;
 
-ghost use Rattle.std.specs.Prelude.{◌≡◌, ◌≤◌, length, take};
+ghost use Rattle.std.specs.Prelude.{◌≡◌, ◌≤◌, IfOk, length, take};
 ghost use Rattle.writing.specs.Writing.{Written};
 ghost use Rattle.fund_printing.specs.Printed.{level_in, text_of, shown};
 ghost use Rattle.fund_printing.specs.Input.{HoldsFirst, ReadFirst, ShowsFirst, ShowsInput, PrintsMemory};
 ghost use Rattle.input.specs.Input.{InMemory};
 
 use fund::Fund;
-use input::{FileBytes, Source};
+use input::{ReadFailed, Source};
 use pricing::Priced;
 pub use sheets::print_sheets;
 use std::io::Read;
@@ -30,12 +30,11 @@ pub enum Asked {
     AtLevel(u64),
 }
 
-// How many bytes were read and the size of what was printed; or that nothing was.
-#[derive(Drop)]
+// How many bytes were read, and the size of what was printed of them.
+#[derive(Clone, Copy, Debug, PartialEq, Eq)]
 pub struct PrintedInput {
     pub read: usize,
     pub size: usize,
-    pub failed: bool,
 }
 
 // No listing shows an answer at a level.
@@ -112,17 +111,14 @@ fn read_first<R: Read + Drop>(
     file: &[u8],
     pieces: &[u32],
     buffer: &mut [u8],
-) -> FileBytes
+) -> Result<usize, ReadFailed>
     ensures { ReadFirst source file.now pieces.now buffer.old buffer.new result }
 {
-    let found = input::read_source(source, file, pieces, buffer);
+    let size = input::read_source(source, file, pieces, buffer)?;
     if buffer.len() < MOST_BYTES {
-        return FileBytes {
-            size: found.size,
-            failed: true,
-        };
+        return Err(ReadFailed { size });
     }
-    found
+    Ok(size)
 }
 
 // What is asked of the fund that a source gives, which is read into the buffer.
@@ -133,25 +129,14 @@ pub fn print_source<R: Read + Drop>(
     pieces: &[u32],
     buffer: &mut [u8],
     text: &mut [u8],
-) -> PrintedInput
+) -> Result<PrintedInput, ReadFailed>
     ensures shows_input { ShowsInput (shown asked) buffer.new text.old text.new result }
     ensures prints_memory { InMemory source → PrintsMemory file.now pieces.now buffer.new result }
-    ensures size_in_bounds { (result.size ≤ length text.new) × (result.size ≡ length (take result.size text.new)) }
+    ensures size_in_bounds { IfOk result (λ p. (p.size ≤ length text.new) × (p.size ≡ length (take p.size text.new))) }
 {
-    let found = read_first(source, file, pieces, buffer);
-    if found.failed {
-        return PrintedInput {
-            read: found.size,
-            size: 0,
-            failed: true,
-        };
-    }
-    let size = print_first(asked, &buffer[..], found.size, text);
-    PrintedInput {
-        read: found.size,
-        size,
-        failed: false,
-    }
+    let read = read_first(source, file, pieces, buffer)?;
+    let size = print_first(asked, &buffer[..], read, text);
+    Ok(PrintedInput { read, size })
 }
 
 // What is asked of the fund of the file on standard input, which the reader reads.
@@ -160,9 +145,9 @@ pub fn print_input<R: Read + Drop>(
     reader: R,
     buffer: &mut [u8],
     text: &mut [u8],
-) -> PrintedInput
+) -> Result<PrintedInput, ReadFailed>
     ensures shows_input { ShowsInput (shown asked) buffer.new text.old text.new result }
-    ensures size_in_bounds { (result.size ≤ length text.new) × (result.size ≡ length (take result.size text.new)) }
+    ensures size_in_bounds { IfOk result (λ p. (p.size ≤ length text.new) × (p.size ≡ length (take p.size text.new))) }
 {
     print_source(
         asked,

@@ -5,7 +5,6 @@
 
 use fund_printing::Asked;
 use input::Noted;
-use spelling::Argument;
 use std::io::{Eprint, Print};
 
 fn print_usage(rt: &impl Eprint) {
@@ -18,15 +17,13 @@ fn print_line(rt: HostRuntime, level: u64) {
     let mut file = [0u8; fund_printing::MOST_BYTES];
     let mut text = [0u8; answer_text::LEVEL_ROOM];
     let mut reader = Noted::new(rt.stdin());
-    let asked = Asked::AtLevel(level);
-    let printed = fund_printing::print_input(asked, &mut reader, &mut file, &mut text);
-    if printed.failed {
-        input::say(&rt, "standard input", reader.error());
-        return;
-    }
-    let size = printed.size;
-    if let Err(error) = rt.write_all(&text[..size]) {
-        input::say(&rt, "standard output", error);
+    match fund_printing::print_input(Asked::AtLevel(level), &mut reader, &mut file, &mut text) {
+        Ok(printed) => {
+            if let Err(error) = rt.write_all(&text[..printed.size]) {
+                input::say(&rt, "standard output", error);
+            }
+        }
+        Err(_) => input::say(&rt, "standard input", reader.error()),
     }
 }
 
@@ -37,7 +34,7 @@ fn main(rt: HostRuntime) {
     }
     let mut word = [0u8; 20];
     match spelling::level_of(input::argument_text(&rt, 1, &mut word)) {
-        Argument::Level(level) => print_line(rt, level),
-        Argument::Misspelled => print_usage(&rt),
+        Some(level) => print_line(rt, level),
+        None => print_usage(&rt),
     }
 }

@@ -10,13 +10,12 @@ fn main(rt: HostRuntime) {
     let mut file = [0u8; fund_printing::MOST_BYTES];
     let mut text = [0u8; answer_text::ROOM];
     let mut reader = Noted::new(rt.stdin());
-    let printed = fund_printing::print_input(Asked::Listing, &mut reader, &mut file, &mut text);
-    if printed.failed {
-        input::say(&rt, "standard input", reader.error());
-        return;
-    }
-    let size = printed.size;
-    if let Err(error) = rt.write_all(&text[..size]) {
-        input::say(&rt, "standard output", error);
+    match fund_printing::print_input(Asked::Listing, &mut reader, &mut file, &mut text) {
+        Ok(printed) => {
+            if let Err(error) = rt.write_all(&text[..printed.size]) {
+                input::say(&rt, "standard output", error);
+            }
+        }
+        Err(_) => input::say(&rt, "standard input", reader.error()),
     }
 }

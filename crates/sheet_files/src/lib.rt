@@ -23,17 +23,13 @@ pub fn print_files<R: Env + Files + Print + Eprint>(rt: &R, asked: Asked) {
     let first = input::read_argument(rt, 1, &mut header);
     let second = input::read_argument(rt, 2, &mut rates);
     let third = input::read_argument(rt, 3, &mut members);
-    if first.failed || second.failed || third.failed {
-        return;
+    if let (Ok(header_size), Ok(rates_size), Ok(members_size)) = (first, second, third) {
+        print(
+            rt,
+            asked,
+            &header[..header_size],
+            &rates[..rates_size],
+            &members[..members_size],
+        );
     }
-    let header_size = first.size;
-    let rates_size = second.size;
-    let members_size = third.size;
-    print(
-        rt,
-        asked,
-        &header[..header_size],
-        &rates[..rates_size],
-        &members[..members_size],
-    );
 }

@@ -4,7 +4,6 @@
 #![tactic(auto)]
 
 use fund_printing::Asked;
-use spelling::Argument;
 use std::io::Eprint;
 
 fn print_usage(rt: &impl Eprint) {
@@ -20,7 +19,7 @@ fn main(rt: HostRuntime) {
     }
     let mut word = [0u8; 20];
     match spelling::level_of(input::argument_text(&rt, 4, &mut word)) {
-        Argument::Level(level) => sheet_files::print_files(&rt, Asked::AtLevel(level)),
-        Argument::Misspelled => print_usage(&rt),
+        Some(level) => sheet_files::print_files(&rt, Asked::AtLevel(level)),
+        None => print_usage(&rt),
     }
 }

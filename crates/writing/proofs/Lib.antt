@@ -1,5 +1,4 @@
 pub mod PieceLaws
 pub mod Decimal
-pub mod Pointed
-pub mod Signed
+pub mod PointedDigits
 pub mod NumberSizes

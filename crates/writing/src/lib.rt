@@ -1,136 +1,140 @@
-// Puts bytes into a text. Each function puts one piece from a place on, and returns the place behind it. A piece for which the text
-// is too short is cut at the text's end.
+// Puts what is printed into a text, one piece behind the other.
 #![tactic(auto)]
 
-ghost use Rattle.std.specs.Prelude.{◌≡◌, [], ◌∷◌, ◌++◌, ◌+◌, ◌/◌, ◌^◌, ◌<◌};
-ghost use Rattle.fund.specs.Listing.{decimal, signed_decimal, joined};
-ghost use Rattle.writing.specs.Writing.{Puts};
-ghost use Rattle.writing.specs.Pointed.{padded, pointed, signed_pointed};
+ghost use Rattle.std.specs.Prelude.{◌≡◌, ◌≤◌, [], ◌∷◌, ◌++◌, List, ℕ, length};
+ghost use Rattle.fund.specs.Listing.{decimal, signed_decimal, joined, refused_line};
+ghost use Rattle.writing.specs.Writing.{Puts, Written};
+ghost use Rattle.writing.specs.Pointed.{pointed, signed_pointed};
 
-// Puts the byte, where the text has a place for it.
-pub fn put_byte(byte: u8, text: &mut [u8], at: usize) -> usize
-    ensures { Puts text.old at (byte ∷ []) text.new result }
-{
-    if at < text.len() {
-        text[at] = byte;
-        return at + 1;
-    }
-    at
+use fund::Refused;
+use itoa::{Buffer, Integer};
+
+// A text that is written from a place on. A piece for which it is too short is cut at its end.
+#[derive(Drop)]
+pub struct Text<'a> {
+    pub bytes: &'a mut [u8],
+    pub next: usize,
 }
 
-// Puts the key's bytes.
-pub fn put_key(key: &[u8], text: &mut [u8], at: usize) -> usize
-    ensures { Puts text.old at key.now text.new result }
-{
-    let mut next = at;
-    let mut i = 0;
-    while i < key.len() {
-        next = put_byte(key[i], text, next);
-        i += 1;
-    }
-    next
+// What is printed as std's `Display` prints, but never fails: no clause of `Display` says what a text holds after a write that fails.
+pub trait Printed: Copy {
+    ghost output: { Self → List ℕ };
+
+    fn print(self, text: &mut Text<'_>)
+        ensures { Puts text.old (output self) text.new };
 }
 
-// Puts one digit.
-fn put_digit(digit: u64, text: &mut [u8], at: usize) -> usize
-    requires { digit < 10 }
-    ensures { Puts text.old at ((48 + digit) ∷ []) text.new result }
+// Writes what is printed of the value from the start of the bytes, and returns its size.
+pub fn write<P: Printed>(value: P, bytes: &mut [u8]) -> usize
+    ensures { length (P.output value) ≤ length bytes.old → Written (P.output value) bytes.old bytes.new result }
 {
-    put_byte(b'0' + digit as u8, text, at)
+    let mut text = Text { bytes, next: 0 };
+    value.print(&mut text);
+    text.next
 }
 
-// Puts the number in decimal: the digits before the last, then the last.
-fn put_decimal(n: u64, text: &mut [u8], at: usize) -> usize
-    ensures { Puts text.old at (decimal n) text.new result }
-{
-    if n < 10 {
-        return put_digit(n, text, at);
+impl Text<'_> {
+    // Puts the byte, where the text has a place for it.
+    pub fn byte(&mut self, byte: u8)
+        ensures { Puts self.old (byte ∷ []) self.new }
+    {
+        if self.next < self.bytes.len() {
+            self.bytes[self.next] = byte;
+            self.next += 1;
+        }
     }
-    let last = put_decimal(n / 10, text, at);
-    put_digit(n % 10, text, last)
+
+    // Puts the key's bytes.
+    pub fn key(&mut self, key: &[u8])
+        ensures { Puts self.old key.now self.new }
+    {
+        for byte in key {
+            self.byte(*byte);
+        }
+    }
+
+    // Puts the number and the byte behind it: a comma, or the line feed.
+    pub fn figure<N: Printed>(&mut self, n: N, end: u8)
+        ensures { Puts self.old (N.output n ++ (end ∷ [])) self.new }
+    {
+        n.print(self);
+        self.byte(end);
+    }
+
+    // Puts a line with one figure.
+    pub fn line<N: Printed>(&mut self, key: &[u8], n: N)
+        ensures { Puts self.old (key.now ++ joined (N.output n) []) self.new }
+    {
+        self.key(key);
+        self.figure(n, b'\n');
+    }
 }
 
 // Puts the number in decimal, a negative one with its sign.
-fn put_signed(z: i64, text: &mut [u8], at: usize) -> usize
-    ensures { Puts text.old at (signed_decimal z) text.new result }
+fn put_integer<I: Integer>(n: I, text: &mut Text<'_>)
+    ensures { Puts text.old (I.text n) text.new }
 {
-    let n = whole::magnitude(z);
-    if z < 0 {
-        let digits = put_byte(b'-', text, at);
-        return put_decimal(n, text, digits);
+    let mut digits = Buffer::new();
+    text.key(digits.format(n).as_bytes());
+}
+
+impl Printed for u64 {
+    ghost output = { decimal };
+
+    fn print(self, text: &mut Text<'_>) {
+        put_integer(self, text);
     }
-    put_decimal(n, text, at)
 }
 
-// Puts the number and the byte behind it: a comma, or the line feed.
-pub fn put_figure(n: u64, end: u8, text: &mut [u8], at: usize) -> usize
-    ensures { Puts text.old at (decimal n ++ (end ∷ [])) text.new result }
-{
-    let behind = put_decimal(n, text, at);
-    put_byte(end, text, behind)
-}
+impl Printed for i64 {
+    ghost output = { signed_decimal };
 
-// The same for a number that may be negative.
-pub fn put_signed_figure(z: i64, end: u8, text: &mut [u8], at: usize) -> usize
-    ensures { Puts text.old at (signed_decimal z ++ (end ∷ [])) text.new result }
-{
-    let behind = put_signed(z, text, at);
-    put_byte(end, text, behind)
-}
-
-// Puts a line with one figure.
-pub fn put_line(key: &[u8], n: u64, text: &mut [u8], at: usize) -> usize
-    ensures { Puts text.old at (key.now ++ joined (decimal n) []) text.new result }
-{
-    let figure = put_key(key, text, at);
-    put_figure(n, b'\n', text, figure)
-}
-
-// The number without its last digits, so many as there are places.
-fn without_places(places: u8, n: u64) -> u64
-    ensures { result ≡ n / 10 ^ places }
-{
-    let mut left = n;
-    let mut i: u8 = 0;
-    while i < places {
-        left = left / 10;
-        i += 1;
+    fn print(self, text: &mut Text<'_>) {
+        put_integer(self, text);
     }
-    left
 }
 
-// Puts the last digits of the number, so many as there are places, from the first of them on.
-fn put_padded(places: u8, n: u64, text: &mut [u8], at: usize) -> usize
-    ensures { Puts text.old at (padded places n) text.new result }
-{
-    let mut next = at;
-    let mut i: u8 = 0;
-    while i < places {
-        i += 1;
-        let left = without_places(places - i, n);
-        next = put_digit(left % 10, text, next);
+// METHOD 8: the line of a refusal.
+impl Printed for Refused {
+    ghost output = { λ refused. refused_line refused.why refused.place };
+
+    fn print(self, text: &mut Text<'_>) {
+        text.key(b"refused=");
+        text.figure(u64::from(self.why), b',');
+        text.figure(self.place, b'\n');
     }
-    next
 }
 
-// Puts the number with a point before its last digits, so many as there are places.
-pub fn put_pointed(places: u8, n: u64, text: &mut [u8], at: usize) -> usize
-    ensures { Puts text.old at (pointed places n) text.new result }
-{
-    let whole = without_places(places, n);
-    let point = put_decimal(whole, text, at);
-    let fraction = put_byte(b'.', text, point);
-    put_padded(places, n, text, fraction)
-}
+// So many units of 10^-PLACES, printed with a point before the last digits.
+#[derive(Clone, Copy)]
+pub struct Pointed<const PLACES: u8, N>(pub N);
 
-// The same for a number that may be negative.
-pub fn put_signed_pointed(places: u8, z: i64, text: &mut [u8], at: usize) -> usize
-    ensures { Puts text.old at (signed_pointed places z) text.new result }
+// The digits of the tenth, and the last digit.
+fn put_pointed(places: u8, n: u64, text: &mut Text<'_>)
+    ensures { Puts text.old (pointed places n) text.new }
 {
-    let n = whole::magnitude(z);
-    if z < 0 {
-        let digits = put_byte(b'-', text, at);
-        return put_pointed(places, n, text, digits);
+    if places == 0 {
+        return text.figure(n, b'.');
     }
-    put_pointed(places, n, text, at)
+    put_pointed(places - 1, n / 10, text);
+    text.byte(b'0' + (n % 10) as u8);
+}
+
+impl<const PLACES: u8> Printed for Pointed<PLACES, u64> {
+    ghost output = { λ x. pointed PLACES x.0 };
+
+    fn print(self, text: &mut Text<'_>) {
+        put_pointed(PLACES, self.0, text);
+    }
+}
+
+impl<const PLACES: u8> Printed for Pointed<PLACES, i64> {
+    ghost output = { λ x. signed_pointed PLACES x.0 };
+
+    fn print(self, text: &mut Text<'_>) {
+        if self.0 < 0 {
+            text.byte(b'-');
+        }
+        put_pointed(PLACES, self.0.unsigned_abs(), text);
+    }
 }

@@ -1,4 +1,4 @@
--- `answer_text::put_cell` meets its contract: the key, the place with its comma, and the two figures with their bounds.
+-- The key, and the five figures of a cell with the byte behind each.
 use mir.Facts.{to_z-of_z}
 use Rattle.fund.specs.Base.{bytes}
 use Rattle.writing.proofs.PieceLaws.{puts_then}
@@ -9,5 +9,6 @@ pub returns : goal.returns
 unfolding bytes
 returns c =
     rw cell_pieces
-    (puts_then c.put_key-x_at.ensures (puts_then c.put_figure-f_at.ensures
-    (puts_then (rw (to_z-of_z c.ranges.f) at c.put_bounded-sum_at.ensures) (rw (to_z-of_z c.ranges.sum) at c.put_bounded.ensures))))
+    (puts_then c.key.ensures (puts_then c.figure.ensures
+    (puts_then (rw (to_z-of_z c.ranges.f) at c.figure-2.ensures) (puts_then c.figure-3.ensures
+    (puts_then (rw (to_z-of_z c.ranges.sum) at c.figure-4.ensures) c.figure-5.ensures)))))

@@ -1,4 +1,4 @@
--- `answer_text::put_head` meets its contract: one line behind the other.
+-- One line behind the other.
 use Rattle.fund.specs.Base.{bytes}
 use Rattle.writing.proofs.PieceLaws.{puts_then}
 use Rattle.answer_text.specs.Pieces.{head}
@@ -6,4 +6,4 @@ use Rattle.answer_text.proofs.put_head.Goals as goal
 
 pub returns : goal.returns
 unfolding head bytes
-returns c = puts_then c.put_line-next.ensures c.put_line.ensures
+returns c = puts_then c.line.ensures c.line-2.ensures

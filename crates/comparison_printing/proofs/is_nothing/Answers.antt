@@ -1,12 +1,13 @@
 -- No header line, and no member line.
-use borrow.Author.Tests.{eq-eqb, ne_eqb}
+use native.Mathlib.Omega.{arith}
+use Rattle.std.proofs.lemmas.Bool.Decides.{nat_tests}
 use Rattle.comparison_printing.specs.Lines.{nothing_else}
 use Rattle.comparison_printing.proofs.is_nothing.Goals as goal
 
-pub returns-then-differences-ne0 : goal.returns-then-differences-ne0
+pub returns-then-is_none : goal.returns-then-is_none
 unfolding nothing_else
-returns-then-differences-ne0 c = rw (ne_eqb _ _ c.if-differences-ne0.true)
+returns-then-is_none c = grind (arith, nat_tests)
 
-pub returns : goal.returns
+pub returns-else-is_none : goal.returns-else-is_none
 unfolding nothing_else
-returns c = rw (eq-eqb _ _ c.if-differences-ne0.false)
+returns-else-is_none c = grind (arith, nat_tests)

@@ -1,10 +1,11 @@
 -- Both funds and the comparison, which are within the room together.
+use mathlib.Core.Path.{refl}
 use native.Mathlib.Omega.{arith}
+use borrow.Author.Rules.{rules}
 use borrow.Author.Tests.{le-leb, lt-leb}
 use lib.ListN.{length-append}
 use Rattle.fund.specs.Base.{bytes}
-use Rattle.writing.proofs.PieceLaws.{puts_then, puts_written, written_none}
-use Rattle.comparison_printing.specs.Lines.{comparison_lines}
+use Rattle.writing.proofs.PieceLaws.{puts_then, puts_written, written_none, written_to}
 use Rattle.comparison_printing.specs.Printed.{listing_of}
 use Rattle.comparison_printing.proofs.listing.Goals as goal
 
@@ -13,13 +14,13 @@ unfolding listing_of
 returns-then-text-lt-ROOM c = rw (lt-leb _ _ c.if-text-lt-ROOM.true) (written_none _)
 
 pub returns : goal.returns
-unfolding listing_of comparison_lines bytes
+unfolding listing_of bytes
 returns c =
-    let comparison = c in
-    let second = comparison in
-    let first = second in
-    let room = first in
-    rw (le-leb _ _ room.if-text-lt-ROOM.false)
-    (puts_written
-    (simp length-append (omega (arith, first.put_fund-second.ensures.figures_len_bound, second.put_fund-move_at.ensures.figures_len_bound, comparison.put_comparison.ensures.comparison_len_bound, room.if-text-lt-ROOM.false)))
-    (puts_then first.put_fund-second.ensures.puts (puts_then second.put_fund-move_at.ensures.puts comparison.put_comparison.ensures.puts)))
+    let room = c.if-text-lt-ROOM.false in
+    let first = c.put_fund.ensures in
+    let second = c.put_fund-2.ensures in
+    let told = c.put_comparison.ensures in
+    rw (le-leb _ _ room)
+    (written_to c.put_comparison.new.text.bytes.now (search rules)
+    (puts_written refl (simp length-append (omega (arith, first.in_room, second.in_room, told.in_room, room)))
+    (puts_then first.puts (puts_then second.puts told.puts))))

@@ -1,34 +1,20 @@
 -- Three lines, the name before each.
 use mathlib.Core.Path.{◌≡◌}
-use Prim.Native.Nat.{◌+◌, ◌*◌, ◌≤◌}
-use lib.ListN.{length}
 use mir.Syntax.{w64}
 use mir.Val.{to_z, of_z}
+use borrow.Author.Rules.{rules}
 use Rattle.fund.specs.Base.{bytes}
 use Rattle.writing.proofs.PieceLaws.{puts_then}
-use Rattle.comparison_printing.specs.Lines.{figure_lines}
+use Rattle.comparison_printing.specs.Lines.{signed_line, pointed_line, figure_lines}
 use Rattle.comparison_printing.proofs.LineSizes.{figures_size}
-use borrow.Author.Rules.{rules}
 use Rattle.comparison_printing.proofs.put_figures.Goals as goal
-use Rattle.comparison_printing.proofs.put_figures.Goals.{Start}
-
-premium_same : (s : Start) → to_z w64 (of_z w64 s.args.figures.premium) ≡ s.args.figures.premium
-premium_same s = search rules
-
-small : (s : Start) → length (figure_lines s.args.name.now s.args.figures) ≤ 3 * length s.args.name.now + 87
-small s = figures_size s.args.name.now s.args.figures (search rules) (search rules) (search rules)
 
 pub returns : goal.returns
-unfolding figure_lines bytes
+unfolding figure_lines signed_line pointed_line bytes
 returns c =
-    let gross = c in
-    let third = gross in
-    let within = third in
-    let second = within in
-    let premium = second in
-    let first = premium in
-    let s = first in record {
-      puts = puts_then (puts_then first.put_key-premium.ensures (rw (premium_same (goal.at.returns c).Start) at premium.put_signed_line-bound.ensures))
-          (puts_then (puts_then second.put_key-within.ensures within.put_pointed_line-loaded.ensures) (puts_then third.put_key-gross.ensures gross.put_pointed_line.ensures));
-      figures_len_bound = small (goal.at.returns c).Start;
+    let z = c.args.figures.premium in
+    let same : to_z w64 (of_z w64 z) ≡ z = search rules in
+    let premium = puts_then c.key.ensures (rw same at c.line.ensures) in record {
+      puts = puts_then premium (puts_then (puts_then c.key-2.ensures c.line-2.ensures) (puts_then c.key-3.ensures c.line-3.ensures));
+      in_room = figures_size c.args.name.now c.args.figures (search rules) (search rules) (search rules);
     }

@@ -1,24 +1,22 @@
 -- The figures of a fund that is accepted, or its refusal.
 use mathlib.Core.Path.{ap}
 use native.Mathlib.Omega.{arith}
-use Rattle.comparison_printing.specs.Lines.{fund_lines}
-use Rattle.writing.proofs.PieceLaws.{puts_as}
+use lib.ListN.{length-append}
+use borrow.Author.Rules.{rules}
+use Rattle.comparison_printing.specs.Printed.{priced_lines}
+use Rattle.writing.proofs.NumberSizes.{refusal_length}
+use Rattle.writing.proofs.PieceLaws.{puts_as, puts_then}
 use Rattle.comparison_printing.proofs.put_fund.Goals as goal
 
-pub returns-in-Accepted : goal.returns-in-Accepted
-unfolding fund_lines
-returns-in-Accepted c =
-    let done = c in
-    let told = done in
-    let s = told in
-    let e = ap (λ v. fund_lines s.args.name.now v s.args.figures) told.in-Accepted.is in
-    record { puts = puts_as _ e done.put_figures.ensures.puts; figures_len_bound = rw e done.put_figures.ensures.figures_len_bound }
+pub returns-in-Ok : goal.returns-in-Ok
+unfolding priced_lines
+returns-in-Ok c =
+    let e = ap (priced_lines c.args.name.now) c.in-Ok.is in
+    record { puts = puts_as _ e c.put_figures.ensures.puts; in_room = rw e c.put_figures.ensures.in_room }
 
-pub returns-in-Refused : goal.returns-in-Refused
-unfolding fund_lines
-returns-in-Refused c =
-    let done = c in
-    let told = done in
-    let s = told in
-    let e = ap (λ v. fund_lines s.args.name.now v s.args.figures) told.in-Refused.is in
-    record { puts = puts_as _ e done.put_refusal.ensures.puts; figures_len_bound = rw e (omega (arith, done.put_refusal.ensures.place_in_bounds)) }
+pub returns-in-Err : goal.returns-in-Err
+unfolding priced_lines
+returns-in-Err c =
+    let e = ap (priced_lines c.args.name.now) c.in-Err.is in
+    let r = c.in-Err.stop.refused in
+    record { puts = puts_as _ e (puts_then c.key.ensures c.print.ensures); in_room = rw (e, length-append) (omega (arith, refusal_length r.why r.place (search rules))) }

@@ -10,16 +10,17 @@ use Rattle.comparison_printing.proofs.put_other.Goals as goal
 pub returns-then-is_nothing : goal.returns-then-is_nothing
 unfolding other_lines bytes
 returns-then-is_nothing c =
-    let key = c in
-    let nothing = key in
-    let e = sym nothing.is_nothing.ensures ∙ nothing.if-is_nothing.true in
-    record { puts = rw e key.put_key.ensures; differences_len_bound = rw e (omega arith) }
+    let e = sym c.is_nothing.ensures ∙ c.if-is_nothing.true in
+    record { puts = rw e c.key.ensures; in_room = rw e (omega arith) }
 
 pub returns : goal.returns
 unfolding other_lines
 returns c =
-    let member = c in
-    let header = member in
-    let something = header in
-    let d = something.args.differences in
-    let e = sym something.is_nothing.ensures ∙ something.if-is_nothing.false in record { puts = rw e (puts_then header.put_other_header-member.ensures.puts member.put_other_member.ensures.puts); differences_len_bound = rw (e, length-append (other_header d) (other_member d)) (omega (arith, header.put_other_header-member.ensures.differences_len_bound, member.put_other_member.ensures.differences_len_bound)) }
+    let d = c.args.differences in
+    let e = sym c.is_nothing.ensures ∙ c.if-is_nothing.false in
+    let header = c.put_other_header.ensures in
+    let member = c.put_other_member.ensures in
+    record {
+      puts = rw e (puts_then header.puts member.puts);
+      in_room = rw (e, length-append (other_header d.header) (other_member d.member)) (omega (arith, header.in_room, member.in_room));
+    }
