@@ -1,33 +1,33 @@
 -- From two pricings to the contract of a comparison (compares): what is told of the files as they are read is the definition's, and the exact move is where it says.
-use Rattle.std.specs.Prelude.{Err, Ok}
+use Rattle.std.specs.Prelude.{Err, Ok, Result, Option, Some, None, option_map}
 use mathlib.Core.Path.{◌≡◌, refl, sym, ◌∙◌, ap, ap₂, subst}
 use mathlib.Core.List.{List}
-use Prim.Native.Nat.{ℕ}
+use Prim.Native.Nat.{ℕ, ◌≤◌}
 use native.Mathlib.Omega.{arith}
 use lib.IntN.{pos, ◌+ℤ◌}
-use lib.ListN.{length, take}
-use lib.Seq.{take_at}
+use lib.ListN.{length, take, take_of_length-le}
 use lib.Signed.{◌≤ℤ◌}
-use Rattle.fund.specs.declared.Figures.{Figures}
+use Rattle.fund.specs.declared.Cells.{Cells}
+use Rattle.fund.specs.declared.Refused.{Refused}
 use Rattle.fund.specs.declared.Refusal.{Refusal}
-use Rattle.fund.specs.Verdict.{Verdict, refused_at}
+use Rattle.fund.specs.Verdict.{Verdict}
+use Rattle.fund.specs.Limits.{most_rates, most_members}
 use Rattle.fund.specs.Reading.{FundFile, Reading, read, stopped, reading}
 use Rattle.fund.specs.Folding.{lives}
 use Rattle.fund.specs.Refusals.{Lengths}
-use Rattle.fund.specs.Answer.{Answer, fund_figures, lent, accepted, answer_to}
+use Rattle.fund.specs.Answer.{Answer, fund_figures, accepted, answer_to}
 use Rattle.laws.specs.Answer.{Read, accepted_read, answer_accepted}
 use Rattle.laws.specs.Ranges.{FundOk, read_ranges}
 use Rattle.distance.specs.NotNegative.{not_negative_lem}
-use Rattle.rows.specs.Read.{rate_table, member_table, file_read}
 use Rattle.pricing.specs.declared.Priced.{Priced}
-use Rattle.pricing.specs.Priced.{Prices}
-use Rattle.moves.specs.declared.Move.{Move}
-use Rattle.moves.specs.declared.files.Differences.{Differences}
-use Rattle.moves.specs.Differences.{differences, file_in}
+use Rattle.pricing.specs.declared.NotPriced.{NotPriced}
+use Rattle.pricing.specs.Priced.{left_priced, found_in, Prices}
+use Rattle.rows.specs.declared.Rows.{Rows}
+use Rattle.matching.specs.Matching.{file_of}
+use Rattle.moves.specs.Differences.{first_member_line, in_both, member_difference, differences, file_in}
 use Rattle.moves.specs.Move.{FiguresIn, move_of, moved_of}
 use Rattle.moves.proofs.FiguresRange.{in_figures}
 use Rattle.comparison.specs.declared.Comparison.{Comparison}
-use Rattle.comparison.specs.declared.Comparison.TheVariants.{Moved, Refused as Unpriced}
 use Rattle.comparison.specs.Exact.{ExactMove, RatesAlone}
 use Rattle.comparison.specs.Comparison.{if_accepted, compared, Compares}
 use Rattle.comparison.specs.Steps.{told_of}
@@ -36,27 +36,23 @@ use Rattle.comparison.proofs.RatesAlone.{rates_alone}
 use Rattle.comparison.proofs.FigureSizes.{figures_small}
 
 -- ---- the file of what was read
-take_lent : {A : Type 0} (blank : A) (n : ℕ) (l : List A) → take (length l) (lent blank n l) ≡ l
-unfolding lent
-take_lent blank n l = take_at l _ (length l) refl
+take_few : {A : Type 0} (n : ℕ) (l : List A) → length l ≤ n → take n l ≡ l
+take_few n l h = take_of_length-le l h
 
-pub file_in_lem : (fund : FundFile) → file_in (file_read (read fund)) ≡ fund
-unfolding file_in file_read rate_table member_table
-file_in_lem fund =
-    let r = take_lent _ _ fund.rates in
-    let m = take_lent _ _ fund.members in
-    λ i. record { header = fund.header; rates = r i; members = m i }
+file_in_lem : (r : Rows) → FundOk (file_of r) → file_in r ≡ file_of r
+unfolding file_in
+file_in_lem r ok = λ i. record { header = r.fund; rates = take_few most_rates r.rates.now ok.rows.few_rates i; members = take_few most_members r.members.now ok.rows.few_members i }
 
 -- what is told of two funds that were read, whose figures are within the limits
-told_is : (old : FundFile) (a : Figures) (new : FundFile) (b : Figures) → FiguresIn old.header a → FiguresIn new.header b →
-    told_of (file_read (read old)) a (file_read (read new)) b ≡ Moved (move_of old.header a new.header b) (differences old new)
-unfolding told_of moved_of file_read
-told_is old a new b h k =
-    rw (in_figures old.header a h, in_figures new.header b k)
-    (ap₂ (λ f g. Moved (move_of old.header a new.header b) (differences f g)) (file_in_lem old) (file_in_lem new))
+told_is : (r s : Rows) (x y : Priced) → FundOk (file_of r) → FundOk (file_of s) → FiguresIn r.fund x.figures → FiguresIn s.fund y.figures →
+    told_of (Ok x) (Ok y) (Ok r) (Ok s) ≡ Some (record { moved = move_of r.fund x.figures s.fund y.figures; differences = differences (file_of r) (file_of s) })
+unfolding told_of moved_of
+told_is r s x y ok fine h k =
+    rw (in_figures r.fund x.figures h, in_figures s.fund y.figures k)
+    (ap₂ (λ f g. Some (record { moved = move_of r.fund x.figures s.fund y.figures; differences = differences f g })) (file_in_lem r ok) (file_in_lem s fine))
 
 -- ---- an accepted fund
-module _ (text : List ℕ) (level : ℕ) (n : Lengths) (p : Priced) (a : Answer) (k : Prices text (reading text) level n p a) (v : a.verdict ≡ Ok tt) where
+module _ (text : List ℕ) (level : ℕ) (n : Lengths) (p : Result Priced NotPriced) (a : Answer) (k : Prices text (reading text) level n p a) (v : a.verdict ≡ Ok tt) where
   same : answer_to text n (reading text) ≡ a
   same = sym k.answers.answer
 
@@ -88,72 +84,77 @@ module _ (text : List ℕ) (level : ℕ) (n : Lengths) (p : Priced) (a : Answer)
         }
 
 -- ---- both
-module _ (old new : List ℕ) (level : ℕ) (n m : Lengths) (p q : Priced) (a b : Answer) (k : Prices old (reading old) level n p a) (l : Prices new (reading new) level m q b) where
-  abbrev told : Comparison
-  told = told_of (file_read (reading old)) a.figures (file_read (reading new)) b.figures
+never_stopped : (why : Refusal) (place : ℕ) (fund : FundFile) → stopped why place ≡ read fund → ⊥
+never_stopped why place fund e = let z : ◌≡◌ {A = ℕ} 0 1 = cc e in omega arith
 
-  -- a refused fund, of which nothing is told
-  old_refused : (why : Refusal) (place : ℕ) → a.verdict ≡ refused_at why place → (r s : Reading) → compared r a s b ≡ Unpriced
-  unfolding compared
-  old_refused why place e (read f) (read g) = ap (λ v. if_accepted v (if_accepted b.verdict (Moved (move_of f.header a.figures g.header b.figures) (differences f g)))) e
-  old_refused why place e (read f) (stopped w x) = refl
-  old_refused why place e (stopped w x) s = refl
+-- a refused fund, of which nothing is told
+old_refused : (r s : Reading) (a b : Answer) (e : Refused) → a.verdict ≡ Err e → compared r a s b ≡ None
+unfolding compared
+old_refused (read f) (read g) a b e k = ap (λ v. if_accepted v (if_accepted b.verdict (Some (record { moved = move_of f.header a.figures g.header b.figures; differences = differences f g })))) k
+old_refused (read f) (stopped w x) a b e k = refl
+old_refused (stopped w x) s a b e k = refl
 
-  new_refused : (why : Refusal) (place : ℕ) → a.verdict ≡ Ok tt → b.verdict ≡ refused_at why place → (r s : Reading) → compared r a s b ≡ Unpriced
-  unfolding compared
-  new_refused why place e h (read f) (read g) = ap₂ (λ v w. if_accepted v (if_accepted w (Moved (move_of f.header a.figures g.header b.figures) (differences f g)))) e h
-  new_refused why place e h (read f) (stopped w x) = refl
-  new_refused why place e h (stopped w x) s = refl
+new_refused : (r s : Reading) (a b : Answer) (e : Refused) → a.verdict ≡ Ok tt → b.verdict ≡ Err e → compared r a s b ≡ None
+unfolding compared
+new_refused (read f) (read g) a b e h k = ap₂ (λ v w. if_accepted v (if_accepted w (Some (record { moved = move_of f.header a.figures g.header b.figures; differences = differences f g })))) h k
+new_refused (read f) (stopped w x) a b e h k = refl
+new_refused (stopped w x) s a b e h k = refl
 
-  both_accepted : a.verdict ≡ Ok tt → b.verdict ≡ Ok tt → told ≡ compared (reading old) a (reading new) b
-  unfolding compared
-  both_accepted e h =
-      let f = is_read old level n p a k e in
-      let g = is_read new level m q b l h in
-      ap₂ (λ r s. told_of (file_read r) a.figures (file_read s) b.figures) f.is_read g.is_read
-      ∙ told_is f.fund a.figures g.fund b.figures (small old level n p a k e f.fund f.is_read) (small new level m q b l h g.fund g.is_read)
-      ∙ sym (ap₂ (λ v w. if_accepted v (if_accepted w (Moved (move_of f.fund.header a.figures g.fund.header b.figures) (differences f.fund g.fund)))) e h)
-      ∙ sym (ap₂ (λ r s. compared r a s b) f.is_read g.is_read)
+module _ (old new : List ℕ) (level : ℕ) (n m : Lengths) (cs ds : Cells) where
+  pub told_as_defined : (p q : Result Priced NotPriced) (u v : Result Rows Refused) → Prices old (reading old) level n p (left_priced p cs) → Prices new (reading new) level m q (left_priced q ds) →
+      found_in u ≡ reading old → found_in v ≡ reading new → told_of p q u v ≡ compared (reading old) (left_priced p cs) (reading new) (left_priced q ds)
+  unfolding told_of compared
+  told_as_defined (Err e) q u v k l h g = sym (old_refused (reading old) (reading new) (left_priced (Err e) cs) (left_priced q ds) e refl)
+  told_as_defined (Ok x) (Err e) u v k l h g = sym (new_refused (reading old) (reading new) (left_priced (Ok x) cs) (left_priced (Err e) ds) e refl refl)
+  told_as_defined (Ok x) (Ok y) (Err e) v k l h g =
+      let f = is_read old level n (Ok x) (left_priced (Ok x) cs) k refl in absurd (never_stopped e.why e.place f.fund (h ∙ f.is_read))
+  told_as_defined (Ok x) (Ok y) (Ok r) (Err e) k l h g =
+      let f = is_read new level m (Ok y) (left_priced (Ok y) ds) l refl in absurd (never_stopped e.why e.place f.fund (g ∙ f.is_read))
+  told_as_defined (Ok x) (Ok y) (Ok r) (Ok s) k l h g =
+      told_is r s x y (ok old level n (Ok x) (left_priced (Ok x) cs) k refl (file_of r) (sym h)) (ok new level m (Ok y) (left_priced (Ok y) ds) l refl (file_of s) (sym g))
+      (small old level n (Ok x) (left_priced (Ok x) cs) k refl (file_of r) (sym h)) (small new level m (Ok y) (left_priced (Ok y) ds) l refl (file_of s) (sym g))
+      ∙ ap₂ (λ t u. compared t (left_priced (Ok x) cs) u (left_priced (Ok y) ds)) h g
 
-  told_as_defined : if_accepted a.verdict (if_accepted b.verdict told) ≡ compared (reading old) a (reading new) b
-  told_as_defined = go a.verdict b.verdict refl refl
-    where
-      go : (v w : Verdict) → a.verdict ≡ v → b.verdict ≡ w → if_accepted v (if_accepted w told) ≡ compared (reading old) a (reading new) b
-      go (Ok tt) (Ok tt) e h = both_accepted e h
-      go (Ok tt) (Err stop) e h = sym (new_refused stop.why stop.place e h (reading old) (reading new))
-      go (Err stop) w e h = sym (old_refused stop.why stop.place e (reading old) (reading new))
+no_member : {f g : FundFile} → member_difference f g ≡ None → first_member_line 1 f.members g.members ≡ None
+unfolding member_difference
+no_member {f} {g} e = go (first_member_line 1 f.members g.members) e
+  where
+    go : (o : Option ℕ) → option_map (in_both f g) o ≡ None → o ≡ None
+    go None k = refl
+    go (Some l) k = let z : ◌≡◌ {A = ℕ} 0 1 = cc k in absurd (omega arith)
 
+module _ (old new : List ℕ) (level : ℕ) (n m : Lengths) (p q : Result Priced NotPriced) (a b : Answer) (k : Prices old (reading old) level n p a) (l : Prices new (reading new) level m q b) where
   -- a move was told: both funds are accepted, and it is theirs
-  record Told (f g : FundFile) (v : Move) (d : Differences) : Type 0 where
+  record Told (f g : FundFile) (t : Comparison) : Type 0 where
     old_accepted : a.verdict ≡ Ok tt
     new_accepted : b.verdict ≡ Ok tt
-    move_is : move_of f.header a.figures g.header b.figures ≡ v
-    differences_are : differences f g ≡ d
+    told_is : record { moved = move_of f.header a.figures g.header b.figures; differences = differences f g } ≡ t
 
-  told_of_lem : (f g : FundFile) (v : Move) (d : Differences) → compared (read f) a (read g) b ≡ Moved v d → Told f g v d
+  told_of_lem : (f g : FundFile) (t : Comparison) → compared (read f) a (read g) b ≡ Some t → Told f g t
   unfolding compared
-  told_of_lem f g v d = go a.verdict b.verdict refl refl
+  told_of_lem f g t = go a.verdict b.verdict refl refl
     where
-      go : (x y : Verdict) → a.verdict ≡ x → b.verdict ≡ y → if_accepted x (if_accepted y (Moved (move_of f.header a.figures g.header b.figures) (differences f g))) ≡ Moved v d → Told f g v d
-      go (Ok tt) (Ok tt) e h t = record { old_accepted = e; new_accepted = h; move_is = cc t; differences_are = cc t }
-      go (Ok tt) (Err stop) e h t = let z : ◌≡◌ {A = ℕ} 0 1 = cc t in absurd (omega arith)
-      go (Err stop) y e h t = let z : ◌≡◌ {A = ℕ} 0 1 = cc t in absurd (omega arith)
+      go : (x y : Verdict) → a.verdict ≡ x → b.verdict ≡ y →
+          if_accepted x (if_accepted y (Some (record { moved = move_of f.header a.figures g.header b.figures; differences = differences f g }))) ≡ Some t → Told f g t
+      go (Ok u) (Ok v) e h z = record { old_accepted = e; new_accepted = h; told_is = cc z }
+      go (Ok u) (Err stop) e h z = let y : ◌≡◌ {A = ℕ} 0 1 = cc z in absurd (omega arith)
+      go (Err stop) y e h z = let y : ◌≡◌ {A = ℕ} 0 1 = cc z in absurd (omega arith)
 
-  module _ (c : Comparison) (is : c ≡ if_accepted a.verdict (if_accepted b.verdict told)) (f g : FundFile) (r : reading old ≡ read f) (s : reading new ≡ read g) (v : Move) (d : Differences) (h : c ≡ Moved v d) where
-    found : Told f g v d
-    found = told_of_lem f g v d (sym (ap₂ (λ x y. compared x a y b) r s) ∙ sym (is ∙ told_as_defined) ∙ h)
+  module _ (c : Option Comparison) (is : c ≡ compared (reading old) a (reading new) b) (f g : FundFile) (r : reading old ≡ read f) (s : reading new ≡ read g) (t : Comparison) (h : c ≡ Some t) where
+    found : Told f g t
+    found = told_of_lem f g t (sym (ap₂ (λ x y. compared x a y b) r s) ∙ sym is ∙ h)
 
-    exact : ExactMove f g v
+    exact : ExactMove f g t.moved
     exact =
-        subst (ExactMove f g) found.move_is
+        subst (λ (x : Comparison). ExactMove f g x.moved) found.told_is
         (exact_move_lem f a g b (known old level n p a k found.old_accepted f r) (known new level m q b l found.new_accepted g s))
 
-    rates : d.header ≡ 0 → d.member ≡ 0 → RatesAlone f g v
+    rates : t.differences.header ≡ None → t.differences.member ≡ None → RatesAlone f g t.moved
     unfolding differences
     rates e₁ e₂ =
-        subst (RatesAlone f g) found.move_is
+        subst (λ (x : Comparison). RatesAlone f g x.moved) found.told_is
         (rates_alone f a g b (known old level n p a k found.old_accepted f r) (known new level m q b l found.new_accepted g s)
-        (ap (λ (x : Differences). x.header) found.differences_are ∙ e₁) (ap (λ (x : Differences). x.member) found.differences_are ∙ e₂))
+        (ap (λ (x : Comparison). x.differences.header) found.told_is ∙ e₁) (no_member (ap (λ (x : Comparison). x.differences.member) found.told_is ∙ e₂)))
 
-  pub compares : (c : Comparison) → c ≡ if_accepted a.verdict (if_accepted b.verdict told) → Compares old new level n m (record { old = p; new = q; comparison = c }) a b
-  compares c is = record { old_priced = k; new_priced = l; comparison = is ∙ told_as_defined; exact = exact c is; rates = rates c is }
+  pub compares : (c : Option Comparison) → c ≡ compared (reading old) a (reading new) b → Compares old new level n m (record { old = p; new = q; comparison = c }) a b
+  compares c is = record { old_priced = k; new_priced = l; comparison = is; exact = exact c is; rates = rates c is }

@@ -3,7 +3,6 @@
 use mathlib.Core.Path.{◌≡◌, refl, sym, ◌∙◌, ap, ap₂, subst}
 use mathlib.Core.Bool.{Bool, true, false, not}
 use mathlib.Core.List.{List, [], ◌∷◌, map}
-use mathlib.Core.Option.{Option, none, some}
 use Prim.Native.Nat.{ℕ, suc, ◌+◌, ◌*◌, ◌^◌, ◌≤◌}
 use native.Mathlib.Nat as N
 use native.Mathlib.Omega.{arith}
@@ -20,7 +19,7 @@ use Rattle.fund.specs.declared.Rate.{Rate}
 use Rattle.fund.specs.declared.Member.{Member}
 use Rattle.fund.specs.declared.Life.{Life}
 use Rattle.fund.specs.declared.ModelPoint.{ModelPoint}
-use Rattle.std.specs.Prelude.{if◌then◌else◌}
+use Rattle.std.specs.Prelude.{if◌then◌else◌, Option, Some, None}
 use Rattle.fund.specs.Base.{total}
 use Rattle.fund.specs.Reading.{FundFile}
 use Rattle.fund.specs.Folding.{rate_in_force, folded, life, point, points, copies, lives, single}
@@ -40,11 +39,14 @@ use Rattle.comparison.proofs.ExactMoves.{Known, gross_over, excess_over, gross_l
 
 -- ---- no difference
 -- a test that does not answer its line
-no_line_lem : (same : Bool) (line behind : ℕ) → (if not same then suc line else behind) ≡ 0 → (same ≡ true) × (behind ≡ 0)
-no_line_lem true line behind e = (refl, e)
-no_line_lem false line behind e = absurd (omega arith)
+none_some : {n : ℕ} → ◌≡◌ {A = Option ℕ} None (Some n) → ⊥
+none_some e = let z : ◌≡◌ {A = ℕ} 0 1 = cc e in omega arith
 
-pub same_terms : (old new : Fund) → first_header_line old new ≡ 0 → SameTerms old new
+no_line_lem : (same : Bool) (line : ℕ) (behind : Option ℕ) → (if not same then Some line else behind) ≡ None → (same ≡ true) × (behind ≡ None)
+no_line_lem true line behind e = (refl, e)
+no_line_lem false line behind e = absurd (none_some (sym e))
+
+pub same_terms : (old new : Fund) → first_header_line old new ≡ None → SameTerms old new
 unfolding first_header_line
 same_terms old new e =
     let horizon = no_line_lem _ _ _ e in
@@ -77,16 +79,16 @@ same_member_lem m n e =
     let l = sym (eqb-true _ _ ee.1) in
     λ i. record { age = a i; group = g i; d = x i; e = y i; lives = l i }
 
-pub same_members : (at : ℕ) (ms ns : List Member) → first_member_line (suc at) ms ns ≡ 0 → ns ≡ ms
+pub same_members : (at : ℕ) (ms ns : List Member) → first_member_line (suc at) ms ns ≡ None → ns ≡ ms
 unfolding first_member_line
 same_members at [] [] e = refl
-same_members at [] (n ∷ ns) e = absurd (omega arith)
-same_members at (m ∷ ms) [] e = absurd (omega arith)
+same_members at [] (n ∷ ns) e = absurd (none_some (sym e))
+same_members at (m ∷ ms) [] e = absurd (none_some (sym e))
 same_members at (m ∷ ms) (n ∷ ns) e = go (same_member m n) refl e (same_members (suc at) ms ns)
   where
-    go : (t : Bool) → same_member m n ≡ t → (if t then first_member_line (suc (suc at)) ms ns else suc at) ≡ 0 → (first_member_line (suc (suc at)) ms ns ≡ 0 → ns ≡ ms) → n ∷ ns ≡ m ∷ ms
+    go : (t : Bool) → same_member m n ≡ t → (if t then first_member_line (suc (suc at)) ms ns else Some (suc at)) ≡ None → (first_member_line (suc (suc at)) ms ns ≡ None → ns ≡ ms) → n ∷ ns ≡ m ∷ ms
     go true s f h = ap₂ ◌∷◌ (same_member_lem m n s) (h f)
-    go false s f h = absurd (omega arith)
+    go false s f h = absurd (none_some (sym f))
 
 -- ---- one denominator: the group 1 members are counted by their lines' groups
 abbrev one_if_single : Life → ℕ
@@ -94,8 +96,8 @@ one_if_single m = if single m then 1 else 0
 
 group_is : (o : Option Rate) (m : Member) → (folded o m).group ≡ m.group
 unfolding folded
-group_is none m = refl
-group_is (some r) m = refl
+group_is None m = refl
+group_is (Some r) m = refl
 
 counted : (rates others : List Rate) (ms : List Member) →
     total (λ (p : ModelPoint). p.lives * one_if_single p.life) (map (point rates) ms) ≡ total (λ (p : ModelPoint). p.lives * one_if_single p.life) (map (point others) ms)
@@ -126,7 +128,7 @@ module _ (old new : FundFile) (t : SameTerms old.header new.header) (s : new.mem
   exact_under_lem = λ i. exact_premium (t.horizon i) (t.deductible i) (mean (t.frequency i) (lives_under i)) (t.frequency i) (lives_under i)
 
 -- ---- the move over one denominator
-module _ (old : FundFile) (a : Answer) (new : FundFile) (b : Answer) (k : Known old a) (l : Known new b) (h : first_header_line old.header new.header ≡ 0) (g : first_member_line 1 old.members new.members ≡ 0) where
+module _ (old : FundFile) (a : Answer) (new : FundFile) (b : Answer) (k : Known old a) (l : Known new b) (h : first_header_line old.header new.header ≡ None) (g : first_member_line 1 old.members new.members ≡ None) where
   abbrev t : SameTerms old.header new.header
   t = same_terms old.header new.header h
 

@@ -1,18 +1,21 @@
--- What the steps of a comparison say of files that were read and of their figures.
-use Rattle.fund.specs.declared.Figures.{Figures}
-use Rattle.rows.specs.declared.FileRead.{FileRead}
-use Rattle.moves.specs.declared.Moved.{Moved as MovedBy}
-use Rattle.moves.specs.declared.Moved.TheVariants.{By, Outside}
-use Rattle.moves.specs.declared.files.Differences.{Differences}
+-- What the steps of a comparison say of rows that were read and of their pricing.
+use Rattle.std.specs.Prelude.{Option, None, Result, Ok, Err, option_map}
+use Rattle.fund.specs.declared.Refused.{Refused}
+use Rattle.rows.specs.declared.Rows.{Rows}
+use Rattle.moves.specs.declared.Move.{Move}
 use Rattle.moves.specs.Differences.{differences, file_in}
 use Rattle.moves.specs.Move.{moved_of}
+use Rattle.pricing.specs.declared.Priced.{Priced}
+use Rattle.pricing.specs.declared.NotPriced.{NotPriced}
 use Rattle.comparison.specs.declared.Comparison.{Comparison}
-use Rattle.comparison.specs.declared.Comparison.TheVariants.{Moved, Refused as Unpriced}
 
 -- A move with what differs; figures outside their ranges are not compared.
-abbrev pub with_differences : MovedBy → Differences → Comparison
-with_differences (By m) d = Moved m d
-with_differences Outside d = Unpriced
+abbrev pub with_differences : Rows → Rows → Option Move → Option Comparison
+with_differences old new m = option_map (λ (v : Move). record { moved = v; differences = differences (file_in old) (file_in new) }) m
 
-unfoldable pub told_of : FileRead → Figures → FileRead → Figures → Comparison
-told_of old before new after = with_differences (moved_of old.fund before new.fund after) (differences (file_in old) (file_in new))
+unfoldable pub told_of : Result Priced NotPriced → Result Priced NotPriced → Result Rows Refused → Result Rows Refused → Option Comparison
+told_of (Ok before) (Ok after) (Ok old) (Ok new) = with_differences old new (moved_of old.fund before.figures new.fund after.figures)
+told_of (Ok before) (Ok after) (Ok old) (Err e) = None
+told_of (Ok before) (Ok after) (Err e) new = None
+told_of (Ok before) (Err e) old new = None
+told_of (Err e) after old new = None

@@ -8,7 +8,7 @@ ghost use Rattle.fund.specs.Limits.{limits};
 ghost use Rattle.fund.specs.Reading.{header_lines};
 ghost use Rattle.fund.specs.Refusals.{number_of};
 ghost use Rattle.fund.specs.Answer.{no_figures};
-ghost use Rattle.fund.specs.Cells.{lengths, SameSlices, Zeros};
+ghost use Rattle.fund.specs.Cells.{lengths, LentAs, SameSlices, Zeros};
 
 // The fund record: the figures of a file's header lines, in their order.
 #[derive(Clone, Copy, PartialEq, Eq, Default)]
@@ -135,7 +135,25 @@ pub struct Cells<'a> {
     pub sums: &'a mut [i64],
 }
 
-impl Cells<'_> {
+impl<'a> Cells<'a> {
+    pub fn new(
+        transform: &'a mut [i64],
+        h: &'a mut [u64],
+        f: &'a mut [i64],
+        r: &'a mut [u64],
+        sums: &'a mut [i64],
+    ) -> Cells<'a>
+        ensures { LentAs result transform.entry h.entry f.entry r.entry sums.entry }
+    {
+        Cells {
+            transform,
+            h,
+            f,
+            r,
+            sums,
+        }
+    }
+
     // "zero in every lent result cell"
     pub fn clear(&mut self)
         ensures same_slices { SameSlices self.old self.new }

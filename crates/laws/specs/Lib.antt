@@ -23,3 +23,4 @@ pub mod Decimals
 pub mod RowTexts
 pub mod TakenRows
 pub mod SheetRows
+pub mod FirstPlace

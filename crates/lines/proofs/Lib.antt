@@ -1,4 +1,4 @@
 pub mod Lines
+pub mod Said
 pub mod Headers
-pub mod Rows
 pub mod Parts

@@ -3,9 +3,10 @@
 use mathlib.Core.Path.{◌≡◌, refl, sym, ap, ◌∙◌}
 use mathlib.Core.Bool.{Bool, true, false}
 use mathlib.Core.List.{List, [], ◌∷◌, map}
-use mathlib.Core.Option.{none, some}
+use Rattle.std.specs.Prelude.{Some, None}
 use Prim.Native.Nat.{ℕ, zero, suc, ◌+◌, ◌-◌, ◌≤◌, ◌<◌}
 use native.Mathlib.Omega.{arith}
+use native.Mathlib.Numerals.{add-one}
 use borrow.Author.Tests.{lt-ltb, le-ltb}
 use lib.Dec.{eqb, ltb, leb-suc-suc}
 use lib.ListN.{length, take, drop, get_or, length-drop, drop_of_length-le}
@@ -13,11 +14,10 @@ use lib.Seq.{drop-drop, length-take-le, take_all}
 use Rattle.std.specs.Prelude.{if◌then◌else◌}
 use Rattle.fund.specs.Lines.{Line as FundLine, begun, lines_from, lines}
 use Rattle.fund.specs.Spelling.{behind, numbers, spelled}
-use Rattle.fund.specs.Answer.{empty, line_at}
+use Rattle.fund.specs.Answer.{Part, empty, line_at}
 use Rattle.spelling.specs.Text.{before}
 use Rattle.spelling.proofs.Texts.{before_within}
-use Rattle.lines.specs.declared.line.Line.{Line}
-use Rattle.lines.specs.Lines.{lines_at, line_in, NextLine, Passed}
+use Rattle.lines.specs.Lines.{lines_at, LineTaken, Passed}
 
 lines_first : (at m : ℕ) (s : List ℕ) → 0 < length s → m ≡ at + suc (before 10 s) → lines_from at s ≡ record { start = at; text = take (before 10 s) s; ended = ltb (before 10 s) (length s) } ∷ lines_from m (drop (suc (before 10 s)) s)
 unfolding before lines_from begun
@@ -56,7 +56,7 @@ module _ (file : List ℕ) (at end : ℕ) (e : end ≡ at + before 10 (drop at f
       let w : at + suc (before 10 (drop at file)) ≡ end + 1 = omega arith in
       drop-drop (suc (before 10 (drop at file))) at file ∙ ap (λ n. drop n file) w
 
-  end_inside : end ≤ length file
+  pub end_inside : end ≤ length file
   end_inside = omega (arith, before_within 10 (drop at file), length-drop at file)
 
   split : lines_at file at ≡ record { start = at; text = take (end - at) (drop at file); ended = ltb (before 10 (drop at file)) (length (drop at file)) } ∷ lines_from (end + 1) (drop (end + 1) file)
@@ -64,32 +64,23 @@ module _ (file : List ℕ) (at end : ℕ) (e : end ≡ at + before 10 (drop at f
       lines_first at (end + 1) (drop at file) (omega (arith, length-drop at file)) (omega arith)
       ∙ rw (behind_it, size)
 
-  pub line_ended : end < length file → NextLine file at (record { start = at; end = end; next = end + 1 })
-  line_ended g =
-      let w : before 10 (drop at file) < length (drop at file) = omega (arith, length-drop at file) in
-      record {
-        within = record { ordered = omega arith; inside = omega arith };
-        later = omega arith;
-        inside = omega arith;
-        first = split ∙ rw (lt-ltb (before 10 (drop at file)) (length (drop at file)) w, lt-ltb end (end + 1) (omega arith));
-      }
+  short : end - at ≤ length (drop at file)
+  short = omega (arith, end_inside, length-drop at file)
 
-  pub line_open : length file ≤ end → NextLine file at (record { start = at; end = end; next = end })
+  pub line_ended : {b : Bool} → b ≡ true → end < length file → LineTaken file at (record { start = at; text = take (end - at) (drop at file); ended = b }) (end + 1)
+  line_ended b g =
+      let w : before 10 (drop at file) < length (drop at file) = omega (arith, length-drop at file) in
+      record { first = split ∙ rw (lt-ltb (before 10 (drop at file)) (length (drop at file)) w, b); later = omega arith; ends = omega (arith, length-take-le (end - at) (drop at file) short); inside = omega arith }
+
+  pub line_open : {b : Bool} → b ≡ false → length file ≤ end → LineTaken file at (record { start = at; text = take (end - at) (drop at file); ended = b }) end
   unfolding lines_from
-  line_open g =
+  line_open b g =
       let w : length (drop at file) ≤ before 10 (drop at file) = omega (arith, length-drop at file) in
       record {
-        within = record { ordered = omega arith; inside = end_inside };
+        first = split ∙ rw (le-ltb (before 10 (drop at file)) (length (drop at file)) w, drop_of_length-le file {i = end} g, drop_of_length-le file {i = end + 1} (omega arith), b);
         later = omega arith;
+        ends = omega (arith, length-take-le (end - at) (drop at file) short);
         inside = end_inside;
-        first =
-            split
-            ∙ rw (
-              le-ltb (before 10 (drop at file)) (length (drop at file)) w,
-              le-ltb end end (omega arith),
-              drop_of_length-le file {i = end} g,
-              drop_of_length-le file {i = end + 1} (omega arith),
-            );
       }
 
 -- What is handed back: the line that is first of those left, or nothing.
@@ -105,49 +96,55 @@ get_or_none f [] (suc n) d e = refl
 get_or_none f (x ∷ xs) zero d e = let z : ◌≡◌ {A = ℕ} 0 1 = cc in absurd (omega arith)
 get_or_none f (x ∷ xs) (suc n) d e = get_or_none f xs n d e
 
-module _ (file : List ℕ) (passed at : ℕ) (p : Passed file passed at) where
-  pub line_there : (before : ℕ) (l : Line) → before ≡ passed → NextLine file at l → record { start = l.start; size = l.end - l.start } ≡ line_at file (suc before)
-  unfolding line_at
-  line_there before l e n =
-      rw e
-      (sym
-      (get_or_first (λ (x : FundLine). record { start = x.start; size = length x.text }) (lines file) passed (line_in file l) (lines_at file l.next) empty (p.left ∙ n.first)
-      ∙ ap (λ (m : ℕ). record { start = l.start; size = m }) (length-take-le (l.end - l.start) (drop l.start file) (omega (arith, length-drop l.start file, n.within.inside)))))
+-- The part of a line.
+abbrev pub part_in : FundLine → Part
+part_in l = record { start = l.start; size = length l.text }
 
-  pub line_missing : (before : ℕ) → passed ≤ before → length file ≤ at → empty ≡ line_at file (suc before)
+module _ (file : List ℕ) (passed at : ℕ) (p : Passed file passed at) where
+  pub line_there : (l : FundLine) (next : ℕ) → LineTaken file at l next → part_in l ≡ line_at file (passed + 1)
+  unfolding line_at
+  line_there l next n = rw add-one (sym (get_or_first part_in (lines file) passed l (lines_at file next) empty (p.left ∙ n.first)))
+
+  pub line_missing : (place : ℕ) → passed < place → length file ≤ at → empty ≡ line_at file place
   unfolding line_at lines_from
-  line_missing before more h =
+  line_missing zero more h = refl
+  line_missing (suc before) more h =
       let e : passed + (before - passed) ≡ before = omega arith in
       let none_left : drop passed (lines file) ≡ [] = p.left ∙ rw (drop_of_length-le file h) in
-      sym (get_or_none (λ (x : FundLine). record { start = x.start; size = length x.text }) (lines file) before empty (sym (drop-drop (before - passed) passed (lines file) ∙ ap (λ n. drop n (lines file)) e) ∙ ap (drop (before - passed)) none_left ∙ drop_of_length-le [] {i = before - passed} (omega arith)))
+      sym (get_or_none part_in (lines file) before empty (sym (drop-drop (before - passed) passed (lines file) ∙ ap (λ n. drop n (lines file)) e) ∙ ap (drop (before - passed)) none_left ∙ drop_of_length-le [] {i = before - passed} (omega arith)))
 
-  pub passed_next : (l : Line) → NextLine file at l → Passed file (passed + 1) l.next
-  passed_next l n = record { left = sym (drop-drop 1 passed (lines file)) ∙ ap (drop 1) (p.left ∙ n.first) }
+  pub passed_next : (l : FundLine) (next : ℕ) → LineTaken file at l next → Passed file (passed + 1) next
+  passed_next l next n = record { left = sym (drop-drop 1 passed (lines file)) ∙ ap (drop 1) (p.left ∙ n.first) }
+
+pub passed_none : (file : List ℕ) → Passed file 0 0
+unfolding lines
+passed_none file = record { left = refl }
 
 pub rest_all : (k : ℕ) (s : List ℕ) → take (length s - k) (drop k s) ≡ drop k s
 rest_all k s = take_all (length s - k) (drop k s) (omega (arith, length-drop k s))
 
 -- A key that begins a text is not longer.
-pub behind_length : (key text rest : List ℕ) → behind key text ≡ some rest → length key ≤ length text
+pub behind_length : (key text rest : List ℕ) → behind key text ≡ Some rest → length key ≤ length text
 unfolding behind
 behind_length [] text rest e = omega arith
 behind_length (k ∷ key) [] rest e = let z : ◌≡◌ {A = ℕ} 0 1 = cc in absurd (omega arith)
 behind_length (k ∷ key) (b ∷ text) rest e = go (eqb k b) e (behind_length key text rest)
   where
-    go : (t : Bool) → (if t then behind key text else none) ≡ some rest → (behind key text ≡ some rest → length key ≤ length text) → suc (length key) ≤ suc (length text)
+    go : (t : Bool) → (if t then behind key text else None) ≡ Some rest → (behind key text ≡ Some rest → length key ≤ length text) → suc (length key) ≤ suc (length text)
     go true w ih = omega (arith, ih w)
     go false w ih = let z : ◌≡◌ {A = ℕ} 0 1 = cc in absurd (omega arith)
 
--- How a line of a file is spelled.
-module _ (file : List ℕ) (l : Line) (key : List ℕ) (count : ℕ) where
-  pub spelled_open : l.next ≤ l.end → spelled key count (line_in file l) ≡ none
+-- How a line is spelled.
+module _ (key : List ℕ) (count : ℕ) (l : FundLine) where
+  pub spelled_open : l.ended ≡ false → spelled key count l ≡ None
   unfolding spelled
-  spelled_open h = rw (le-ltb l.end l.next h)
+  spelled_open e = rw (e, spelled)
 
-  pub spelled_not : l.end < l.next → behind key (line_in file l).text ≡ none → spelled key count (line_in file l) ≡ none
-  unfolding spelled
-  spelled_not h e = rw (lt-ltb l.end l.next h) (rw (e, spelled))
+  module _ (e : l.ended ≡ true) where
+    pub spelled_not : behind key l.text ≡ None → spelled key count l ≡ None
+    unfolding spelled
+    spelled_not f = rw (e, spelled) (rw (f, spelled))
 
-  pub spelled_behind : (rest : List ℕ) → l.end < l.next → behind key (line_in file l).text ≡ some rest → spelled key count (line_in file l) ≡ numbers count rest
-  unfolding spelled
-  spelled_behind rest h e = rw (lt-ltb l.end l.next h) (rw (e, spelled))
+    pub spelled_behind : (rest : List ℕ) → behind key l.text ≡ Some rest → spelled key count l ≡ numbers count rest
+    unfolding spelled
+    spelled_behind rest f = rw (e, spelled) (rw (f, spelled))

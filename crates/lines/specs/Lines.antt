@@ -1,5 +1,5 @@
 -- What the functions on the lines of a file answer, in the words of the fund's definitions.
-use Rattle.std.specs.Prelude.{◌≡◌, List, ◌∷◌, ℕ, ◌-◌, ◌≤◌, ◌<◌, ltb, length, take, drop}
+use Rattle.std.specs.Prelude.{◌≡◌, List, ◌∷◌, ℕ, ◌+◌, ◌≤◌, ◌<◌, Option, Some, None, length, drop}
 use Rattle.fund.specs.Lines.{Line as FundLine, lines, lines_from}
 use Rattle.lines.specs.declared.line.Line.{Line}
 
@@ -7,19 +7,20 @@ use Rattle.lines.specs.declared.line.Line.{Line}
 abbrev pub lines_at : List ℕ → ℕ → List FundLine
 lines_at file at = lines_from at (drop at file)
 
-abbrev pub line_in : List ℕ → Line → FundLine
-line_in file l = record { start = l.start; text = take (l.end - l.start) (drop l.start file); ended = ltb l.end l.next }
+abbrev pub line_of : Line → FundLine
+line_of l = record { start = l.start; text = l.text.now; ended = l.ended }
 
-pub record LineInside (file : List ℕ) (l : Line) : Type 0 where
-  pub ordered : l.start ≤ l.end
-  pub inside : l.end ≤ length file
+-- A line stands at a place, inside the file, and the next one starts behind it.
+pub record LineTaken (file : List ℕ) (at : ℕ) (l : FundLine) (next : ℕ) : Type 0 where
+  pub first : lines_at file at ≡ l ∷ lines_at file next
+  pub later : at < next
+  pub ends : l.start + length l.text ≤ next
+  pub inside : next ≤ length file
 
--- The line at a place, and the place of the next.
-pub record NextLine (file : List ℕ) (at : ℕ) (l : Line) : Type 0 where
-  pub within : LineInside file l
-  pub later : at < l.next
-  pub inside : l.next ≤ length file
-  pub first : lines_at file at ≡ line_in file l ∷ lines_at file l.next
+-- The line at a place and where the next one starts, or that no bytes are left there.
+abbrev pub Taken : List ℕ → ℕ → Option FundLine → ℕ → Type 0
+Taken file at (Some l) next = LineTaken file at l next
+Taken file at None next = length file ≤ at
 
 -- The lines from `at` on are the file's after those that were passed.
 pub record Passed (file : List ℕ) (passed at : ℕ) : Type 0 where

@@ -1,118 +1,74 @@
 // The header lines, in their order.
-ghost use Rattle.std.specs.Prelude.{◌≡◌, ◌&&◌, ◌<◌, length};
-ghost use Rattle.fund.specs.Spelling.{spelled};
-ghost use Rattle.fund.specs.Reading.{between, in_ranges, header_lines};
-ghost use Rattle.spelling.specs.Text.{numbers_in};
-ghost use Rattle.lines.specs.Lines.{line_in, LineInside};
-ghost use Rattle.lines.specs.Header.{header_line, numbers_of, line_numbers, HeaderStepped, HeaderRead};
+ghost use Rattle.std.specs.Prelude.{◌≡◌, ◌≤◌, length, replicate};
+ghost use Rattle.fund.specs.Reading.{in_ranges};
+ghost use Rattle.lines.specs.Header.{range, HeaderStepped, HeaderRead};
 
-use crate::line;
-use crate::line::Line;
-use fund::{Frequencies, Fund, Refusal};
-use spelling::Numbers;
+use crate::line::LineReader;
+use fund::{Frequencies, Fund, Refusal, Refused};
 
-// What a header line gives: its first and second number, 0 where there is no second, and the next line's start; or why reading stops at it.
+// Takes the header's lines; the next one has this place, counted from 1.
 #[derive(Drop)]
-pub(crate) enum HeaderStep {
-    Values(u64, u64, usize),
-    Stopped(Refusal),
+struct HeaderReader<'a> {
+    lines: LineReader<'a>,
+    place: u64,
 }
 
-// What the header gives: its figures and where its last line ends, or why reading stops and at which line.
-#[derive(Drop)]
-pub enum Header {
-    Whole(Fund, usize),
-    Stopped(Refusal, u64),
-}
-
-// The numbers of the header line k.
-fn numbers_at(file: &[u8], line: Line, k: usize) -> Numbers
-    requires line_inside { LineInside file.now line }
-    requires k_in_bounds { k < length header_lines }
-    ensures { numbers_in (numbers_of k) result ≡ spelled (header_line k).key (numbers_of k) (line_in file.now line) }
+// Whether all numbers are from the least to the most.
+fn all_within(least: u64, most: u64, numbers: &[u64]) -> bool
+    ensures { result ≡ in_ranges (replicate (length numbers.now) (range least most)) numbers.now }
 {
-    match k {
-        0 => line::spelled(file, line, b"rates=", 1),
-        1 => line::spelled(file, line, b"members=", 1),
-        2 => line::spelled(file, line, b"horizon=", 1),
-        3 => line::spelled(file, line, b"order=", 1),
-        4 => line::spelled(file, line, b"frequency=", 2),
-        5 => line::spelled(file, line, b"deductible=", 1),
-        _ => line::spelled(file, line, b"worth=", 1),
-    }
+    numbers.iter().all(|n| rows::within(least, most, *n))
 }
 
-// Whether two numbers are in one range.
-fn both_within(least: u64, most: u64, first: u64, second: u64) -> bool
-    ensures { result ≡ (between least most first && between least most second) }
-{
-    rows::within(least, most, first) && rows::within(least, most, second)
-}
-
-// Whether the numbers of the header line k are in their ranges. The line of the frequencies has two, every other one.
-fn header_in_range(k: usize, first: u64, second: u64) -> bool
-    requires { k < length header_lines }
-    ensures { result ≡ in_ranges (header_line k).ranges (line_numbers k first second) }
-{
-    match k {
-        0 | 1 => rows::within(Fund::LEAST_EDITION, Fund::MOST_EDITION, first),
-        2 => rows::within(0, Fund::MOST_HORIZON, first),
-        3 => rows::within(Fund::LEAST_ORDER, Fund::MOST_ORDER, first),
-        4 => both_within(0, Fund::MOST_FREQUENCY, first, second),
-        5 => rows::within(0, Fund::MOST_DEDUCTIBLE, first),
-        _ => rows::within(Fund::LEAST_WORTH, Fund::MOST_WORTH, first),
-    }
-}
-
-// The header line k, which starts at `at`: form before range.
-fn header_step(file: &[u8], at: usize, k: usize) -> HeaderStep
-    requires { k < length header_lines }
-    ensures { HeaderStepped file.now k at result }
-{
-    if file.len() <= at {
-        return HeaderStep::Stopped(Refusal::Form);
-    }
-    let l = line::next_line(file, at);
-    let ns = numbers_at(file, l, k);
-    if ns.spelled {
-        let first = ns.values[0];
-        let second = ns.values[1];
-        if header_in_range(k, first, second) {
-            return HeaderStep::Values(first, second, l.next);
+impl<'a> HeaderReader<'a> {
+    // The numbers of the next line: just `count`, spelled so, and from the least to the most each; form before range.
+    fn numbers(
+        &mut self,
+        key: &[u8],
+        count: usize,
+        least: u64,
+        most: u64,
+    ) -> Result<[u64; 5], Refused>
+        requires few { count ≤ 5 }
+        requires place { self.old.place ≤ 7 }
+        ensures file { self.new.lines.file ≡ self.old.lines.file }
+        ensures step { HeaderStepped self.old.lines.file.now self.old.lines.at self.old.place key.now count (range least most) result self.new.lines.at self.new.place }
+    {
+        let Some(line) = self.lines.next_line() else {
+            return Err(Refusal::Form.at(self.place));
+        };
+        let Some(numbers) = line.spelled(key, count) else {
+            return Err(Refusal::Form.at(self.place));
+        };
+        if !all_within(least, most, &numbers[..count]) {
+            return Err(Refusal::Range.at(self.place));
         }
-        return HeaderStep::Stopped(Refusal::Range);
+        self.place += 1;
+        Ok(numbers)
     }
-    HeaderStep::Stopped(Refusal::Form)
 }
 
-// Every header line of a text, which a file begins with.
-pub fn read_header(file: &[u8]) -> Header
-    ensures { HeaderRead file.now result }
+// Every header line of a text, which a file begins with: the figures, and where the last line ends.
+pub fn read_header(text: &[u8]) -> Result<(Fund, usize), Refused>
+    ensures { HeaderRead text.now result }
 {
-    let mut firsts = [0u64; Fund::HEADER_LINES];
-    let mut seconds = [0u64; Fund::HEADER_LINES];
-    let mut at: usize = 0;
-    for k in 0..Fund::HEADER_LINES {
-        match header_step(file, at, k) {
-            HeaderStep::Stopped(why) => return Header::Stopped(why, k as u64 + 1),
-            HeaderStep::Values(first, second, next) => {
-                firsts[k] = first;
-                seconds[k] = second;
-                at = next;
-            }
-        }
-    }
+    let lines = LineReader { file: text, at: 0 };
+    let mut header = HeaderReader { lines, place: 1 };
+    let [rates, ..] = header.numbers(b"rates=", 1, Fund::LEAST_EDITION, Fund::MOST_EDITION)?;
+    let [members, ..] = header.numbers(b"members=", 1, Fund::LEAST_EDITION, Fund::MOST_EDITION)?;
+    let [horizon, ..] = header.numbers(b"horizon=", 1, 0, Fund::MOST_HORIZON)?;
+    let [order, ..] = header.numbers(b"order=", 1, Fund::LEAST_ORDER, Fund::MOST_ORDER)?;
+    let [death, disability, ..] = header.numbers(b"frequency=", 2, 0, Fund::MOST_FREQUENCY)?;
+    let [deductible, ..] = header.numbers(b"deductible=", 1, 0, Fund::MOST_DEDUCTIBLE)?;
+    let [worth, ..] = header.numbers(b"worth=", 1, Fund::LEAST_WORTH, Fund::MOST_WORTH)?;
     let fund = Fund {
-        rates: firsts[0],
-        members: firsts[1],
-        horizon: firsts[2],
-        order: firsts[3],
-        frequency: Frequencies {
-            death: firsts[4],
-            disability: seconds[4],
-        },
-        deductible: firsts[5],
-        worth: firsts[6],
+        rates,
+        members,
+        horizon,
+        order,
+        frequency: Frequencies { death, disability },
+        deductible,
+        worth,
     };
-    Header::Whole(fund, at)
+    Ok((fund, header.lines.at))
 }

@@ -7,6 +7,6 @@ mod line;
 mod part;
 mod row;
 
-pub use header::{Header, read_header};
-pub use part::{Part, part_of};
+pub use header::read_header;
+pub use part::part_of;
 pub use row::{Row, row_at};

@@ -1,72 +1,46 @@
 // The part of a file's bytes that the host is handed with a verdict.
-ghost use Rattle.std.specs.Prelude.{◌≡◌, suc};
+ghost use Rattle.std.specs.Prelude.{◌≡◌};
 ghost use Rattle.fund.specs.Answer.{names_line, line_at, part};
 ghost use Rattle.lines.specs.Part.{Spans};
 
-use crate::line;
+use crate::line::LineReader;
 use fund::{Refusal, Verdict};
-
-// The bytes from start to end.
-#[derive(Drop)]
-pub struct Part {
-    pub start: usize,
-    pub end: usize,
-}
-
-fn empty() -> Part
-    ensures { result ≡ record { start = 0; end = 0 } }
-{
-    Part { start: 0, end: 0 }
-}
+use std::ops::Range;
 
 fn names_line(why: Refusal) -> bool
     ensures { result ≡ names_line why }
 {
-    match why {
-        Refusal::Form | Refusal::Range | Refusal::Unmatched | Refusal::Half => true,
-        _ => false,
-    }
+    matches!(
+        why,
+        Refusal::Form | Refusal::Range | Refusal::Unmatched | Refusal::Half
+    )
 }
 
-// The line behind so many others, without its line feed; where it is missing, an empty part.
-fn line_behind(file: &[u8], before: u64) -> Part
-    ensures { Spans file.now (line_at file.now (suc before)) result }
+// The line at a place, counted from 1, without its line feed; where it is missing, an empty part.
+fn line_at(file: &[u8], place: u64) -> Range<usize>
+    ensures { Spans file.now (line_at file.now place) result.start result.end }
 {
-    let mut at: usize = 0;
-    let mut left = before;
-    while at < file.len() {
-        let l = line::next_line(file, at);
-        if left == 0 {
-            return Part {
-                start: l.start,
-                end: l.end,
-            };
+    let mut lines = LineReader { file, at: 0 };
+    for k in 0..place {
+        let Some(line) = lines.next_line() else {
+            return 0..0;
+        };
+        if k + 1 == place {
+            return line.start..line.start + line.text.len();
         }
-        at = l.next;
-        left -= 1;
     }
-    empty()
-}
-
-// The line at a place, counted from 1; at place 0 none.
-fn line_at(file: &[u8], place: u64) -> Part
-    ensures { Spans file.now (line_at file.now place) result }
-{
-    if place == 0 {
-        return empty();
-    }
-    line_behind(file, place - 1)
+    0..0
 }
 
 // "For a line's refusal the host is handed that line itself, a part of its own bytes without the line feed; for place 0, for
 // number 10 and for a missing line, an empty part."
-pub fn part_of(file: &[u8], verdict: Verdict) -> Part
-    ensures { Spans file.now (part file.now verdict) result }
+pub fn part_of(file: &[u8], verdict: Verdict) -> Range<usize>
+    ensures { Spans file.now (part file.now verdict) result.start result.end }
 {
-    if let Verdict::Refused(why, place) = verdict {
-        if names_line(why) {
-            return line_at(file, place);
+    if let Err(refused) = verdict {
+        if names_line(refused.why) {
+            return line_at(file, refused.place);
         }
     }
-    empty()
+    0..0
 }

@@ -1,3 +1,3 @@
-pub mod FirstRow
-pub mod PointsSoFar
-pub mod MatchedRefusals
+mod MatchedSoFar
+mod RateHeld
+mod Refusals

@@ -2,45 +2,38 @@
 
 #![tactic(auto)]
 
-mod half;
 mod points;
-mod table;
 
 ghost use Rattle.std.specs.Prelude.{◌≡◌, suc, ltb};
 ghost use Rattle.matching.specs.Matching.{matched_rows};
 
-use fund::{Fund, Refusal, Verdict};
-use rows::FileRead;
-pub use table::Matched;
+use arrayvec::ArrayVec;
+use fund::{Fund, ModelPoint, Refusal, Refused};
+use rows::Rows;
 
 // 4: the deductible is above X + 1, which is not formed, as it may not fit.
 fn is_above(deductible: u64, horizon: u64) -> bool
     ensures { result ≡ ltb (suc horizon) deductible }
 {
-    if deductible <= horizon {
-        return false;
-    }
-    1 < deductible - horizon
+    horizon < deductible.saturating_sub(1)
 }
 
-// What was read, matched: the first `rated` rows of one table and the first `enrolled` of the other, with the header.
-pub fn matched(found: FileRead) -> Matched
-    ensures { result ≡ matched_rows found }
+// The model points of rows of any number, in the members' order, or the first of the refusals 3 to 6. More rows than a file has are range, at no line.
+pub fn matched(rows: Rows<'_>) -> Result<ArrayVec<ModelPoint, { Fund::MEMBER_ROWS }>, Refused>
+    ensures { result ≡ matched_rows rows.entry }
 {
-    if Fund::RATE_ROWS < found.rated {
-        return table::without_points(Verdict::Refused(Refusal::Range, 0));
+    let fund = rows.fund;
+    if Fund::RATE_ROWS < rows.rates.len() || Fund::MEMBER_ROWS < rows.members.len() {
+        return Err(Refusal::Range.at(0));
     }
-    if Fund::MEMBER_ROWS < found.enrolled {
-        return table::without_points(Verdict::Refused(Refusal::Range, 0));
-    }
-    let fund = found.fund;
     if fund.rates != fund.members {
-        return table::without_points(Verdict::Refused(Refusal::Edition, 0));
+        return Err(Refusal::Edition.at(0));
     }
     if is_above(fund.deductible, fund.horizon) {
-        return table::without_points(Verdict::Refused(Refusal::Deductible, 0));
+        return Err(Refusal::Deductible.at(0));
     }
     // the header lines and the rate lines stand before the first member
-    let line = Fund::HEADER_LINES as u64 + found.rated as u64 + 1;
-    points::by_member(found, line)
+    let line = Fund::HEADER_LINES as u64 + rows.rates.len() as u64 + 1;
+    let model_points = points::model_points(rows.rates, rows.members, line)?;
+    points::not_half(model_points, line)
 }

@@ -1,72 +1,91 @@
 // The model point of each member line: its amounts and the folded rates in force at its age, and how many lives it stands for.
-ghost use Rattle.std.specs.Prelude.{◌≡◌, ◌+◌, ◌^◌, ◌≤◌, ◌<◌, eqb, take, if◌then◌else◌};
-ghost use Rattle.std.proofs.Math.Option.{some};
-ghost use Rattle.fund.specs.Limits.{most_rates, most_members};
-ghost use Rattle.fund.specs.Folding.{folded as folded_of};
-ghost use Rattle.matching.specs.Points.{by_member};
+ghost use Rattle.std.specs.Prelude.{◌≡◌, ◌+◌, ◌^◌, ◌≤◌, ◌<◌, length, eqb, if◌then◌else◌, Some, position};
+ghost use Rattle.fund.specs.Limits.{most_members};
+ghost use Rattle.fund.specs.Folding.{rate_in_force, folded as folded_of};
+ghost use Rattle.fund.specs.Refusals.{half};
+ghost use Rattle.matching.specs.Points.{model_points, not_half};
 
-use crate::table::Matched;
-use crate::{half, table};
-use fund::{Life, Member, ModelPoint, Rate, Refusal, Verdict};
-use rows::FileRead;
+use arrayvec::ArrayVec;
+use fund::{Fund, Life, Member, ModelPoint, Rate, Refusal, Refused};
+
+// The last row that is not above the age; the rows rise.
+fn rate_in_force(rates: &[Rate], age: u64) -> Option<Rate>
+    ensures { result ≡ rate_in_force rates.now age }
+{
+    let mut held = None;
+    for rate in rates {
+        if age < rate.age {
+            return held;
+        }
+        held = Some(*rate);
+    }
+    held
+}
 
 // "If d = 0, q counts as 0; if e = 0, i counts as 0."
 fn counted(amount: u64, rate: u64) -> u64
     ensures { result ≡ (if eqb amount 0 then 0 else rate) }
 {
-    if amount == 0 {
-        return 0;
-    }
-    rate
+    if amount == 0 { 0 } else { rate }
 }
 
-fn folded(r: Rate, m: Member) -> Life
-    ensures { result ≡ folded_of (some r) m }
+fn folded(rate: Rate, m: Member) -> Life
+    ensures { result ≡ folded_of (Some rate) m }
 {
     Life {
         group: m.group,
-        q: counted(m.d, r.q),
-        i: counted(m.e, r.i),
+        q: counted(m.d, rate.q),
+        i: counted(m.e, rate.i),
         d: m.d,
         e: m.e,
     }
 }
 
-// 5, then 6, each over all members, or the model points. The first j rows are not above the member k's age: the last of these is in force where the
-// row j is above it, or there is none. `line` is the line of the first member, and `half_at` the place of the first line of 6, 0 while
-// there is none.
-pub(crate) fn by_member(found: FileRead, line: u64) -> Matched
-    requires { (found.rated ≤ most_rates) × (found.enrolled ≤ most_members) × (0 < line) × (line + found.enrolled < 2 ^ 64) }
-    ensures { result ≡ by_member (take found.rated found.rates) (take found.enrolled found.members) line }
+// The model points of the members, or 5 at the first whose age no rate is in force at; `line` is the line of the first member.
+pub(crate) fn model_points(
+    rates: &[Rate],
+    members: &[Member],
+    line: u64,
+) -> Result<ArrayVec<ModelPoint, { Fund::MEMBER_ROWS }>, Refused>
+    requires { (length members.now ≤ most_members) × (line + length members.now < 2 ^ 64) }
+    ensures { result ≡ model_points rates.now members.now line }
 {
-    let mut matched = table::without_points(Verdict::Accepted);
-    let mut half_at: u64 = 0;
-    let mut k: usize = 0;
-    let mut j: usize = 0;
-    while k < found.enrolled {
-        let m = found.members[k];
-        if j < found.rated {
-            let next = found.rates[j];
-            if next.age <= m.age {
-                j += 1;
-                continue;
-            }
-        }
-        if j == 0 {
-            return table::without_points(Verdict::Refused(Refusal::Unmatched, line + k as u64));
-        }
-        let r = found.rates[j - 1];
-        let life = folded(r, m);
-        half_at = half::first_place(half_at, life, line + k as u64);
-        matched.points[k] = ModelPoint {
-            life,
-            lives: m.lives,
+    let mut points = ArrayVec::new();
+    for (k, m) in members.iter().enumerate() {
+        let Some(rate) = rate_in_force(rates, m.age) else {
+            return Err(Refusal::Unmatched.at(line + k as u64));
         };
-        k += 1;
-        j = 0;
+        points.push(ModelPoint {
+            life: folded(rate, *m),
+            lives: m.lives,
+        });
     }
-    if half_at != 0 {
-        return table::without_points(Verdict::Refused(Refusal::Half, half_at));
+    Ok(points)
+}
+
+// 6: "group 1, q + i at least 500,000 after folding". The sum q + i is not formed, as it may not fit.
+fn is_half(m: Life) -> bool
+    ensures { result ≡ half m }
+{
+    m.group == Fund::SINGLE && Fund::HALF.saturating_sub(m.q) <= m.i
+}
+
+fn first_half(points: &[ModelPoint]) -> Option<usize>
+    ensures { result ≡ position (λ p. half p.life) points.now }
+{
+    points.iter().position(|p| is_half(p.life))
+}
+
+// The model points, or 6 at the first that is half.
+pub(crate) fn not_half(
+    points: ArrayVec<ModelPoint, { Fund::MEMBER_ROWS }>,
+    line: u64,
+) -> Result<ArrayVec<ModelPoint, { Fund::MEMBER_ROWS }>, Refused>
+    requires { line + length points.items < 2 ^ 64 }
+    ensures { result ≡ not_half points.items line }
+{
+    match first_half(points.as_slice()) {
+        Some(k) => Err(Refusal::Half.at(line + k as u64)),
+        None => Ok(points),
     }
-    matched
 }

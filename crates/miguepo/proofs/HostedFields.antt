@@ -1,5 +1,5 @@
 -- What the call answers, handed over field by field (hosts).
-use Rattle.std.specs.Prelude.{Ok}
+use Rattle.std.specs.Prelude.{Ok, Result}
 use mathlib.Core.Path.{◌≡◌, ◌∙◌, ap, subst}
 use mathlib.Core.List.{List}
 use Prim.Native.Nat.{ℕ, ◌+◌, ◌≤◌}
@@ -13,20 +13,22 @@ use Rattle.fund.specs.Answer.{Answer, answer_to}
 use Rattle.fund.specs.Listing.{horizon_in}
 use Rattle.fund.specs.Distance.{WithinBounds, NeverBelow, QuantileWithin}
 use Rattle.laws.specs.Numbers.{zero_accepted}
+use Rattle.fund.specs.declared.Cells.{Cells}
 use Rattle.pricing.specs.declared.Priced.{Priced}
-use Rattle.pricing.specs.Priced.{left_priced, Prices}
+use Rattle.pricing.specs.declared.NotPriced.{NotPriced}
+use Rattle.pricing.specs.Priced.{verdict_in, figures_in, left_priced, Prices}
 use Rattle.pricing.specs.JoinedSteps.{quantile_is}
 use Rattle.miguepo.specs.Bits.{bits_of, read_signed}
-use Rattle.miguepo.specs.Host.{result_fields, priced_fields, Hosts}
+use Rattle.miguepo.specs.Host.{result_fields, priced_fields, HostsCells}
 
-module _ (text : List ℕ) (r : Reading) (level : ℕ) (n : Lengths) (p : Priced) (D : List ℤ) (H : List ℕ) (f : List ℤ) (R : List ℕ) (F : List ℤ) (k : Prices text r level n p (left_priced p D H f R F)) where
-  same : left_priced p D H f R F ≡ answer_to text n r
+module _ (text : List ℕ) (r : Reading) (level : ℕ) (n : Lengths) (p : Result Priced NotPriced) (c : Cells) (k : Prices text r level n p (left_priced p c)) where
+  same : left_priced p c ≡ answer_to text n r
   same = k.answers.answer
 
-  zero_told : number_in (answer_to text n r).verdict ≡ 0 → p.verdict ≡ Ok tt
+  zero_told : number_in (answer_to text n r).verdict ≡ 0 → verdict_in p ≡ Ok tt
   zero_told z = ap (λ (x : Answer). x.verdict) same ∙ zero_accepted (answer_to text n r).verdict z
 
-  pub hosts : (result : List ℕ) → (result ≡ priced_fields p) × (read_signed (bits_of p.figures.premium) ≡ p.figures.premium) → Hosts text r level n result D H f R F
+  pub hosts : (result : List ℕ) → (result ≡ priced_fields p) × (read_signed (bits_of (figures_in p).premium) ≡ (figures_in p).premium) → HostsCells text r level n result c
   hosts result e =
       record {
         result_is = e.0 ∙ rw (quantile_is k.answers, k.answers.horizon) (ap (λ (y : Answer). result_fields y (horizon_in r) (quantile_of level (horizon_in r) (answer_to text n r).F (answer_to text n r).verdict)) same);

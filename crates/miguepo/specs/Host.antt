@@ -1,5 +1,5 @@
 -- What the pricing call hands to a host in C.
-use Rattle.std.specs.Prelude.{◌≡◌, List, [], ◌∷◌, ℕ, ◌+◌, ◌-◌, ◌≤◌, ℤ, length, Option}
+use Rattle.std.specs.Prelude.{◌≡◌, List, [], ◌∷◌, ℕ, ◌+◌, ◌-◌, ◌≤◌, ℤ, length, Option, Result}
 use Rattle.fund.specs.Limits.{most_level}
 use Rattle.fund.specs.Reading.{FundFile, Reading, read}
 use Rattle.fund.specs.Refusals.{Lengths, number_in, place_in}
@@ -7,8 +7,10 @@ use Rattle.fund.specs.Quantile.{quantile_of, reached_in, quantile_in}
 use Rattle.fund.specs.Answer.{Answer, answer_to}
 use Rattle.fund.specs.Listing.{horizon_in}
 use Rattle.fund.specs.Distance.{WithinBounds, AverageExcess, NeverBelow, QuantileWithin}
+use Rattle.fund.specs.declared.Cells.{Cells}
 use Rattle.pricing.specs.declared.Priced.{Priced}
-use Rattle.pricing.specs.Priced.{horizon_with}
+use Rattle.pricing.specs.declared.NotPriced.{NotPriced}
+use Rattle.pricing.specs.Priced.{verdict_in, start_in, end_in, figures_in, horizon_of, quantile_told, horizon_with}
 use Rattle.miguepo.specs.Bits.{bits_of, read_signed}
 
 -- The fields of the struct that C declares, in their order, for an answer, the horizon that was read and the answer at a level.
@@ -29,20 +31,20 @@ result_fields a X q =
     ∷ []
 
 -- The same fields, of what a call answered.
-abbrev pub priced_fields : Priced → List ℕ
+abbrev pub priced_fields : Result Priced NotPriced → List ℕ
 priced_fields p =
-    number_in p.verdict
-    ∷ place_in p.verdict
-    ∷ p.start
-    ∷ (p.end - p.start)
-    ∷ p.horizon
-    ∷ p.figures.truncation
-    ∷ p.figures.mean
-    ∷ bits_of p.figures.premium
-    ∷ p.figures.within
-    ∷ p.figures.gross
-    ∷ reached_in p.quantile
-    ∷ quantile_in p.quantile
+    number_in (verdict_in p)
+    ∷ place_in (verdict_in p)
+    ∷ start_in p
+    ∷ (end_in p - start_in p)
+    ∷ horizon_of p
+    ∷ (figures_in p).truncation
+    ∷ (figures_in p).mean
+    ∷ bits_of (figures_in p).premium
+    ∷ (figures_in p).within
+    ∷ (figures_in p).gross
+    ∷ reached_in (quantile_told p)
+    ∷ quantile_in (quantile_told p)
     ∷ []
 
 -- Everything that is handed over is the answer's, and C reads the premium from its bits; the line lies in the text; demand 3 holds
@@ -62,3 +64,6 @@ pub record Hosts (text : List ℕ) (r : Reading) (level : ℕ) (n : Lengths) (re
       QuantileWithin fund (answer_to text n r) level (quantile_of level (horizon_in r) (answer_to text n r).F (answer_to text n r).verdict)
   pub never_below : (fund : FundFile) → r ≡ read fund → number_in (answer_to text n r).verdict ≡ 0 → NeverBelow fund (answer_to text n r)
   pub average : (fund : FundFile) → r ≡ read fund → number_in (answer_to text n r).verdict ≡ 0 → AverageExcess fund
+
+abbrev pub HostsCells : List ℕ → Reading → ℕ → Lengths → List ℕ → Cells → Type 0
+HostsCells text r level n result c = Hosts text r level n result c.transform.now c.h.now c.f.now c.r.now c.sums.now

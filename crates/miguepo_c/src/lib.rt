@@ -1,11 +1,12 @@
 // The pricing calls for C, as include/miguepo.h declares them: the archive exports the library's calls, with their clauses.
 #![tactic(auto)]
 
+ghost use Rattle.fund.specs.Cells.{slice_lengths};
 ghost use Rattle.fund.specs.Reading.{reading};
 ghost use Rattle.fund.specs.Sheets.{sheet_reading};
-ghost use Rattle.valuation.specs.Valued.{lengths};
 ghost use Rattle.miguepo.specs.Host.{Hosts};
 
+use fund::Cells;
 use miguepo::FIELDS;
 
 // Prices the fund of a file into the five result slices, answers at a level, and fills the struct.
@@ -21,10 +22,11 @@ pub extern "C" fn miguepo_price(
     res: &mut [u64; FIELDS],
 )
     ensures { Hosts file.now (reading file.now) level
-        (lengths transform.old h.old f.old r.old sums.old)
+        (slice_lengths transform.old h.old f.old r.old sums.old)
         res.new transform.new h.new f.new r.new sums.new }
 {
-    miguepo::miguepo_price(file, level, transform, h, f, r, sums, res)
+    let mut cells = Cells::new(transform, h, f, r, sums);
+    miguepo::miguepo_price(file, level, &mut cells, res);
 }
 
 // The same of a header text and two sheets of binary64 cells, of rates and of members.
@@ -42,8 +44,9 @@ pub extern "C" fn miguepo_price_sheets(
     res: &mut [u64; FIELDS],
 )
     ensures { Hosts header.now (sheet_reading header.now rates.now members.now) level
-        (lengths transform.old h.old f.old r.old sums.old)
+        (slice_lengths transform.old h.old f.old r.old sums.old)
         res.new transform.new h.new f.new r.new sums.new }
 {
-    miguepo::miguepo_price_sheets(header, rates, members, level, transform, h, f, r, sums, res)
+    let mut lent = Cells::new(transform, h, f, r, sums);
+    miguepo::miguepo_price_sheets(header, rates, members, level, &mut lent, res);
 }

@@ -31,6 +31,6 @@ module _ (old new : List ℕ) (level : ℕ) (n m : Lengths) (c : Compared) (a b 
         new_hosted = q;
         comparison_is = rw same at e;
         read_back = subst ReadBack same s;
-        exact = λ f g r s v d t. k.exact f g r s v d (same ∙ t);
-        rates = λ f g r s v d t. k.rates f g r s v d (same ∙ t);
+        exact = λ f g r s t e. k.exact f g r s t (same ∙ e);
+        rates = λ f g r s t e. k.rates f g r s t (same ∙ e);
       }

@@ -3,15 +3,27 @@
 #![tactic(auto)]
 
 ghost use Rattle.std.specs.Prelude.{◌≡◌};
-ghost use Rattle.valuation.specs.Valued.{lengths};
-ghost use Rattle.miguepo_comparison.specs.HostComparison.{handed, moved_fields, SignedFields, comparison_fields, ReadBack, HostsComparison};
+ghost use Rattle.fund.specs.Cells.{lengths, SameSlices};
+ghost use Rattle.miguepo_comparison.specs.HostComparison.{handed_cells, member_fields, moved_fields, SignedFields, comparison_fields, ReadBack, HostsComparison};
 
 use comparison::Comparison;
+use fund::Cells;
 use miguepo::{FIELDS, bits, hand_over};
-use moves::{Differences, Move};
+use moves::{Differences, MemberLine, Move};
 
 // How many fields the struct of a comparison has.
 pub const COMPARISON_FIELDS: usize = 12;
+
+// The fields of a member line that differs; of none, zeros.
+fn member_fields(member: Option<MemberLine>) -> MemberLine
+    ensures { result ≡ member_fields member }
+{
+    member.unwrap_or(MemberLine {
+        member: 0,
+        old_line: 0,
+        new_line: 0,
+    })
+}
 
 // The fields of a move.
 fn moved_fields(m: Move, d: Differences) -> [u64; COMPARISON_FIELDS]
@@ -23,6 +35,8 @@ fn moved_fields(m: Move, d: Differences) -> [u64; COMPARISON_FIELDS]
     let gross = bits(m.gross);
     let gross_least = bits(m.gross_least);
     let gross_most = bits(m.gross_most);
+    let header = d.header.unwrap_or(0);
+    let line = member_fields(d.member);
     [
         1,
         premium,
@@ -32,19 +46,19 @@ fn moved_fields(m: Move, d: Differences) -> [u64; COMPARISON_FIELDS]
         gross,
         gross_least,
         gross_most,
-        d.header,
-        d.member,
-        d.old_line,
-        d.new_line,
+        header,
+        line.member,
+        line.old_line,
+        line.new_line,
     ]
 }
 
-fn comparison_fields(comparison: Comparison) -> [u64; COMPARISON_FIELDS]
+fn comparison_fields(comparison: Option<Comparison>) -> [u64; COMPARISON_FIELDS]
     ensures { (result ≡ comparison_fields comparison) × ReadBack comparison }
 {
     match comparison {
-        Comparison::Moved(m, d) => moved_fields(m, d),
-        Comparison::Refused => [0u64; COMPARISON_FIELDS],
+        Some(told) => moved_fields(told.moved, told.differences),
+        None => [0; COMPARISON_FIELDS],
     }
 }
 
@@ -53,46 +67,19 @@ pub fn miguepo_compare(
     old: &[u8],
     new: &[u8],
     level: u64,
-    old_transform: &mut [i64],
-    old_h: &mut [u64],
-    old_f: &mut [i64],
-    old_r: &mut [u64],
-    old_sums: &mut [i64],
-    new_transform: &mut [i64],
-    new_h: &mut [u64],
-    new_f: &mut [i64],
-    new_r: &mut [u64],
-    new_sums: &mut [i64],
+    old_cells: &mut Cells,
+    new_cells: &mut Cells,
     old_result: &mut [u64; FIELDS],
     new_result: &mut [u64; FIELDS],
     comparison: &mut [u64; COMPARISON_FIELDS],
 )
-    ensures { HostsComparison old.now new.now level
-        (lengths old_transform.old old_h.old old_f.old old_r.old old_sums.old)
-        (lengths new_transform.old new_h.old new_f.old new_r.old new_sums.old)
-        (handed old_result.new old_transform.new old_h.new old_f.new old_r.new old_sums.new)
-        (handed new_result.new new_transform.new new_h.new new_f.new new_r.new new_sums.new)
-        comparison.new }
+    ensures old_slices { SameSlices old_cells.old old_cells.new }
+    ensures new_slices { SameSlices new_cells.old new_cells.new }
+    ensures hosts { HostsComparison old.now new.now level (lengths old_cells.old) (lengths new_cells.old)
+        (handed_cells old_result.new old_cells.new) (handed_cells new_result.new new_cells.new) comparison.new }
 {
-    let compared = comparison::compare(
-        old,
-        new,
-        level,
-        old_transform,
-        old_h,
-        old_f,
-        old_r,
-        old_sums,
-        new_transform,
-        new_h,
-        new_f,
-        new_r,
-        new_sums,
-    );
-    let before = compared.old;
-    let after = compared.new;
-    let told = compared.comparison;
-    hand_over(before, old_result);
-    hand_over(after, new_result);
-    *comparison = comparison_fields(told);
+    let compared = comparison::compare(old, new, level, old_cells, new_cells);
+    hand_over(compared.old, old_result);
+    hand_over(compared.new, new_result);
+    *comparison = comparison_fields(compared.comparison);
 }

@@ -1,9 +1,10 @@
 // The call for C that compares two fund files, as include/miguepo.h declares it: the archive exports the library's call, with its clause.
 #![tactic(auto)]
 
-ghost use Rattle.valuation.specs.Valued.{lengths};
+ghost use Rattle.fund.specs.Cells.{slice_lengths};
 ghost use Rattle.miguepo_comparison.specs.HostComparison.{handed, HostsComparison};
 
+use fund::Cells;
 use miguepo::FIELDS;
 use miguepo_comparison::COMPARISON_FIELDS;
 
@@ -28,28 +29,22 @@ pub extern "C" fn miguepo_compare(
     comparison: &mut [u64; COMPARISON_FIELDS],
 )
     ensures { HostsComparison old.now new.now level
-        (lengths old_transform.old old_h.old old_f.old old_r.old old_sums.old)
-        (lengths new_transform.old new_h.old new_f.old new_r.old new_sums.old)
+        (slice_lengths old_transform.old old_h.old old_f.old old_r.old old_sums.old)
+        (slice_lengths new_transform.old new_h.old new_f.old new_r.old new_sums.old)
         (handed old_result.new old_transform.new old_h.new old_f.new old_r.new old_sums.new)
         (handed new_result.new new_transform.new new_h.new new_f.new new_r.new new_sums.new)
         comparison.new }
 {
+    let mut old_cells = Cells::new(old_transform, old_h, old_f, old_r, old_sums);
+    let mut new_cells = Cells::new(new_transform, new_h, new_f, new_r, new_sums);
     miguepo_comparison::miguepo_compare(
         old,
         new,
         level,
-        old_transform,
-        old_h,
-        old_f,
-        old_r,
-        old_sums,
-        new_transform,
-        new_h,
-        new_f,
-        new_r,
-        new_sums,
+        &mut old_cells,
+        &mut new_cells,
         old_result,
         new_result,
         comparison,
-    )
+    );
 }

@@ -1,4 +1,3 @@
 pub mod ValuedAnswer
-pub mod Reading
 pub mod ToldAnswer
 pub mod PricedRead

@@ -1,48 +1,73 @@
--- What is answered of what a reading gives is the answer to the text (read_answer_lem), so that the call on what was read meets the contract of the call on the text (prices_read).
-use Rattle.std.specs.Prelude.{Err, Ok}
-use mathlib.Core.Path.{◌≡◌, refl, sym, ◌∙◌, ap}
-use mathlib.Core.List.{List}
-use Prim.Native.Nat.{ℕ}
-use lib.IntN.{ℤ}
-use Rattle.fund.specs.Verdict.{Verdict, refused_at}
-use Rattle.fund.specs.Reading.{FundFile, Reading, read}
-use Rattle.fund.specs.Refusals.{Lengths}
+-- What is answered of what a reading gives is the answer to the text (read_answer_is), so that the call on what was read meets the contract of the call on the text (prices_read).
+use Rattle.std.specs.Prelude.{◌≡◌, refl, List, ℕ, ◌≤◌, length, Result, Ok, Err}
+use Rattle.std.proofs.Common.{sym, ◌∙◌, ap, arith, le-leb}
+use lib.ListN.{length-map}
+use Rattle.arrayvec.specs.ArrayVec.{ArrayVec}
+use Rattle.fund.specs.declared.Cells.{Cells}
+use Rattle.fund.specs.declared.ModelPoint.{ModelPoint}
+use Rattle.fund.specs.declared.Refused.{Refused}
+use Rattle.fund.specs.Limits.{most_rates, most_members}
+use Rattle.fund.specs.Verdict.{Verdict}
+use Rattle.fund.specs.Reading.{FundFile, Reading, read, stopped}
+use Rattle.fund.specs.Folding.{point, points}
+use Rattle.fund.specs.Refusals.{Lengths, matched}
 use Rattle.fund.specs.Answer.{answer_to}
+use Rattle.fund.specs.Listing.{horizon_in}
 use Rattle.laws.specs.Ranges.{FundOk}
-use Rattle.rows.specs.declared.FileRead.{FileRead}
-use Rattle.rows.specs.Read.{file_read}
-use Rattle.matching.specs.Matching.{matched_rows}
+use Rattle.rows.specs.declared.Rows.{Rows}
+use Rattle.matching.specs.Matching.{with_points, file_of, matching, matched_rows}
 use Rattle.pricing.specs.declared.Priced.{Priced}
+use Rattle.pricing.specs.declared.NotPriced.{NotPriced}
 use Rattle.pricing.specs.JoinedSteps.{answer_stopped}
-use Rattle.pricing.specs.Priced.{left_priced, lined, horizon_with, MatchedFund, valued_by, read_by, read_answer, PricesRead, Prices}
+use Rattle.pricing.specs.Priced.{verdict_in, left_priced, lined, horizon_with, valued_by, found_in, found_horizon, read_answer, PricesRead, Prices}
 use Rattle.pricing.proofs.ValuedAnswer.{matched_answers, valued_answers}
-use Rattle.pricing.proofs.Reading.{stops, horizon_read, read_matched, matched_verdict, matched_points, few_enrolled}
 use Rattle.pricing.proofs.ToldAnswer.{prices}
 
-module _ (text : List ℕ) (r : Reading) (found : FileRead) (e : found ≡ file_read r) (ok : (fund : FundFile) → r ≡ read fund → FundOk fund) (n : Lengths) where
-  -- the tables of a fund that was read
-  of_tables : MatchedFund r found.fund (matched_rows found) found.enrolled → (v : Verdict) → (matched_rows found).verdict ≡ v →
-      lined text (valued_by found.fund (matched_rows found).points found.enrolled n v) ≡ answer_to text n r
-  of_tables k (Err stop) z = matched_answers text n r k.of k.is (matched_rows found).verdict stop.why stop.place _ (matched_verdict r found.fund (matched_rows found) found.enrolled k) z refl
-  of_tables k (Ok tt) z =
-      valued_answers text n r k.of k.is k.ok _ (sym (matched_verdict r found.fund (matched_rows found) found.enrolled k) ∙ z) (matched_points r found.fund (matched_rows found) found.enrolled k z) _ found.fund found.enrolled
-      k.header (few_enrolled r found.fund (matched_rows found) found.enrolled k) refl
+-- ---- what 3 to 6 answered of rows that a file may have
+stops : (ps : List ModelPoint) (v : Verdict) (e : Refused) → with_points ps v ≡ Err e → v ≡ Err e
+unfolding with_points
+stops ps (Ok u) e k = let z : ◌≡◌ {A = ℕ} 0 1 = cc k in absurd (omega arith)
+stops ps (Err stop) e k = let z : stop ≡ e = cc k in ap Err z
 
-  read_answer_lem : read_answer text found n ≡ answer_to text n r
-  read_answer_lem = go found.verdict refl
-    where
-      go : (v : Verdict) → found.verdict ≡ v → read_by text found n v ≡ answer_to text n r
-      go (Err stop) w = sym (answer_stopped text n r stop.why stop.place (stops r found e stop.why stop.place w r refl))
-      go (Ok tt) w = of_tables (read_matched r found e ok (matched_rows found) refl w) (matched_rows found).verdict refl
+passes : (ps : List ModelPoint) (v : Verdict) (vs : ArrayVec ModelPoint) → with_points ps v ≡ Ok vs → (v ≡ Ok tt) × (vs.items ≡ ps)
+unfolding with_points
+passes ps (Ok u) vs k = let z : record { items = ps } ≡ vs = cc k in (refl, ap (λ (w : ArrayVec ModelPoint). w.items) (sym z))
+passes ps (Err stop) vs k = let z : ◌≡◌ {A = ℕ} 0 1 = cc k in absurd (omega arith)
 
-  pub prices_read : (level : ℕ) (p : Priced) (d : List ℤ) (h : List ℕ) (f : List ℤ) (bounds : List ℕ) (s : List ℤ) → PricesRead text found level n p (left_priced p d h f bounds s) → Prices text r level n p (left_priced p d h f bounds s)
-  prices_read level p d h f bounds s k =
-      prices text r level n p d h f bounds s
-      (record {
-        answer = k.answer ∙ read_answer_lem;
-        horizon = k.horizon ∙ ap (horizon_with p.verdict) (horizon_read r found e);
-        quantile = k.quantile;
-        ordered = k.ordered;
-        inside = k.inside;
-      })
-      ok
+count : (file : FundFile) → length (points file) ≡ length file.members
+unfolding points
+count file = length-map file.members (point file.rates)
+
+module _ (r : Rows) (ok : FundOk (file_of r)) where
+  fits : matched_rows r ≡ matching (file_of r)
+  unfolding matched_rows
+  fits = rw (le-leb (length r.rates.now) most_rates ok.rows.few_rates, le-leb (length r.members.now) most_members ok.rows.few_members) refl
+
+  of_rows : (text : List ℕ) (n : Lengths) (o : Result (ArrayVec ModelPoint) Refused) → matched_rows r ≡ o → lined text (valued_by r.fund n o) ≡ answer_to text n (read (file_of r))
+  unfolding matching
+  of_rows text n (Err e) z = matched_answers text n (read (file_of r)) (file_of r) refl e _ (stops (points (file_of r)) (matched (file_of r) (Ok tt)) e (sym fits ∙ z)) refl
+  of_rows text n (Ok vs) z =
+      let k = passes (points (file_of r)) (matched (file_of r) (Ok tt)) vs (sym fits ∙ z) in
+      valued_answers text n (read (file_of r)) (file_of r) refl ok vs.items k.0 k.1 _ r.fund (length vs.items) refl (omega (arith, ap length k.1, count (file_of r), ok.rows.few_members)) refl
+
+read_answer_is : (text : List ℕ) (n : Lengths) (found : Result Rows Refused) → ((fund : FundFile) → found_in found ≡ read fund → FundOk fund) → read_answer text found n ≡ answer_to text n (found_in found)
+read_answer_is text n (Err stop) ok = sym (answer_stopped text n _ stop.why stop.place refl)
+read_answer_is text n (Ok r) ok = of_rows r (ok (file_of r) refl) text n (matched_rows r) refl
+
+horizon_is : (found : Result Rows Refused) → found_horizon found ≡ horizon_in (found_in found)
+unfolding horizon_in
+horizon_is (Err stop) = refl
+horizon_is (Ok r) = refl
+
+pub prices_read : (text : List ℕ) (found : Result Rows Refused) (n : Lengths) (level : ℕ) (p : Result Priced NotPriced) (c : Cells) → PricesRead text found level n p (left_priced p c) → (r : Reading) → found_in found ≡ r →
+    ((fund : FundFile) → r ≡ read fund → FundOk fund) → Prices text r level n p (left_priced p c)
+prices_read text found n level p c k r e ok =
+    prices text r level n p c
+    (record {
+      answer = k.answer ∙ read_answer_is text n found (λ fund z. ok fund (sym e ∙ z)) ∙ ap (answer_to text n) e;
+      horizon = k.horizon ∙ ap (horizon_with (verdict_in p)) (horizon_is found ∙ ap horizon_in e);
+      quantile = k.quantile;
+      ordered = k.ordered;
+      inside = k.inside;
+    })
+    ok

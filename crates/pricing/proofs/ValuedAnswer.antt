@@ -6,7 +6,7 @@ use Prim.Native.Nat.{ℕ, ◌≤◌}
 use borrow.Author.Tests.{ltb-false}
 use Rattle.fund.specs.declared.Fund.{Fund}
 use Rattle.fund.specs.declared.ModelPoint.{ModelPoint}
-use Rattle.fund.specs.declared.Refusal.{Refusal}
+use Rattle.fund.specs.declared.Refused.{Refused}
 use Rattle.fund.specs.Verdict.{Verdict, refused_at}
 use Rattle.fund.specs.Limits.{most_members}
 use Rattle.fund.specs.Reading.{FundFile, Reading, read}
@@ -24,18 +24,18 @@ use Rattle.pricing.specs.JoinedSteps.{points_in, answer_matched, answer_valued}
 use Rattle.pricing.specs.Priced.{lined}
 
 -- With its line, what a refusal or a valuation leaves is the answer of a verdict.
-pub lined_refused : (text : List ℕ) (n : Lengths) (why : Refusal) (place : ℕ) → lined text (refused [] n (refused_at why place)) ≡ refused text n (refused_at why place)
+pub lined_refused : (text : List ℕ) (n : Lengths) (e : Refused) → lined text (refused [] n (Err e)) ≡ refused text n (Err e)
 unfolding refused
-lined_refused text n why place = refl
+lined_refused text n e = refl
 
 lined_outcome : (text : List ℕ) (n : Lengths) (fund : FundFile) (v : Verdict) → lined text (outcome fund.header (lives fund) n v) ≡ answer_of text n fund v
 unfolding answer_of accepted part
-lined_outcome text n fund (Ok tt) = refl
-lined_outcome text n fund (Err stop) = lined_refused text n stop.why stop.place
+lined_outcome text n fund (Ok u) = refl
+lined_outcome text n fund (Err stop) = lined_refused text n stop
 
 module _ (text : List ℕ) (n : Lengths) (r : Reading) (fund : FundFile) (is : r ≡ read fund) where
-  pub matched_answers : (v : Verdict) (why : Refusal) (place : ℕ) (a : Answer) → v ≡ matched fund (Ok tt) → v ≡ refused_at why place → a ≡ refused [] n (refused_at why place) → lined text a ≡ answer_to text n r
-  matched_answers v why place a e w k = ap (lined text) k ∙ lined_refused text n why place ∙ sym (answer_matched text n r fund is why place (sym e ∙ w))
+  pub matched_answers : (e : Refused) (a : Answer) → matched fund (Ok tt) ≡ Err e → a ≡ refused [] n (Err e) → lined text a ≡ answer_to text n r
+  matched_answers e a w k = ap (lined text) k ∙ lined_refused text n e ∙ sym (answer_matched text n r fund is e.why e.place w)
 
   module _ (ok : FundOk fund) (ps : List ModelPoint) (m : matched fund (Ok tt) ≡ Ok tt) (same : ps ≡ points fund) where
     in_range : Points ps

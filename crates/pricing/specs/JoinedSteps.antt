@@ -1,10 +1,11 @@
 -- What joins the steps of a pricing call: a fund that is read and matched has model points in their ranges (points_in); refusals 3 to 6
 -- come before what follows them (matched_first); the answer of a call from the answers of its steps (answer_stopped,
 -- answer_matched, answer_valued); and its answer at the level, by the definitions (told_horizon, quantile_is).
-use Rattle.std.specs.Prelude.{◌≡◌, refl, Bool, true, false, List, [], ◌∷◌, map, ℕ, ◌+◌, ◌≤◌, eqb, ℤ, if◌then◌else◌, Err, None, Ok, Option, Some}
+use Rattle.std.specs.Prelude.{◌≡◌, refl, Bool, true, false, List, [], ◌∷◌, map, ℕ, ◌+◌, ◌≤◌, eqb, ℤ, if◌then◌else◌, Err, None, Ok, Option, Some, Result}
 use Rattle.std.proofs.Common.{◌∙◌, arith}
 use Rattle.std.proofs.Math.Path.{ap}
 use Rattle.fund.specs.declared.Rate.{Rate}
+use Rattle.fund.specs.declared.Cells.{Cells}
 use Rattle.fund.specs.declared.Member.{Member}
 use Rattle.fund.specs.declared.ModelPoint.{ModelPoint}
 use Rattle.fund.specs.declared.Refusal.{Refusal}
@@ -24,7 +25,8 @@ use Rattle.laws.specs.Ranges.{RateOk, MemberOk, FundOk}
 use Rattle.widths.specs.Lives.{InRange}
 use Rattle.totals.specs.Table.{PointIn, Points}
 use Rattle.pricing.specs.declared.Priced.{Priced}
-use Rattle.pricing.specs.Priced.{left_priced, horizon_with, Answers}
+use Rattle.pricing.specs.declared.NotPriced.{NotPriced}
+use Rattle.pricing.specs.Priced.{verdict_in, quantile_told, left_priced, horizon_with, Answers}
 
 -- ---- model points in their ranges
 folded_in : (o : Option Rate) (m : Member) → ((r : Rate) → o ≡ Some r → RateOk r) → MemberOk m → Limited (folded o m) → InRange (folded o m)
@@ -114,13 +116,13 @@ module _ (text : List ℕ) (n : Lengths) (r : Reading) (fund : FundFile) (e : r 
 -- ---- the answer at the level
 -- of a refusal the horizon does not count
 pub told_horizon : (level X : ℕ) (F : List ℤ) (v : Verdict) → quantile_of level (horizon_with v X) F v ≡ quantile_of level X F v
-told_horizon level X F (Ok tt) = refl
+told_horizon level X F (Ok u) = refl
 told_horizon level X F (Err stop) = refl
 
-pub quantile_is : {text : List ℕ} {r : Reading} {level : ℕ} {p : Priced} {D : List ℤ} {H : List ℕ} {f : List ℤ} {R : List ℕ} {F : List ℤ} {is : Answer} → Answers text r level p (left_priced p D H f R F) is →
-    p.quantile ≡ quantile_of level (horizon_in r) is.F is.verdict
-quantile_is {r = r} {level} {p} {F = F} k =
+pub quantile_is : {text : List ℕ} {r : Reading} {level : ℕ} {p : Result Priced NotPriced} {c : Cells} {is : Answer} → Answers text r level p (left_priced p c) is →
+    quantile_told p ≡ quantile_of level (horizon_in r) is.F is.verdict
+quantile_is {r = r} {level} {p} {c} k =
     k.quantile
-    ∙ ap (λ X. quantile_of level X F p.verdict) k.horizon
-    ∙ told_horizon level (horizon_in r) F p.verdict
+    ∙ ap (λ X. quantile_of level X c.sums.now (verdict_in p)) k.horizon
+    ∙ told_horizon level (horizon_in r) c.sums.now (verdict_in p)
     ∙ ap (λ (x : Answer). quantile_of level (horizon_in r) x.F x.verdict) k.answer

@@ -1,3 +1,2 @@
 pub mod JoinedSteps
 pub mod Priced
-pub mod Source

@@ -1,16 +1,17 @@
 -- From the tests and the steps to the definition's answer: the start in its cell (start_cell, steps_from), cells that stop (stopped_at,
--- stopped_none), and what is left in each case (outcome_tested, outcome_steps, outcome_left).
+-- stopped_none), and what is left in each case (outcome_tested, outcome_steps, outcome_broken, outcome_done).
 use mathlib.Core.Path.{◌≡◌, refl, sym, ◌∙◌, ap, ap₂, subst}
-use mathlib.Core.Bool.{true}
+use mathlib.Core.Bool.{true, false, true≢false}
 use mathlib.Core.List.{List, [], ◌∷◌, map}
 use Prim.Native.Nat.{ℕ, zero, suc, ◌+◌, ◌<◌}
 use native.Mathlib.Nat as N
 use native.Mathlib.Omega.{arith}
 use borrow.Author.Tests.{lt-ltb}
 use lib.IntN.{ℤ, pos, nat_abs}
-use lib.ListN.{length, drop, replicate, set, length-replicate}
+use lib.ListN.{drop, replicate, set, length-replicate}
 use lib.Seq.{get_or-set_same}
-use Rattle.std.specs.Prelude.{if◌then◌else◌}
+use Rattle.std.specs.Prelude.{if◌then◌else◌, ⊤, Result, Ok, Err}
+use Rattle.std.specs.Result.{is_err}
 use Rattle.fund.specs.Base.{table}
 use Rattle.fund.specs.Recursion.{Cell}
 use Rattle.fund.specs.Refusals.{wide}
@@ -19,14 +20,14 @@ use Rattle.laws.specs.Tables.{table_first, map_table}
 use Rattle.laws.specs.Slices.{lent_is}
 use Rattle.laws.specs.Valued.{narrow_cell, wide_cell}
 use Rattle.laws.specs.Cells.{cell_at, cells_are}
-use Rattle.recursion_limits.specs.declared.Recursed.{Recursed}
-use Rattle.recursion_limits.specs.declared.Recursed.TheVariants.{Done, Short, Outside, Wide, Large}
+use Rattle.recursion_limits.specs.declared.Broken.{Broken}
+use Rattle.recursion_limits.specs.declared.Broken.TheVariants.{Short, Outside, Wide, Large}
 use Rattle.recursion_limits.specs.Limits.{most_cell, CellFits}
-use Rattle.recursion_limits.specs.Tests.{large, Kept, Tests}
+use Rattle.recursion_limits.specs.Tests.{large, tested, Kept}
 use Rattle.recursion_limits.proofs.TestedLimits.{small_cell, tested_kept}
 use Rattle.recursion.specs.Slices.{cell_in, entries_in}
 use Rattle.recursion.specs.Recursion.{stopped, cells_to, after, recursed, left_cells, leaves, recursion}
-use Rattle.recursion.specs.Steps.{CellsFilled, StepsTo, StepsFrom, CarriedOut, Settled}
+use Rattle.recursion.specs.Steps.{CellsFilled, StepsTo, StepsFrom, CarriedOut}
 
 -- ---- the start
 pub start_cell : (nf nr : ℕ) (z : ℤ) (n : ℕ) → 0 < nf → 0 < nr → cell_in (set (replicate nf (pos 0)) 0 z) (set (replicate nr 0) 0 n) 0 ≡ record { f = z; R = n }
@@ -40,12 +41,12 @@ drop_set : {A : Type 0} (X : ℕ) (s : List A) (a : A) → drop (suc X) (set s 0
 drop_set X [] a = refl
 drop_set X (b ∷ s) a = refl
 
-pub steps_from : (X : ℕ) (cell cell' : ℕ → Cell) (f f₁ f' : List ℤ) (r r₁ r' : List ℕ) (z : ℤ) (n : ℕ) (a : Recursed) → cell ≡ cell' →
+pub steps_from : (X : ℕ) (cell cell' : ℕ → Cell) (f f₁ f' : List ℤ) (r r₁ r' : List ℕ) (z : ℤ) (n : ℕ) (a : Result ⊤ Broken) → cell ≡ cell' →
     f₁ ≡ set f 0 z → r₁ ≡ set r 0 n → StepsTo X cell f₁ f' r₁ r' a → StepsTo X cell' f f' r r' a
 steps_from X cell cell' f f₁ f' r r₁ r' z n a e f_is r_is k = go a (subst (λ c. StepsTo X c f₁ f' r₁ r' a) e k)
   where
-    go : (a : Recursed) → StepsTo X cell' f₁ f' r₁ r' a → StepsTo X cell' f f' r r' a
-    go Done k =
+    go : (a : Result ⊤ Broken) → StepsTo X cell' f₁ f' r₁ r' a → StepsTo X cell' f f' r r' a
+    go (Ok tt) k =
         record {
           f_are = k.f_are;
           r_are = k.r_are;
@@ -53,27 +54,27 @@ steps_from X cell cell' f f₁ f' r r₁ r' z n a e f_is r_is k = go a (subst (�
           r_beyond = k.r_beyond ∙ ap (drop (suc X)) r_is ∙ drop_set X r n;
           fit = k.fit;
         }
-    go Short k = k
-    go (Outside j) k = k
-    go (Wide x) k = k
-    go (Large x) k = k
+    go (Err Short) k = k
+    go (Err (Outside j)) k = k
+    go (Err (Wide x)) k = k
+    go (Err (Large x)) k = k
 
 -- ---- the first cell that is not within the limits
 large_cell : (y : Cell) → most_cell < nat_abs y.f → large y ≡ true
 unfolding large
 large_cell y h = lt-ltb _ _ h
 
-abbrev step : ℕ → Cell → Recursed → Recursed
-step x y after = if wide y then Wide x else if large y then Large x else after
+abbrev step : ℕ → Cell → Result ⊤ Broken → Result ⊤ Broken
+step x y after = if wide y then Err (Wide x) else if large y then Err (Large x) else after
 
-step_fits : (x : ℕ) (y : Cell) (after : Recursed) → CellFits y → step x y after ≡ after
+step_fits : (x : ℕ) (y : Cell) (after : Result ⊤ Broken) → CellFits y → step x y after ≡ after
 step_fits x y after h = rw (narrow_cell y h.narrow, small_cell y h)
 
 stopped_first : (at n : ℕ) (g : ℕ → Cell) → stopped at (table (suc n) g) ≡ step at (g 0) (stopped (suc at) (table n (λ k. g (suc k))))
 unfolding stopped
 stopped_first at n g = ap (stopped at) (table_first n g)
 
-pub stopped_none : (at n : ℕ) (g : ℕ → Cell) → ((k : ℕ) → k < n → CellFits (g k)) → stopped at (table n g) ≡ Done
+pub stopped_none : (at n : ℕ) (g : ℕ → Cell) → ((k : ℕ) → k < n → CellFits (g k)) → stopped at (table n g) ≡ Ok tt
 unfolding stopped table
 stopped_none at zero g h = refl
 stopped_none at (suc n) g h =
@@ -81,13 +82,13 @@ stopped_none at (suc n) g h =
     ∙ step_fits at (g 0) _ (h 0 (omega arith))
     ∙ stopped_none (suc at) n (λ k. g (suc k)) (λ k l. h (suc k) (omega arith))
 
-pub stopped_at : (at n x : ℕ) (g : ℕ → Cell) (a : Recursed) → x < n → ((k : ℕ) → k < x → CellFits (g k)) → ((after : Recursed) → step (at + x) (g x) after ≡ a) → stopped at (table n g) ≡ a
+pub stopped_at : (at n x : ℕ) (g : ℕ → Cell) (a : Result ⊤ Broken) → x < n → ((k : ℕ) → k < x → CellFits (g k)) → ((after : Result ⊤ Broken) → step (at + x) (g x) after ≡ a) → stopped at (table n g) ≡ a
 stopped_at at zero x g a l h s = absurd (omega arith)
-stopped_at at (suc n) zero g a l h s = stopped_first at n g ∙ subst (λ m. (after : Recursed) → step m (g 0) after ≡ a) (let e : at + 0 ≡ at = omega arith in e) s _
+stopped_at at (suc n) zero g a l h s = stopped_first at n g ∙ subst (λ m. (after : Result ⊤ Broken) → step m (g 0) after ≡ a) (let e : at + 0 ≡ at = omega arith in e) s _
 stopped_at at (suc n) (suc x) g a l h s =
     stopped_first at n g
     ∙ step_fits at (g 0) _ (h 0 (omega arith))
-    ∙ stopped_at (suc at) n x (λ k. g (suc k)) a (omega arith) (λ k q. h (suc k) (omega arith)) (subst (λ m. (after : Recursed) → step m (g (suc x)) after ≡ a) (let e : at + suc x ≡ suc at + x = omega arith in e) s)
+    ∙ stopped_at (suc at) n x (λ k. g (suc k)) a (omega arith) (λ k q. h (suc k) (omega arith)) (subst (λ m. (after : Result ⊤ Broken) → step m (g (suc x)) after ≡ a) (let e : at + suc x ≡ suc at + x = omega arith in e) s)
 
 module _ (X : ℕ) (d : List ℤ) (h : List ℕ) (start : Cell) (nf nr : ℕ) where
   abbrev cell : ℕ → Cell
@@ -98,13 +99,9 @@ module _ (X : ℕ) (d : List ℤ) (h : List ℕ) (start : Cell) (nf nr : ℕ) wh
   are = cells_are (entries_in X d h) start X
 
   -- a limit is broken
-  pub outcome_tested : (f : List ℤ) (r : List ℕ) (a : Recursed) → (a ≡ Done → ⊥) → Tests X d h start nf nr a → CarriedOut X d h start nf nr f r a
+  pub outcome_tested : (f : List ℤ) (r : List ℕ) (limit : Broken) → tested X d h start nf nr ≡ Err limit → recursed X d h start nf nr ≡ Err limit
   unfolding recursed
-  outcome_tested f r Done o t = absurd (o refl)
-  outcome_tested f r Short o t = ap (λ a. after a (stopped 0 (cells_to X d h start))) t
-  outcome_tested f r (Outside k) o t = ap (λ a. after a (stopped 0 (cells_to X d h start))) t
-  outcome_tested f r (Wide x) o t = ap (λ a. after a (stopped 0 (cells_to X d h start))) t
-  outcome_tested f r (Large x) o t = ap (λ a. after a (stopped 0 (cells_to X d h start))) t
+  outcome_tested f r limit t = ap (λ a. after a (stopped 0 (cells_to X d h start))) t
 
   -- all limits are kept
   module _ (kept : Kept X d h start nf nr) where
@@ -123,35 +120,28 @@ module _ (X : ℕ) (d : List ℤ) (h : List ℕ) (start : Cell) (nf nr : ℕ) wh
           lent_is 0 nr X (λ k. (cell k).R) r s.r_are s.r_beyond
           ∙ ap (lent 0 nr) (sym (map_table (λ (y : Cell). y.R) (suc X) cell) ∙ ap (map (λ (y : Cell). y.R)) (sym are))
 
-      done : left_cells Done f r ≡ recursion X d h start nf nr
+      done : left_cells (Ok tt) f r ≡ recursion X d h start nf nr
       unfolding recursion leaves
-      done = rw (rest ∙ stopped_none 0 (suc X) cell (λ k l. s.fit k (N.le_of_suc-le-suc l))) (ap₂ (left_cells Done) f_lent r_lent)
+      done = rw (rest ∙ stopped_none 0 (suc X) cell (λ k l. s.fit k (N.le_of_suc-le-suc l))) (ap₂ (left_cells (Ok tt)) f_lent r_lent)
 
-    pub outcome_steps : (f : List ℤ) (r : List ℕ) (a : Recursed) → StepsFrom X d h start nf nr f r a → CarriedOut X d h start nf nr f r a
-    outcome_steps f r Done s = done f r s
-    outcome_steps f r Short s = absurd s
-    outcome_steps f r (Outside k) s = absurd s
-    outcome_steps f r (Wide x) s =
-        rest ∙ stopped_at 0 (suc X) x cell (Wide x) (let l = s.within in omega arith) s.fit
-        (λ after. rw (wide_cell (cell x) s.wide) (ap Wide (let e : 0 + x ≡ x = omega arith in e)))
-    outcome_steps f r (Large x) s =
-        rest ∙ stopped_at 0 (suc X) x cell (Large x) (let l = s.within in omega arith) s.fit
-        (λ after. rw (narrow_cell (cell x) s.narrow, large_cell (cell x) s.large) (ap Large (let e : 0 + x ≡ x = omega arith in e)))
+    pub outcome_steps : (f : List ℤ) (r : List ℕ) (a : Result ⊤ Broken) → StepsFrom X d h start nf nr f r a → CarriedOut X d h start nf nr f r a
+    outcome_steps f r (Ok tt) s = done f r s
+    outcome_steps f r (Err Short) s = absurd s
+    outcome_steps f r (Err (Outside k)) s = absurd s
+    outcome_steps f r (Err (Wide x)) s =
+        rest ∙ stopped_at 0 (suc X) x cell (Err (Wide x)) (let l = s.within in omega arith) s.fit
+        (λ after. rw (wide_cell (cell x) s.wide) (ap (λ n. Err (Wide n)) (let e : 0 + x ≡ x = omega arith in e)))
+    outcome_steps f r (Err (Large x)) s =
+        rest ∙ stopped_at 0 (suc X) x cell (Err (Large x)) (let l = s.within in omega arith) s.fit
+        (λ after. rw (narrow_cell (cell x) s.narrow, large_cell (cell x) s.large) (ap (λ n. Err (Large n)) (let e : 0 + x ≡ x = omega arith in e)))
 
-  -- what is left of either
-  pub outcome_left : (f f' : List ℤ) (r r' : List ℕ) (a : Recursed) → length f ≡ nf → length r ≡ nr → CarriedOut X d h start nf nr f r a → Settled a f r f' r' →
-      left_cells a f' r' ≡ recursion X d h start nf nr
+  -- what is left where a limit is broken, and where none is
+  pub outcome_broken : (f f' : List ℤ) (r r' : List ℕ) (a : Result ⊤ Broken) → is_err a ≡ true → CarriedOut X d h start nf nr f r a →
+      f' ≡ replicate nf (pos 0) → r' ≡ replicate nr 0 → left_cells a f' r' ≡ recursion X d h start nf nr
   unfolding recursion leaves
-  outcome_left f f' r r' Done e g o s = ap₂ (left_cells Done) s.0 s.1 ∙ o
-  outcome_left f f' r r' Short e g o s = rw (o, ← e, ← g) (ap₂ (left_cells Short) s.0 s.1)
-  outcome_left f f' r r' (Outside k) e g o s = rw (o, ← e, ← g) (ap₂ (left_cells (Outside k)) s.0 s.1)
-  outcome_left f f' r r' (Wide x) e g o s = rw (o, ← e, ← g) (ap₂ (left_cells (Wide x)) s.0 s.1)
-  outcome_left f f' r r' (Large x) e g o s = rw (o, ← e, ← g) (ap₂ (left_cells (Large x)) s.0 s.1)
+  outcome_broken f f' r r' (Ok tt) b o p q = absurd (true≢false (sym b))
+  outcome_broken f f' r r' (Err limit) b o p q = rw o (ap₂ (left_cells (Err limit)) p q)
 
-pub settled_zeros : (f f' : List ℤ) (r r' : List ℕ) (a : Recursed) → (a ≡ Done → ⊥) →
-    (f' ≡ replicate (length f) (pos 0)) × (r' ≡ replicate (length r) 0) → Settled a f r f' r'
-settled_zeros f f' r r' Done o z = absurd (o refl)
-settled_zeros f f' r r' Short o z = z
-settled_zeros f f' r r' (Outside k) o z = z
-settled_zeros f f' r r' (Wide x) o z = z
-settled_zeros f f' r r' (Large x) o z = z
+  pub outcome_done : (f : List ℤ) (r : List ℕ) (a : Result ⊤ Broken) → is_err a ≡ false → CarriedOut X d h start nf nr f r a → left_cells a f r ≡ recursion X d h start nf nr
+  outcome_done f r (Ok tt) b o = o
+  outcome_done f r (Err limit) b o = absurd (true≢false b)

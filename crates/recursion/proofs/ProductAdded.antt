@@ -15,9 +15,9 @@ use Rattle.fund.specs.Recursion.{Cell, Entry}
 use Rattle.laws.specs.Cells.{add_f}
 use Rattle.whole.specs.declared.Sums.{Sums}
 use Rattle.whole.specs.Sign.{signed}
-use Rattle.whole.specs.Sums.{sum_of, WithPart}
+use Rattle.whole.specs.Sums.{sum_of, PartFits, WithPart}
 use Rattle.recursion_limits.specs.Limits.{CellFits, most_error}
-use Rattle.recursion.specs.Steps.{opposite, ProductAdded}
+use Rattle.recursion.specs.Steps.{SumsFit, opposite, ProductAdded}
 use Rattle.recursion.proofs.Opposite.{nearest_product}
 
 unit_positive : 0 < unit
@@ -73,6 +73,16 @@ module _ (k : Entry) (y : Cell) (limited : CellFits y) (error : k.H ≤ most_err
         near_within = rw p.near_is near_most;
         D_within = rw p.D_is D_most;
         H_within = rw p.H_is H_most;
+      }
+
+  -- the sums with the parts fit a word
+  pub part_fits : (s : Sums) → SumsFit s k y → (n a b : ℕ) → Parts k y n a b → PartFits s n (a + b)
+  part_fits s f n a b p =
+      let l = within n a b p in
+      record {
+        plus_fits = omega (arith, l.near_within, f.transform, f.plus_within);
+        minus_fits = omega (arith, l.near_within, f.transform, f.minus_within);
+        bound_fits = omega (arith, l.D_within, l.H_within, f.transform, f.bound_within);
       }
 
   -- a part more, of the product's sign, is one k more

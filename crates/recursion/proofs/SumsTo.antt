@@ -5,7 +5,7 @@ use mathlib.Core.List.{List}
 use Prim.Native.Nat.{ℕ, zero, suc, ◌+◌, ◌-◌, ◌≤◌, ◌<◌}
 use native.Mathlib.Omega.{arith}
 use lib.IntN.{ℤ, pos, nat_abs, ◌+ℤ◌}
-use lib.ListN.{get_or}
+use lib.ListN.{length, get_or}
 use Rattle.laws.specs.Cells.{add_f, add_r}
 use Rattle.whole.specs.declared.Sums.{Sums}
 use Rattle.recursion_limits.specs.Limits.{TransformFits}
@@ -16,8 +16,8 @@ use Rattle.recursion.specs.Steps.{most_part_sum, SumsFit, ProductAdded, SumsTo}
 use Rattle.recursion.proofs.ProductAdded.{added_empty}
 
 module _ (d : List ℤ) (h : List ℕ) (f : List ℤ) (r : List ℕ) (last : ℕ) where
-  pub sums_none : SumsTo d h f r last 0 (record { plus = 0; minus = 0; bound = 0 })
-  sums_none = record { f_is = refl; R_is = refl; plus_within = omega arith; minus_within = omega arith; bound_within = omega arith }
+  pub sums_none : (s : Sums) → (s.plus ≡ 0) × ((s.minus ≡ 0) × (s.bound ≡ 0)) → SumsTo d h f r last 0 s
+  sums_none s e = record { f_is = rw (e.0, e.1.0) refl; R_is = e.1.1; plus_within = omega arith; minus_within = omega arith; bound_within = omega arith }
 
   pub sums_more : (k : ℕ) (s t : Sums) → SumsTo d h f r last k s → ProductAdded s (entry_in d h k) (cell_in f r (last - k)) t →
       SumsTo d h f r last (suc k) t
@@ -66,16 +66,16 @@ module _ (d : List ℤ) (h : List ℕ) (f : List ℤ) (r : List ℕ) (last : ℕ
       }
 
   -- the sums up to the next place, or up to `last` where it lies beyond
-  module _ (X : ℕ) (list : List ℕ) (count : ℕ) (s : Sums) (t : TransformFits X d h) (y : CellsFit f r last) (l : last < X) (i : Listed X d h list count) where
-    pub sums_at : (j : ℕ) → j < count → get_or list j 0 ≤ last → SumsTo d h f r last (from list j) s → SumsTo d h f r last (get_or list j 0) s
+  module _ (X : ℕ) (list : List ℕ) (s : Sums) (t : TransformFits X d h) (y : CellsFit f r last) (l : last < X) (i : Listed X d h list) where
+    pub sums_at : (j : ℕ) → j < length list → get_or list j 0 ≤ last → SumsTo d h f r last (from list j) s → SumsTo d h f r last (get_or list j 0) s
     sums_at j g near k =
         let up = i.rising j g in
         sums_skip X (from list j) (get_or list j 0 - from list j) (get_or list j 0) s t y l (omega arith) (omega arith) (λ n a b. i.before j n g a b) k
 
-    pub sums_over : (j : ℕ) → j < count → last < get_or list j 0 → from list j ≤ suc last → SumsTo d h f r last (from list j) s → SumsTo d h f r last (suc last) s
+    pub sums_over : (j : ℕ) → j < length list → last < get_or list j 0 → from list j ≤ suc last → SumsTo d h f r last (from list j) s → SumsTo d h f r last (suc last) s
     sums_over j g far within k =
         sums_skip X (from list j) (suc last - from list j) (suc last) s t y l (omega arith) (omega arith) (λ n a b. i.before j n g a (omega arith)) k
 
-    pub sums_end : from list count ≤ suc last → SumsTo d h f r last (from list count) s → SumsTo d h f r last (suc last) s
+    pub sums_end : from list (length list) ≤ suc last → SumsTo d h f r last (from list (length list)) s → SumsTo d h f r last (suc last) s
     sums_end within k =
-        sums_skip X (from list count) (suc last - from list count) (suc last) s t y l (omega arith) (omega arith) (λ n a b. i.behind n a (omega arith)) k
+        sums_skip X (from list (length list)) (suc last - from list (length list)) (suc last) s t y l (omega arith) (omega arith) (λ n a b. i.behind n a (omega arith)) k

@@ -1,6 +1,5 @@
 -- The list of the places of a transform, and entries so small that their products fit a word.
-use Rattle.std.specs.Prelude.{◌≡◌, true, ◌⊎◌, List, ℕ, zero, suc, ◌+◌, ◌*◌, ◌^◌, ◌<◌, ◌≤◌, ℤ, pos, nat_abs, length, get_or, set}
-use Rattle.recursion.specs.declared.places.Places.{Places}
+use Rattle.std.specs.Prelude.{◌≡◌, Bool, true, ◌⊎◌, List, [], ◌∷◌, ◌++◌, ℕ, zero, suc, ◌*◌, ◌^◌, ◌<◌, ◌≤◌, ℤ, pos, nat_abs, length, get_or}
 
 -- D(k+1) and H(k+1) are 0
 abbrev pub Blank : List ℤ → List ℕ → ℕ → Type 0
@@ -11,14 +10,14 @@ abbrev pub from : List ℕ → ℕ → ℕ
 from list zero = 0
 from list (suc j) = suc (get_or list j 0)
 
--- The first `count` of the list are places in rising order, and every k below X that is none of them is blank.
-pub record Listed (X : ℕ) (d : List ℤ) (h : List ℕ) (list : List ℕ) (count : ℕ) : Type 0 where
-  pub few : count ≤ X
-  pub reach : from list count ≤ X
-  pub rising : (j : ℕ) → j < count → from list j ≤ get_or list j 0
-  pub within : (j : ℕ) → j < count → get_or list j 0 < X
-  pub before : (j k : ℕ) → j < count → from list j ≤ k → k < get_or list j 0 → Blank d h k
-  pub behind : (k : ℕ) → from list count ≤ k → k < X → Blank d h k
+-- The list has places in rising order, and every k below X that is none of them is blank.
+pub record Listed (X : ℕ) (d : List ℤ) (h : List ℕ) (list : List ℕ) : Type 0 where
+  pub few : length list ≤ X
+  pub reach : from list (length list) ≤ X
+  pub rising : (j : ℕ) → j < length list → from list j ≤ get_or list j 0
+  pub within : (j : ℕ) → j < length list → get_or list j 0 < X
+  pub before : (j k : ℕ) → j < length list → from list j ≤ k → k < get_or list j 0 → Blank d h k
+  pub behind : (k : ℕ) → from list (length list) ≤ k → k < X → Blank d h k
 
 -- |D(k+1)| and H(k+1) so small that their products with a cell's figures fit a word
 abbrev pub most_small_size : ℕ
@@ -37,12 +36,11 @@ abbrev pub AllSmall : ℕ → List ℤ → List ℕ → Type 0
 AllSmall X d h = (k : ℕ) → k < X → SmallEntry (get_or d (suc k) (pos 0)) (get_or h (suc k) 0)
 
 -- a place is noted, where the entry is not blank
-abbrev pub Noted : ℕ → ℕ → ℕ → List ℕ → Places → List ℕ → Places → Type 0
-Noted size error k list p list' p' =
-    ((size ≡ 0) × (error ≡ 0) × (list' ≡ list) × (p' ≡ p))
-    ⊎ ((list' ≡ set list p.count k) × (p'.count ≡ p.count + 1) × (p'.small ≡ true → (p.small ≡ true) × SmallSizes size error))
+abbrev pub Noted : ℕ → ℕ → ℕ → List ℕ → Bool → List ℕ → Bool → Type 0
+Noted size error k list small list' small' =
+    ((size ≡ 0) × (error ≡ 0) × (list' ≡ list) × (small' ≡ small))
+    ⊎ ((list' ≡ list ++ k ∷ []) × (small' ≡ true → (small ≡ true) × SmallSizes size error))
 
-pub record PlacesOf (X : ℕ) (d : List ℤ) (h : List ℕ) (list : List ℕ) (p : Places) : Type 0 where
-  pub listed : Listed X d h list p.count
-  pub room : p.count ≤ length list
-  pub all_small : p.small ≡ true → AllSmall X d h
+pub record PlacesOf (X : ℕ) (d : List ℤ) (h : List ℕ) (list : List ℕ) (small : Bool) : Type 0 where
+  pub listed : Listed X d h list
+  pub all_small : small ≡ true → AllSmall X d h

@@ -1,5 +1,5 @@
 -- What the steps of the recursion say of their sums and of the slices.
-use Rattle.std.specs.Prelude.{◌≡◌, Bool, true, false, List, ℕ, suc, ◌+◌, ◌-◌, ◌*◌, ◌^◌, ◌<◌, ◌≤◌, ℤ, pos, negsuc, nat_abs, ◌+ℤ◌, length, take, drop, replicate}
+use Rattle.std.specs.Prelude.{◌≡◌, Bool, true, false, List, ℕ, suc, ◌+◌, ◌-◌, ◌*◌, ◌^◌, ◌<◌, ◌≤◌, ℤ, pos, negsuc, nat_abs, ◌+ℤ◌, take, drop, replicate, ⊤, Result, Ok, Err}
 use Rattle.algebra.specs.RationalSum.{sum_n, sum_z}
 use Rattle.fund.specs.Base.{table}
 use Rattle.fund.specs.Limits.{most_bound}
@@ -7,8 +7,8 @@ use Rattle.fund.specs.Recursion.{Cell, Entry}
 use Rattle.laws.specs.Cells.{add_f, add_r, cell_at}
 use Rattle.whole.specs.declared.Sums.{Sums}
 use Rattle.whole.specs.Sums.{sum_of}
-use Rattle.recursion_limits.specs.declared.Recursed.{Recursed}
-use Rattle.recursion_limits.specs.declared.Recursed.TheVariants.{Done, Short, Outside, Wide, Large}
+use Rattle.recursion_limits.specs.declared.Broken.{Broken}
+use Rattle.recursion_limits.specs.declared.Broken.TheVariants.{Short, Outside, Wide, Large}
 use Rattle.recursion_limits.specs.Limits.{most_transform, most_error, most_cell, sizes, CellFits}
 use Rattle.recursion.specs.Slices.{cell_in, entry_in, entries_in, cell_of}
 use Rattle.recursion.specs.Recursion.{left_cells, recursed, recursion}
@@ -69,32 +69,21 @@ pub record LargeAt (X : ℕ) (cell : ℕ → Cell) (x : ℕ) : Type 0 where
   pub narrow : (cell x).R ≤ most_bound
   pub large : most_cell < nat_abs (cell x).f
 
-abbrev pub StepsTo : (X : ℕ) (cell : ℕ → Cell) (f f' : List ℤ) (r r' : List ℕ) → Recursed → Type 0
-StepsTo X cell f f' r r' Done = CellsFilled X cell f f' r r'
-StepsTo X cell f f' r r' Short = ⊥
-StepsTo X cell f f' r r' (Outside k) = ⊥
-StepsTo X cell f f' r r' (Wide x) = WideAt X cell x
-StepsTo X cell f f' r r' (Large x) = LargeAt X cell x
+abbrev pub StepsTo : (X : ℕ) (cell : ℕ → Cell) (f f' : List ℤ) (r r' : List ℕ) → Result ⊤ Broken → Type 0
+StepsTo X cell f f' r r' (Ok tt) = CellsFilled X cell f f' r r'
+StepsTo X cell f f' r r' (Err Short) = ⊥
+StepsTo X cell f f' r r' (Err (Outside k)) = ⊥
+StepsTo X cell f f' r r' (Err (Wide x)) = WideAt X cell x
+StepsTo X cell f f' r r' (Err (Large x)) = LargeAt X cell x
 
-abbrev pub StepsFor : ℕ → List ℤ → List ℕ → List ℤ → List ℕ → List ℤ → List ℕ → Recursed → Type 0
+abbrev pub StepsFor : ℕ → List ℤ → List ℕ → List ℤ → List ℕ → List ℤ → List ℕ → Result ⊤ Broken → Type 0
 StepsFor X d h f r f' r' a = StepsTo X (cell_of X d h f r) f f' r r' a
 
 -- the steps from a start, in slices of nf and nr cells that are zero but for it
-abbrev pub StepsFrom : ℕ → List ℤ → List ℕ → Cell → ℕ → ℕ → List ℤ → List ℕ → Recursed → Type 0
+abbrev pub StepsFrom : ℕ → List ℤ → List ℕ → Cell → ℕ → ℕ → List ℤ → List ℕ → Result ⊤ Broken → Type 0
 StepsFrom X d h start nf nr f' r' a = StepsTo X (cell_at (entries_in X d h) start) (replicate nf (pos 0)) f' (replicate nr 0) r' a
 
 -- ---- the tests and the steps: where they are done the slices are filled, else the answer is the definition's
-abbrev pub CarriedOut : ℕ → List ℤ → List ℕ → Cell → ℕ → ℕ → List ℤ → List ℕ → Recursed → Type 0
-CarriedOut X d h start nf nr f' r' Done = left_cells Done f' r' ≡ recursion X d h start nf nr
-CarriedOut X d h start nf nr f' r' Short = recursed X d h start nf nr ≡ Short
-CarriedOut X d h start nf nr f' r' (Outside k) = recursed X d h start nf nr ≡ Outside k
-CarriedOut X d h start nf nr f' r' (Wide x) = recursed X d h start nf nr ≡ Wide x
-CarriedOut X d h start nf nr f' r' (Large x) = recursed X d h start nf nr ≡ Large x
-
--- cells that are done stay, others are zero
-abbrev pub Settled : Recursed → List ℤ → List ℕ → List ℤ → List ℕ → Type 0
-Settled Done f r f' r' = (f' ≡ f) × (r' ≡ r)
-Settled Short f r f' r' = (f' ≡ replicate (length f) (pos 0)) × (r' ≡ replicate (length r) 0)
-Settled (Outside k) f r f' r' = (f' ≡ replicate (length f) (pos 0)) × (r' ≡ replicate (length r) 0)
-Settled (Wide x) f r f' r' = (f' ≡ replicate (length f) (pos 0)) × (r' ≡ replicate (length r) 0)
-Settled (Large x) f r f' r' = (f' ≡ replicate (length f) (pos 0)) × (r' ≡ replicate (length r) 0)
+abbrev pub CarriedOut : ℕ → List ℤ → List ℕ → Cell → ℕ → ℕ → List ℤ → List ℕ → Result ⊤ Broken → Type 0
+CarriedOut X d h start nf nr f' r' (Ok tt) = left_cells (Ok tt) f' r' ≡ recursion X d h start nf nr
+CarriedOut X d h start nf nr f' r' (Err limit) = recursed X d h start nf nr ≡ Err limit

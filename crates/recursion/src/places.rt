@@ -1,16 +1,24 @@
 // The places where D or H is not 0, so that the recursion forms no other product.
 ghost use Rattle.std.specs.Prelude.{◌≡◌, true, ◌<◌, ◌≤◌, nat_abs, length};
+ghost use Rattle.arrayvec.specs.ArrayVec.{array_vec_len};
 ghost use Rattle.recursion.specs.Places.{Noted, Listed, AllSmall, SmallSizes};
+
+use arrayvec::ArrayVec;
+use fund::Fund;
+use recursion_limits::Transform;
+
+// A place for each k from 1 to X.
+const MOST_PLACES: usize = Fund::MOST_HORIZON as usize;
 
 // |D(k)| and H(k) up to these have products with a cell's figures that fit a word.
 const MOST_SMALL_SIZE: u64 = 35 * rounding::UNIT;
 
 const MOST_SMALL_ERROR: u64 = 9 * rounding::MILLION;
 
-// How many places are listed, and whether all entries at them are small.
-#[derive(Clone, Copy)]
+// The places in rising order, where k stands for D(k+1) and H(k+1), and whether all entries at them are small.
+#[derive(Drop)]
 pub(crate) struct Places {
-    pub(crate) count: usize,
+    pub(crate) list: ArrayVec<usize, MOST_PLACES>,
     pub(crate) small: bool,
 }
 
@@ -21,42 +29,33 @@ fn all_small(small: bool, size: u64, h: u64) -> bool
     size <= MOST_SMALL_SIZE && h <= MOST_SMALL_ERROR && small
 }
 
-// Puts k into the list behind the places that are there, where D or H is not 0.
-fn note(list: &mut [usize], p: Places, k: usize, d: i64, h: u64) -> Places
-    requires { p.count < length list.old }
-    ensures { Noted (nat_abs d) h k list.old p list.new result }
-{
-    let size = whole::magnitude(d);
-    if size == 0 && h == 0 {
-        return p;
+impl Places {
+    // Notes k behind the places that are there, where D or H is not 0.
+    fn note(&mut self, k: usize, d: i64, h: u64)
+        requires { array_vec_len self.old.list < 4095 }
+        ensures { Noted (nat_abs d) h k self.old.list.items self.old.small self.new.list.items self.new.small }
+    {
+        let size = d.unsigned_abs();
+        if size == 0 && h == 0 {
+            return;
+        }
+        self.list.push(k);
+        self.small = all_small(self.small, size, h);
     }
-    let count = p.count;
-    list[count] = k;
-    Places {
-        count: count + 1,
-        small: all_small(p.small, size, h),
-    }
-}
 
-// The places below the horizon, in rising order: k stands for D(k+1) and H(k+1).
-pub(crate) fn list_places(
-    horizon: usize,
-    transform: &[i64],
-    h: &[u64],
-    list: &mut [usize],
-) -> Places
-    requires { (horizon < length transform.now) × (horizon < length h.now) × (horizon ≤ length list.old) }
-    ensures { Listed horizon transform.now h.now list.new result.count
-        × (result.small ≡ true → AllSmall horizon transform.now h.now) }
-{
-    let mut p = Places {
-        count: 0,
-        small: true,
-    };
-    let mut k: usize = 0;
-    while k < horizon {
-        p = note(list, p, k, transform[k + 1], h[k + 1]);
-        k += 1;
+    // The places below the horizon.
+    pub(crate) fn of(t: Transform) -> Places
+        requires { (t.horizon < length t.d.now) × (t.horizon < length t.h.now) × (t.horizon ≤ 4095) }
+        ensures { Listed t.entry.horizon t.entry.d.now t.entry.h.now result.list.items
+            × (result.small ≡ true → AllSmall t.entry.horizon t.entry.d.now t.entry.h.now) }
+    {
+        let mut places = Places {
+            list: ArrayVec::new(),
+            small: true,
+        };
+        for k in 0..t.horizon {
+            places.note(k, t.d[k + 1], t.h[k + 1]);
+        }
+        places
     }
-    p
 }

@@ -6,7 +6,7 @@ ghost use Rattle.recursion.specs.Places.{most_small_size, SmallEntry};
 ghost use Rattle.recursion.specs.Steps.{opposite, SumsFit, ProductAdded};
 
 use rounding::MILLION;
-use whole::Sums;
+use whole::{Signed, Sums};
 
 const HALF_UNIT: u64 = rounding::UNIT / 2;
 
@@ -32,11 +32,14 @@ fn add_small(s: Sums, d: i64, h: u64, f: i64, r: u64) -> Sums
     requires small_entry { SmallEntry d h }
     ensures { ProductAdded s (record { D = d; H = h }) (record { f = f; R = r }) result }
 {
-    let size = whole::magnitude(d);
-    let cell = whole::magnitude(f);
-    let part = product_nearest(size, cell);
+    let size = d.unsigned_abs();
+    let cell = f.unsigned_abs();
+    let part = Signed {
+        negative: opposite(d, f),
+        size: product_nearest(size, cell),
+    };
     let bound = product_up(size, r) + error_up(h, cell + r);
-    whole::with_part(s, opposite(d, f), part, bound)
+    s.with_part(part, bound)
 }
 
 // a * b / 10^12, up.
@@ -71,22 +74,24 @@ fn add_wide(s: Sums, d: i64, h: u64, f: i64, r: u64) -> Sums
     requires { SumsFit s (record { D = d; H = h }) (record { f = f; R = r }) }
     ensures { ProductAdded s (record { D = d; H = h }) (record { f = f; R = r }) result }
 {
-    let size = whole::magnitude(d);
+    let size = d.unsigned_abs();
     if size == 0 {
         if h == 0 {
             return s;
         }
-        return whole::with_part(
-            s,
-            false,
-            0,
-            rounding::up_per_unit(h, whole::magnitude(f) + r),
-        );
+        let none = Signed {
+            negative: false,
+            size: 0,
+        };
+        return s.with_part(none, rounding::up_per_unit(h, f.unsigned_abs() + r));
     }
-    let cell = whole::magnitude(f);
-    let part = rounding::nearest_per_unit(size, cell);
+    let cell = f.unsigned_abs();
+    let part = Signed {
+        negative: opposite(d, f),
+        size: rounding::nearest_per_unit(size, cell),
+    };
     let bound = rounding::up_per_unit(size, r) + rounding::up_per_unit(h, cell + r);
-    whole::with_part(s, opposite(d, f), part, bound)
+    s.with_part(part, bound)
 }
 
 // Whether one of the two is negative and the other is not.

@@ -3,136 +3,88 @@ ghost use Rattle.std.specs.Prelude.{◌≡◌, suc, ◌+◌, ◌<◌, ◌≤◌,
 ghost use Rattle.rounding.specs.Rounding.{near, nearest, up};
 ghost use Rattle.whole.specs.Sums.{sum_of};
 ghost use Rattle.recursion_limits.specs.Limits.{CellFits, TransformFits};
-ghost use Rattle.recursion_limits.specs.Tests.{Kept};
+ghost use Rattle.recursion_limits.specs.Tests.{cell_of as cell_of_start, Kept};
 ghost use Rattle.recursion.specs.Slices.{cell_in, CellsFit};
 ghost use Rattle.recursion.specs.Places.{PlacesOf};
 ghost use Rattle.recursion.specs.Steps.{most_part_sum, SumsTo, StepsFor, StepsFrom};
 
 use super::places::Places;
-use super::{places, products};
+use super::products;
 use fund::Fund;
-use recursion_limits::{MOST_CELL, Recursed};
+use recursion_limits::{Broken, MOST_CELL, Start, Transform};
 use whole::{Signed, Sums};
-
-// A place for each k from 1 to X.
-const MOST_PLACES: usize = Fund::MOST_HORIZON as usize;
 
 pub(crate) fn clear_cells(f: &mut [i64], r: &mut [u64])
     ensures { (f.new ≡ replicate (length f.old) (pos 0)) × (r.new ≡ replicate (length r.old) 0) }
 {
-    whole::clear_signed(f);
-    whole::clear(r);
+    f.fill(0);
+    r.fill(0);
 }
 
 // f(0) and R(0) in their cells, and zeros in all others.
-fn start_cells(f: &mut [i64], r: &mut [u64], first: i64, bound: u64)
+fn start_cells(start: Start, f: &mut [i64], r: &mut [u64])
     requires { (0 < length f.old) × (0 < length r.old) }
-    ensures { (f.new ≡ set (replicate (length f.old) (pos 0)) 0 first) × (r.new ≡ set (replicate (length r.old) 0) 0 bound) }
+    ensures { (f.new ≡ set (replicate (length f.old) (pos 0)) 0 start.cell) × (r.new ≡ set (replicate (length r.old) 0) 0 start.bound) }
 {
     clear_cells(f, r);
-    f[0] = first;
-    r[0] = bound;
+    f[0] = start.cell;
+    r[0] = start.bound;
 }
 
 // The start and all steps from it.
 pub(crate) fn all_steps(
-    horizon: usize,
-    transform: &[i64],
-    h: &[u64],
-    first: i64,
-    bound: u64,
+    t: Transform,
+    start: Start,
     f: &mut [i64],
     r: &mut [u64],
-) -> Recursed
-    requires { Kept horizon transform.now h.now (record { f = first; R = bound }) (length f.now) (length r.old) }
-    ensures { StepsFrom horizon transform.now h.now (record { f = first; R = bound })
-        (length f.entry.now) (length r.old) f.exit.now r.new result }
+) -> Result<(), Broken>
+    requires { Kept t.horizon t.d.now t.h.now (cell_of_start start) (length f.old) (length r.old) }
+    ensures { StepsFrom t.entry.horizon t.entry.d.now t.entry.h.now (cell_of_start start)
+        (length f.old) (length r.old) f.new r.new result }
 {
-    start_cells(f, r, first, bound);
-    steps(horizon, transform, h, f, r)
+    start_cells(start, f, r);
+    fill_cells(t, &Places::of(t), f, r)
 }
 
 // Fills f and r from 1 to the horizon, or stops at the first cell that is too wide, or too large.
-fn steps(horizon: usize, transform: &[i64], h: &[u64], f: &mut [i64], r: &mut [u64]) -> Recursed
-    requires transform_fits { TransformFits horizon transform.now h.now }
-    requires horizon_in_bounds { (horizon < length f.old) × (horizon < length r.old) × CellFits (cell_in f.old r.old 0) }
-    ensures { StepsFor horizon transform.now h.now f.old r.old f.new r.new result }
+fn fill_cells(t: Transform, places: &Places, f: &mut [i64], r: &mut [u64]) -> Result<(), Broken>
+    requires transform_fits { TransformFits t.horizon t.d.now t.h.now }
+    requires horizon_in_bounds { (t.horizon < length f.old) × (t.horizon < length r.old) × CellFits (cell_in f.old r.old 0) }
+    requires places_of { PlacesOf t.horizon t.d.now t.h.now places.now.list.items places.now.small }
+    ensures { StepsFor t.entry.horizon t.entry.d.now t.entry.h.now f.old r.old f.new r.new result }
 {
-    let mut list = [0usize; MOST_PLACES];
-    let p = places::list_places(horizon, transform, h, &mut list);
-    fill_cells(horizon, transform, h, &list, p, f, r)
-}
-
-// The same, where the places are listed.
-fn fill_cells(
-    horizon: usize,
-    transform: &[i64],
-    h: &[u64],
-    list: &[usize],
-    p: Places,
-    f: &mut [i64],
-    r: &mut [u64],
-) -> Recursed
-    requires transform_fits { TransformFits horizon transform.now h.now }
-    requires horizon_in_bounds { (horizon < length f.old) × (horizon < length r.old) × CellFits (cell_in f.old r.old 0) }
-    requires places_of { PlacesOf horizon transform.now h.now list.now p }
-    ensures { StepsFor horizon transform.now h.now f.old r.old f.new r.new result }
-{
-    let mut last: usize = 0;
-    while last < horizon {
-        let s = sums(horizon, transform, h, &f[..], &r[..], last, list, p);
+    for last in 0..t.horizon {
+        let s = sums(t, &f[..], &r[..], last, places);
         let x = (last + 1) as u64;
         let bound = bound_of(s, x);
         if Fund::MOST_BOUND < bound {
-            return Recursed::Wide(x);
+            return Err(Broken::Wide(x));
         }
         let cell = cell_of(s, x);
-        if MOST_CELL < whole::magnitude(cell) {
-            return Recursed::Large(x);
+        if MOST_CELL < cell.unsigned_abs() {
+            return Err(Broken::Large(x));
         }
-        last += 1;
-        f[last] = cell;
-        r[last] = bound;
+        f[last + 1] = cell;
+        r[last + 1] = bound;
     }
-    Recursed::Done
+    Ok(())
 }
 
 // The sums for the cell after `last`: D(1), D(2), .. meet f(last), f(last - 1), .. to f(0). Only places are visited.
-fn sums(
-    horizon: usize,
-    transform: &[i64],
-    h: &[u64],
-    f: &[i64],
-    r: &[u64],
-    last: usize,
-    list: &[usize],
-    p: Places,
-) -> Sums
-    requires transform_fits { TransformFits horizon transform.now h.now }
-    requires cells_fit { CellsFit f.now r.now last × (last < horizon) }
-    requires places_of { PlacesOf horizon transform.now h.now list.now p }
-    ensures { SumsTo transform.now h.now f.now r.now last (suc last) result }
+fn sums(t: Transform, f: &[i64], r: &[u64], last: usize, places: &Places) -> Sums
+    requires transform_fits { TransformFits t.horizon t.d.now t.h.now }
+    requires cells_fit { CellsFit f.now r.now last × (last < t.horizon) }
+    requires places_of { PlacesOf t.horizon t.d.now t.h.now places.now.list.items places.now.small }
+    ensures { SumsTo t.entry.d.now t.entry.h.now f.now r.now last (suc last) result }
 {
-    let mut s = Sums {
-        plus: 0,
-        minus: 0,
-        bound: 0,
-    };
-    let mut j: usize = 0;
-    while j < p.count {
-        let k = list[j];
+    let small = places.small;
+    let mut s = Sums::default();
+    for place in places.list.as_slice() {
+        let k = *place;
         if last < k {
             return s;
         }
-        s = products::add(
-            p.small,
-            s,
-            transform[k + 1],
-            h[k + 1],
-            f[last - k],
-            r[last - k],
-        );
-        j += 1;
+        s = products::add(small, s, t.d[k + 1], t.h[k + 1], f[last - k], r[last - k]);
     }
     s
 }
@@ -142,8 +94,7 @@ fn cell_of(s: Sums, x: u64) -> i64
     requires { (s.plus ≤ most_part_sum) × (s.minus ≤ most_part_sum) × (0 < x) }
     ensures { result ≡ nearest (sum_of s) x }
 {
-    let sum = whole::difference(s.plus, s.minus);
-    whole::as_i64(nearest_over(sum, x))
+    nearest_over(Signed::difference(s.plus, s.minus), x).as_i64()
 }
 
 // The magnitude is rounded, so halves go away from zero on both sides.

@@ -51,7 +51,8 @@ impl RowsSoFar {
 
     // The line that the next row has in a file.
     pub fn line(&self) -> u64
-        ensures { result ≡ line_place (length self.now.rates.items) (length self.now.members.items) }
+        ensures value { result ≡ line_place (length self.now.rates.items) (length self.now.members.items) }
+        ensures few { result ≤ most_rates + most_members + 8 }
     {
         Fund::HEADER_LINES as u64 + self.place()
     }

@@ -1,2 +1,3 @@
-pub mod Next
+pub mod Chunks
+pub mod Steps
 pub mod Header

@@ -1,6 +1,5 @@
 pub mod PointSums
 mod PointProduct
-mod InsideSoFar
 mod Caps
 mod Conjunctions
 mod StartProduct

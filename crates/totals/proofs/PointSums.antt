@@ -1,5 +1,5 @@
--- Walks that add up what each line adds, the part of its life times its lives: the sum so far and what the lines to come add are the whole
--- sum over the lives, so it fits where the whole does (Added), or both are the same up to a cap (Capped).
+-- The walk that adds up what each line adds, the part of its life times its lives: the sum so far with what the lines to come add is the
+-- whole sum over the lives, up to a cap.
 use Rattle.std.proofs.Common.{◌≡◌, ℕ, min, ◌+◌, ◌*◌, ◌<◌, ◌≤◌, List, [], ◌∷◌, length, get_or, drop, sym, ap, subst, ◌∙◌, arith, drop-cons, add-one}
 use Rattle.std.proofs.Math.Nat as N
 use Rattle.std.proofs.Math.Seq.{drop-length}
@@ -10,7 +10,6 @@ use Rattle.fund.specs.Folding.{copies}
 use Rattle.laws.specs.Accepted.{All}
 use Rattle.laws.specs.Copies.{total_copies}
 use Rattle.laws.specs.Rows.{blank_point}
-use Rattle.totals.specs.Table.{PointIn}
 
 -- the lines from k on begin with the line at k, and behind the last there is none
 lines_from : (ps : List ModelPoint) (k : ℕ) → k < length ps → drop k ps ≡ get_or ps k blank_point ∷ drop (k + 1) ps
@@ -29,36 +28,20 @@ module _ (part : Life → ℕ) where
   abbrev pub line_part : ModelPoint → ℕ
   line_part p = p.lives * part p.life
 
-  pub by_lines : (ps : List ModelPoint) → 0 + total line_part ps ≡ total part (copies ps)
-  by_lines ps = N.zero-add (total line_part ps) ∙ sym (total_copies part ps)
-
-  -- a sum that fits
-  pub record Added (whole : ℕ) (rest : List ModelPoint) (r : ℕ) : Type 0 where
-    pub rest_in : All PointIn rest
-    pub sum_is : r + total line_part rest ≡ whole
-
-  pub added_more : (whole : ℕ) (p : ModelPoint) (rest : List ModelPoint) (r : ℕ) → Added whole (p ∷ rest) r → Added whole rest (r + line_part p)
-  unfolding total
-  added_more whole p rest r i = record { rest_in = i.rest_in.1; sum_is = omega (arith, i.sum_is) }
-
-  pub added_fits : (whole : ℕ) (p : ModelPoint) (rest : List ModelPoint) (r : ℕ) → Added whole (p ∷ rest) r → r + line_part p ≤ whole
-  unfolding total
-  added_fits whole p rest r i = omega (arith, i.sum_is)
-
-  pub added_all : (whole r : ℕ) → Added whole [] r → r ≡ whole
-  unfolding total
-  added_all whole r i = omega (arith, i.sum_is)
-
   -- a sum of which those above a cap are not told apart
-  pub record Capped (cap whole : ℕ) (rest : List ModelPoint) (r : ℕ) : Type 0 where
-    pub rest_in : All PointIn rest
+  pub record Capped (Takes : ModelPoint → Type 0) (cap whole : ℕ) (rest : List ModelPoint) (r : ℕ) : Type 0 where
+    pub rest_in : All Takes rest
     pub within : r ≤ cap
     pub sum_is : min (r + total line_part rest) cap ≡ min whole cap
 
-  pub capped_more : (cap whole : ℕ) (p : ModelPoint) (rest : List ModelPoint) (r r' : ℕ) → Capped cap whole (p ∷ rest) r → r' ≡ min (r + line_part p) cap → Capped cap whole rest r'
-  unfolding total
-  capped_more cap whole p rest r r' i g = record { rest_in = i.rest_in.1; within = omega (arith, g); sum_is = omega (arith, i.sum_is, g) }
+  module _ (Takes : ModelPoint → Type 0) (cap : ℕ) where
+    pub capped_first : (ps : List ModelPoint) → All Takes ps → Capped Takes cap (total part (copies ps)) ps 0
+    capped_first ps h = record { rest_in = h; within = omega arith; sum_is = ap (λ s. min s cap) (N.zero-add (total line_part ps) ∙ sym (total_copies part ps)) }
 
-  pub capped_all : (cap whole r : ℕ) → Capped cap whole [] r → r ≡ min whole cap
-  unfolding total
-  capped_all cap whole r i = omega (arith, i.sum_is, i.within)
+    pub capped_more : (whole : ℕ) (p : ModelPoint) (rest : List ModelPoint) (r r' : ℕ) → Capped Takes cap whole (p ∷ rest) r → r' ≡ min (r + line_part p) cap → Capped Takes cap whole rest r'
+    unfolding total
+    capped_more whole p rest r r' i g = record { rest_in = i.rest_in.1; within = omega (arith, g); sum_is = omega (arith, i.sum_is, g) }
+
+    pub capped_all : (whole r : ℕ) → Capped Takes cap whole [] r → r ≡ min whole cap
+    unfolding total
+    capped_all whole r i = omega (arith, i.sum_is, i.within)

@@ -1,5 +1,5 @@
 -- What the walks over a table of member lines ask and tell, and what that says of the lives (members_of_lem).
-use Rattle.std.specs.Prelude.{List, ℕ, ◌*◌, ◌≤◌, length}
+use Rattle.std.specs.Prelude.{List, ℕ, ◌*◌, ◌^◌, ◌≤◌, length}
 use Rattle.std.proofs.Common.{arith}
 use Rattle.fund.specs.declared.Life.{Life}
 use Rattle.fund.specs.declared.ModelPoint.{ModelPoint}
@@ -31,6 +31,10 @@ members_of_lem ps k = record { few = omega (arith, length_copies ps, k.few); in_
 -- what lambda of a table in range cannot exceed
 abbrev pub most_lambda : ℕ
 most_lambda = most_lives * most_weight
+
+-- what its lives of group 1 cannot add more than
+abbrev pub most_singles : ℕ
+most_singles = most_lives * 10 ^ 12
 
 -- the largest amount times the largest load: what the mean of a fund that passes 7 cannot exceed
 abbrev pub most_mean : ℕ

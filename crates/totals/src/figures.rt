@@ -1,25 +1,80 @@
-// The figures of a fund that add up over its lives: lambda, load, truncation figure and mean. Each is one walk over the table, and takes
-// what a life of a line adds times the line's lives.
-ghost use Rattle.std.specs.Prelude.{◌≡◌, min, ◌+◌, ◌-◌, ◌*◌, ◌^◌, ◌<◌, ◌≤◌};
+// The figures of a fund that add up over its lives: lambda, load, truncation figure, mean, and the lives themselves. Each is one walk over
+// the table, by what a line adds to it.
+ghost use Rattle.std.specs.Prelude.{◌≡◌, ℕ, ⊤, min, ◌+◌, ◌-◌, ◌*◌, ◌^◌, ◌<◌, ◌≤◌};
 ghost use Rattle.rounding.specs.Rounding.{up as up_of};
+ghost use Rattle.fund.specs.declared.Life.{Life};
+ghost use Rattle.fund.specs.declared.ModelPoint.{ModelPoint};
 ghost use Rattle.fund.specs.Base.{total};
 ghost use Rattle.fund.specs.Limits.{most_order, most_truncation, half_rate};
 ghost use Rattle.fund.specs.Folding.{copies, claim, stay};
 ghost use Rattle.fund.specs.Transform.{lambda as lambda_of, truncation as truncation_of, mean as mean_of, unit, w};
+ghost use Rattle.laws.specs.Accepted.{All};
+ghost use Rattle.laws.specs.Copies.{lives_of};
 ghost use Rattle.laws.specs.Ranges.{FrequenciesOk};
 ghost use Rattle.widths.specs.Lives.{InRange};
 ghost use Rattle.widths.specs.Parts.{lambda_part, single_load, truncation_part, mean_part};
-ghost use Rattle.totals.specs.Table.{PointIn, Points, most_lambda, most_mean};
+ghost use Rattle.totals.specs.Table.{PointIn, Points, most_lambda, most_singles, most_mean};
 
 use fund::{Frequencies, Fund, Life, ModelPoint};
 use rounding::UNIT;
-use whole::{least, up};
+use whole::up;
+
+// Lambda of a table in its ranges is at most this: 5,000,000 × 10^6 for each of 1,000 lives.
+const MOST_LAMBDA: u64 = Fund::MOST_LIVES * 5000000 * 1000000;
+
+// What the lives of group 1 add to its load is at most this: 10^12 for each of 1,000.
+const MOST_SINGLES: u64 = Fund::MOST_LIVES * UNIT;
 
 // The least truncation figure that is refused.
 const LEAST_REFUSED: u64 = Fund::MOST_TRUNCATION + 1;
 
 // A mean of a fund that is not refused is at most this.
 const MOST_MEAN: u64 = Fund::MOST_AMOUNT * Fund::MOST_LOAD;
+
+// A figure by what a life adds to it, and by its largest: larger ones are not told apart.
+trait Figure {
+    ghost part: { Self → Life → ℕ };
+
+    ghost most: { Self → ℕ };
+
+    ghost Takes: { Self → ModelPoint → Type 0 };
+
+    // The figure with one line more.
+    fn with_line(&self, sum: u64, p: ModelPoint) -> u64
+        requires { Takes self.now p × (sum ≤ most self.now) }
+        ensures { result ≡ min (sum + p.lives * part self.now p.life) (most self.now) };
+}
+
+// The walk.
+fn total<F: Figure>(figure: &F, points: &[ModelPoint]) -> u64
+    requires { All (F.Takes figure.now) points.now }
+    ensures { result ≡ min (total (F.part figure.now) (copies points.now)) (F.most figure.now) }
+{
+    let mut sum: u64 = 0;
+    for p in points {
+        sum = figure.with_line(sum, *p);
+    }
+    sum
+}
+
+#[derive(Clone, Copy)]
+struct LambdaFigure {
+    frequency: Frequencies,
+}
+
+impl Figure for LambdaFigure {
+    ghost part = { λ it. lambda_part it.frequency };
+
+    ghost most = { λ _. most_lambda };
+
+    ghost Takes = { λ it p. PointIn p × FrequenciesOk it.frequency };
+
+    fn with_line(&self, sum: u64, p: ModelPoint) -> u64 {
+        let frequency = self.frequency;
+        let line = p.lives * lambda_part(p.life, frequency);
+        (sum + line).min(MOST_LAMBDA)
+    }
+}
 
 // What a life adds to lambda.
 fn lambda_part(m: Life, ab: Frequencies) -> u64
@@ -32,26 +87,28 @@ fn lambda_part(m: Life, ab: Frequencies) -> u64
     (m.q * ab.death + m.i * ab.disability) * 1000
 }
 
-// Lambda of one line more.
-fn lambda_step(sum: u64, p: ModelPoint, ab: Frequencies) -> u64
-    requires { PointIn p × FrequenciesOk ab × (sum + p.lives * lambda_part ab p.life < 2 ^ 64) }
-    ensures { result ≡ sum + p.lives * lambda_part ab p.life }
+// Lambda, in units.
+pub(crate) fn lambda(points: &[ModelPoint], frequency: Frequencies) -> u64
+    requires { Points points.now × FrequenciesOk frequency }
+    ensures { result ≡ lambda_of frequency (copies points.now) }
 {
-    sum + p.lives * lambda_part(p.life, ab)
+    total(&LambdaFigure { frequency }, points)
 }
 
-// Lambda, in units: at most 5,000,000 × 10^6 for each of 1,000 lives.
-pub(crate) fn lambda(points: &[ModelPoint], ab: Frequencies) -> u64
-    requires { Points points.now × FrequenciesOk ab }
-    ensures { result ≡ lambda_of ab (copies points.now) }
-{
-    let mut sum: u64 = 0;
-    let mut k: usize = 0;
-    while k < points.len() {
-        sum = lambda_step(sum, points[k], ab);
-        k += 1;
+#[derive(Clone, Copy)]
+struct LoadFigure;
+
+impl Figure for LoadFigure {
+    ghost part = { λ _. single_load };
+
+    ghost most = { λ _. most_singles };
+
+    ghost Takes = { λ _. PointIn };
+
+    fn with_line(&self, sum: u64, p: ModelPoint) -> u64 {
+        let line = p.lives * single_part(p.life);
+        (sum + line).min(MOST_SINGLES)
     }
-    sum
 }
 
 // What a life of group 1 adds to the load.
@@ -66,26 +123,31 @@ fn single_part(m: Life) -> u64
     0
 }
 
-// The load of one line more.
-fn load_step(sum: u64, p: ModelPoint) -> u64
-    requires { PointIn p × (sum + p.lives * single_load p.life < 2 ^ 64) }
-    ensures { result ≡ sum + p.lives * single_load p.life }
-{
-    sum + p.lives * single_part(p.life)
-}
-
-// The load, in units: lambda, and what the lives of group 1 add to it, at most 10^12 for each of 1,000.
+// The load, in units: lambda, and what the lives of group 1 add to it.
 pub(crate) fn load(points: &[ModelPoint], lambda: u64) -> u64
     requires { Points points.now × (lambda ≤ most_lambda) }
     ensures { result ≡ lambda + total single_load (copies points.now) }
 {
-    let mut sum = lambda;
-    let mut k: usize = 0;
-    while k < points.len() {
-        sum = load_step(sum, points[k]);
-        k += 1;
+    lambda + total(&LoadFigure, points)
+}
+
+#[derive(Clone, Copy)]
+struct TruncationFigure {
+    order: u64,
+}
+
+impl Figure for TruncationFigure {
+    ghost part = { λ it. truncation_part it.order };
+
+    ghost most = { λ _. most_truncation + 1 };
+
+    ghost Takes = { λ it p. PointIn p × (it.order ≤ most_order) };
+
+    // A part can be 10^18, and 1,000 of them pass a word.
+    fn with_line(&self, sum: u64, p: ModelPoint) -> u64 {
+        let part = truncation_part(p.life, self.order).min(LEAST_REFUSED);
+        (sum + p.lives * part).min(LEAST_REFUSED)
     }
-    sum
 }
 
 // w(n) from w(n-1).
@@ -103,10 +165,8 @@ fn weight(m: Life, n: u64) -> u64
     ensures { result ≡ w m n }
 {
     let mut last = UNIT;
-    let mut k: u64 = 0;
-    while k < n {
+    for _k in 0..n {
         last = next_weight(m, last);
-        k += 1;
     }
     last
 }
@@ -124,28 +184,32 @@ fn truncation_part(m: Life, r: u64) -> u64
     0
 }
 
-// The truncation figure of one line more. Parts and sums above the largest are not told apart: a part can be 10^18, and 1,000 of them pass
-// a word.
-fn truncation_step(sum: u64, p: ModelPoint, r: u64) -> u64
-    requires { PointIn p × (r ≤ most_order) × (sum ≤ most_truncation + 1) }
-    ensures { result ≡ min (sum + p.lives * truncation_part r p.life) (most_truncation + 1) }
+// The truncation figure of order r, or one more than its largest where it is larger.
+pub(crate) fn truncation(points: &[ModelPoint], order: u64) -> u64
+    requires { Points points.now × (order ≤ most_order) }
+    ensures { result ≡ min (truncation_of order (copies points.now)) (most_truncation + 1) }
 {
-    let part = least(truncation_part(p.life, r), LEAST_REFUSED);
-    least(sum + p.lives * part, LEAST_REFUSED)
+    total(&TruncationFigure { order }, points)
 }
 
-// The truncation figure of order r, or one more than its largest where it is larger.
-pub(crate) fn truncation(points: &[ModelPoint], r: u64) -> u64
-    requires { Points points.now × (r ≤ most_order) }
-    ensures { result ≡ min (truncation_of r (copies points.now)) (most_truncation + 1) }
-{
-    let mut sum: u64 = 0;
-    let mut k: usize = 0;
-    while k < points.len() {
-        sum = truncation_step(sum, points[k], r);
-        k += 1;
+#[derive(Clone, Copy)]
+struct MeanFigure {
+    frequency: Frequencies,
+}
+
+impl Figure for MeanFigure {
+    ghost part = { λ it. mean_part it.frequency };
+
+    ghost most = { λ _. most_mean };
+
+    ghost Takes = { λ it p. PointIn p × FrequenciesOk it.frequency };
+
+    // A part is at most 65,535 × 6 × 10^12 units: 1,000 of them pass a word, and in thousands of units do not.
+    fn with_line(&self, sum: u64, p: ModelPoint) -> u64 {
+        let frequency = self.frequency;
+        let thousands = (p.lives * mean_part(p.life, frequency)).min(MOST_MEAN / 1000);
+        (sum + thousands * 1000).min(MOST_MEAN)
     }
-    sum
 }
 
 // An amount by its rate, or by a rate times a frequency.
@@ -167,26 +231,35 @@ fn mean_part(m: Life, ab: Frequencies) -> u64
     weighed(m.q * ab.death, m.d) + weighed(m.i * ab.disability, m.e)
 }
 
-// The mean of one line more. Sums above the largest are not told apart. A part is at most 65,535 × 6 × 10^12 units: 1,000 of them pass a
-// word, and in thousands of units do not.
-fn mean_step(sum: u64, p: ModelPoint, ab: Frequencies) -> u64
-    requires { PointIn p × FrequenciesOk ab × (sum ≤ most_mean) }
-    ensures { result ≡ min (sum + p.lives * mean_part ab p.life) most_mean }
+// The mean, in units, or the largest of a fund that is not refused where it is larger.
+pub(crate) fn mean(points: &[ModelPoint], frequency: Frequencies) -> u64
+    requires { Points points.now × FrequenciesOk frequency }
+    ensures { result ≡ min (mean_of frequency (copies points.now)) most_mean }
 {
-    let thousands = least(p.lives * mean_part(p.life, ab), MOST_MEAN / 1000);
-    least(sum + thousands * 1000, MOST_MEAN)
+    total(&MeanFigure { frequency }, points)
 }
 
-// The mean, in units, or the largest of a fund that is not refused where it is larger.
-pub(crate) fn mean(points: &[ModelPoint], ab: Frequencies) -> u64
-    requires { Points points.now × FrequenciesOk ab }
-    ensures { result ≡ min (mean_of ab (copies points.now)) most_mean }
-{
-    let mut sum: u64 = 0;
-    let mut k: usize = 0;
-    while k < points.len() {
-        sum = mean_step(sum, points[k], ab);
-        k += 1;
+#[derive(Clone, Copy)]
+struct LivesFigure {
+    most: u64,
+}
+
+impl Figure for LivesFigure {
+    ghost part = { λ _ _. 1 };
+
+    ghost most = { λ it. it.most };
+
+    ghost Takes = { λ _ _. ⊤ };
+
+    // No sum wraps, whatever the line says.
+    fn with_line(&self, sum: u64, p: ModelPoint) -> u64 {
+        sum + p.lives.min(self.most - sum)
     }
-    sum
+}
+
+// The lives in all, up to `most`.
+pub(crate) fn lives_in_all(points: &[ModelPoint], most: u64) -> u64
+    ensures { result ≡ min (lives_of points.now) most }
+{
+    total(&LivesFigure { most }, points)
 }

@@ -1,39 +1,19 @@
 // Whether a header and the member lines of a table are in the ranges that reading and refusal 6 leave.
-ghost use Rattle.std.specs.Prelude.{◌≡◌, true, min, ◌+◌, ◌≤◌};
+ghost use Rattle.std.specs.Prelude.{◌≡◌, ◌≤◌, length};
+ghost use Rattle.std.specs.List.{list_all};
 ghost use Rattle.fund.specs.Limits.{most_lives};
-ghost use Rattle.laws.specs.Accepted.{All};
-ghost use Rattle.laws.specs.Copies.{lives_of};
 ghost use Rattle.widths.specs.Lives.{InRange};
 ghost use Rattle.laws.specs.Tells.{Tells};
-ghost use Rattle.totals.specs.Inside.{HeaderIn};
-ghost use Rattle.totals.specs.Table.{PointIn};
+ghost use Rattle.totals.specs.Inside.{HeaderIn, point_inside, inside};
 
+use super::figures;
 use fund::{Fund, Life, ModelPoint};
-use whole::least;
 
-// The lives so far with those of one line more, up to `most`: no sum wraps, whatever the line says.
-fn lives_step(lives: u64, p: ModelPoint, most: u64) -> u64
-    ensures { result ≡ min (lives + p.lives) most }
-{
-    let before = least(lives, most);
-    before + least(p.lives, most - before)
-}
-
-// The lives in all, up to `most`.
-pub(crate) fn lives_in_all(points: &[ModelPoint], most: u64) -> u64
-    ensures { result ≡ min (lives_of points.now) most }
-{
-    let mut lives: u64 = 0;
-    let mut k: usize = 0;
-    while k < points.len() {
-        lives = lives_step(lives, points[k], most);
-        k += 1;
-    }
-    lives
-}
+// The least number of lives in all that is out of range.
+const TOO_MANY_LIVES: u64 = Fund::MOST_LIVES + 1;
 
 // Whether the lives in all are not too many, and the header is in its ranges.
-pub(crate) fn headed(fund: Fund, lives: u64) -> bool
+fn headed(fund: Fund, lives: u64) -> bool
     ensures { Tells result ((lives ≤ most_lives) × HeaderIn fund) }
 {
     lives <= Fund::MOST_LIVES
@@ -61,22 +41,24 @@ fn life_inside(m: Life) -> bool
         && m.e <= Fund::MOST_AMOUNT
 }
 
-// Whether all lines so far are in range, and one more.
-fn inside_step(inside: bool, p: ModelPoint) -> bool
-    ensures { Tells result ((inside ≡ true) × PointIn p) }
+fn point_inside(p: ModelPoint) -> bool
+    ensures { result ≡ point_inside p }
 {
-    inside && p.lives <= Fund::MOST_LIVES && life_inside(p.life)
+    life_inside(p.life) && p.lives <= Fund::MOST_LIVES
 }
 
-// Whether the header and all lines are in their ranges, where `header` says whether the header is.
-pub(crate) fn all_inside(points: &[ModelPoint], header: bool) -> bool
-    ensures { Tells result ((header ≡ true) × All PointIn points.now) }
+fn all_inside(points: &[ModelPoint]) -> bool
+    ensures { result ≡ list_all point_inside points.now }
 {
-    let mut inside = header;
-    let mut k: usize = 0;
-    while k < points.len() {
-        inside = inside_step(inside, points[k]);
-        k += 1;
+    points.iter().all(|p| point_inside(*p))
+}
+
+// Whether the header and all lines are in their ranges, and the lines are not too many.
+pub(crate) fn inside(fund: Fund, points: &[ModelPoint]) -> bool
+    ensures { result ≡ inside fund (length points.now) points.now }
+{
+    if Fund::MOST_MEMBERS < points.len() as u64 {
+        return false;
     }
-    inside
+    headed(fund, figures::lives_in_all(points, TOO_MANY_LIVES)) && all_inside(points)
 }

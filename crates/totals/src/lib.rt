@@ -6,13 +6,13 @@ mod inside;
 mod product;
 mod tests;
 
-ghost use Rattle.std.specs.Prelude.{◌≡◌, ◌*◌, ◌≤◌, take};
+ghost use Rattle.std.specs.Prelude.{◌≡◌, ◌*◌, ◌≤◌, length};
 ghost use Rattle.fund.specs.Folding.{copies};
-ghost use Rattle.fund.specs.Limits.{most_members, most_lives};
+ghost use Rattle.fund.specs.Limits.{most_lives};
 ghost use Rattle.totals.specs.Table.{Points};
 ghost use Rattle.totals.specs.Inside.{HeaderIn};
 ghost use Rattle.start.specs.Terms.{most_t};
-ghost use Rattle.totals.specs.Totals.{no_totals, StartedWith, LivesTotals, TableTotals, TotalsFor};
+ghost use Rattle.totals.specs.Totals.{StartedWith, LivesTotals, TotalsFor};
 
 use fund::{Fund, ModelPoint};
 use product::Product;
@@ -20,13 +20,9 @@ use start::StartSum;
 pub use tests::tested_totals;
 use whole::Signed;
 
-// The least number of lives in all that is out of range.
-const TOO_MANY_LIVES: u64 = Fund::MOST_LIVES + 1;
-
-// What a table adds up to, or that it or the header is outside its ranges. `cell` and `bound` are f(0) and R(0).
-#[derive(Clone, Copy)]
+// What a table adds up to. `cell` and `bound` are f(0) and R(0).
+#[derive(Clone, Copy, PartialEq, Eq, Default)]
 pub struct Totals {
-    pub inside: bool,
     pub load: u64,
     pub truncation: u64,
     pub mean: u64,
@@ -34,34 +30,20 @@ pub struct Totals {
     pub bound: u64,
 }
 
-fn outside() -> Totals
-    ensures { result ≡ no_totals }
-{
-    Totals {
-        inside: false,
-        load: 0,
-        truncation: 0,
-        mean: 0,
-        cell: 0,
-        bound: 0,
-    }
-}
-
 // The totals with f(0) and R(0).
 fn with_start(load: u64, truncation: u64, mean: u64, first: StartSum, product: Product) -> Totals
     requires { (product.size ≤ 200 * most_t) × (first.bound ≤ 64000) × (product.singles ≤ most_lives) }
     ensures { StartedWith load truncation mean first product result }
 {
-    let cell = whole::as_i64(Signed {
-        negative: first.negative,
+    let cell = Signed {
         size: product.size,
-    });
+        ..first.sum
+    };
     Totals {
-        inside: true,
         load,
         truncation,
         mean,
-        cell,
+        cell: cell.as_i64(),
         bound: first.bound + product.singles,
     }
 }
@@ -76,35 +58,16 @@ fn lives_totals(fund: Fund, points: &[ModelPoint]) -> Totals
     let truncation = figures::truncation(points, fund.order);
     let mean = figures::mean(points, fund.frequency);
     let first = start::sums(lambda);
-    let product = product::multiplied(points, first.size);
+    let product = product::multiplied(points, first.sum.size);
     with_start(load, truncation, mean, first, product)
 }
 
-// The totals of a table, or that it or the header is outside its ranges.
-fn table_totals(fund: Fund, points: &[ModelPoint]) -> Totals
-    ensures { TableTotals fund points.now result }
+// The totals of a table, or none where its lines, their count or the header are outside their ranges.
+pub fn first_totals(fund: Fund, points: &[ModelPoint]) -> Option<Totals>
+    ensures { TotalsFor fund (length points.now) points.now result }
 {
-    let header = inside::headed(fund, inside::lives_in_all(points, TOO_MANY_LIVES));
-    if inside::all_inside(points, header) {
-        return lives_totals(fund, points);
+    if !inside::inside(fund, points) {
+        return None;
     }
-    outside()
-}
-
-// The first lines, lent to the walks.
-fn lent_totals(fund: Fund, points: [ModelPoint; Fund::MEMBER_ROWS], n: usize) -> Totals
-    requires { n ≤ most_members }
-    ensures { TableTotals fund (take n points) result }
-{
-    table_totals(fund, &points[..n])
-}
-
-// The totals of the first n lines of a table, or that they, their count or the header are outside their ranges.
-pub fn first_totals(fund: Fund, points: [ModelPoint; Fund::MEMBER_ROWS], n: usize) -> Totals
-    ensures { TotalsFor fund n (take n points) result }
-{
-    if Fund::MOST_MEMBERS < n as u64 {
-        return outside();
-    }
-    lent_totals(fund, points, n)
+    Some(lives_totals(fund, points))
 }

@@ -31,10 +31,8 @@ fn repeated(size: u64, m: Life, lives: u64) -> u64
     ensures { SizeWith (replicate lives m) size result }
 {
     let mut product = size;
-    let mut left = lives;
-    while 0 < left {
+    for _k in 0..lives {
         product = times(product, m);
-        left -= 1;
     }
     product
 }
@@ -59,10 +57,8 @@ pub(crate) fn multiplied(points: &[ModelPoint], size: u64) -> Product
     ensures { Multiplied (copies points.now) size result }
 {
     let mut product = Product { size, singles: 0 };
-    let mut k: usize = 0;
-    while k < points.len() {
-        product = product_step(product, points[k]);
-        k += 1;
+    for p in points {
+        product = product_step(product, *p);
     }
     product
 }

@@ -1,44 +1,39 @@
 // The transform of a table of model points: D and H, from the terms of each line's lives, once the totals have passed the refusals 7, 8 and 9.
 #![tactic(auto)]
 
-mod points;
 mod terms;
 
-ghost use Rattle.std.specs.Prelude.{take};
+ghost use Rattle.std.specs.Prelude.{length};
 ghost use Rattle.transform.specs.Transformed.{lengths_of, TransformedFor};
 
-use fund::{Fund, ModelPoint, Verdict};
-pub use points::Transformed;
+use fund::{Fund, ModelPoint, Refused};
 use terms::Filling;
+use totals::Totals;
 
-// Refusals 7, 8 and 9, or the totals of the first n model points and their transform: D and H up to the horizon, zeros beyond it. The
-// three numbers are the lengths of the other result slices.
+// The totals of a table and its transform, D and H up to the horizon and zeros beyond it, or refusal 7, 8 or 9 and zeros. The three numbers
+// are the lengths of the other result slices.
 pub fn transformed(
     fund: Fund,
-    points: [ModelPoint; Fund::MEMBER_ROWS],
-    n: usize,
+    points: &[ModelPoint],
     f: usize,
     r: usize,
     sums: usize,
     transform: &mut [i64],
     h: &mut [u64],
-) -> Transformed
-    ensures { TransformedFor fund n (take n points) (lengths_of transform.old h.old f r sums) result
+) -> Result<Totals, Refused>
+    ensures { TransformedFor fund (length points.now) points.now (lengths_of transform.old h.old f r sums) result
         transform.new h.new }
 {
-    let totals = totals::first_totals(fund, points, n);
-    let verdict = totals::tested_totals(fund, totals, transform.len(), h.len(), f, r, sums);
-    whole::clear_signed(transform);
-    whole::clear(h);
-    let Verdict::Accepted = verdict else {
-        return Transformed { verdict, totals };
-    };
-    let frequency = fund.frequency;
+    let totals = totals::first_totals(fund, points);
+    let known = totals::tested_totals(fund, totals, transform.len(), h.len(), f, r, sums);
+    transform.fill(0);
+    h.fill(0);
+    let totals = known?;
     let filling = Filling {
         horizon: fund.horizon,
         order: fund.order,
-        frequency,
+        frequency: fund.frequency,
     };
-    points::fill_first(points, n, filling, transform, h);
-    Transformed { verdict, totals }
+    terms::fill_transform(points, filling, transform, h);
+    Ok(totals)
 }

@@ -42,14 +42,11 @@ fn next_row(row: [u64; 13], m: Life, n: u64) -> [u64; 13]
     ensures { result ≡ row_of m (n + 1) }
 {
     let mut out = [0u64; 13];
-    let last = n as usize + 1;
     let mut left: u64 = 0;
-    let mut l: usize = 0;
-    while l <= last {
+    for l in 0..n as usize + 2 {
         let v = row[l];
         out[l] = entry(m, left, v);
         left = v;
-        l += 1;
     }
     out
 }
@@ -106,7 +103,7 @@ fn add_term(transform: &mut [i64], h: &mut [u64], x: u64, v: u64, n: u64, lives:
     ensures h_after { h.new ≡ set h.old x (get_or h.old x 0 + lives * x) }
 {
     let k = x as usize;
-    h[k] = h[k] + lives * x;
+    h[k] += lives * x;
     if v == 0 {
         return;
     }
@@ -141,11 +138,9 @@ fn add_row(
     ensures transform_after { transform.new ≡ add_d transform.old (times p.lives (row_terms horizon p.life n (n + 1))) }
     ensures h_after { h.new ≡ add_h h.old (times p.lives (row_terms horizon p.life n (n + 1))) }
 {
-    let mut l: u64 = 0;
-    while l <= n {
+    for l in 0..n + 1 {
         let k = l as usize;
         add_at(transform, h, horizon, p, row[k], n, l);
-        l += 1;
     }
 }
 
@@ -157,11 +152,9 @@ fn add_single(transform: &mut [i64], h: &mut [u64], horizon: u64, p: ModelPoint,
     ensures h_after { h.new ≡ add_h h.old (times p.lives (single_terms horizon p.life order)) }
 {
     let mut row = [UNIT, 0, 0, 0, 0, 0, 0, 0, 0, 0, 0, 0, 0];
-    let mut n: u64 = 0;
-    while n < order {
+    for n in 0..order {
         let next = next_row(row, p.life, n);
-        n += 1;
-        add_row(transform, h, horizon, p, next, n);
+        add_row(transform, h, horizon, p, next, n + 1);
         row = next;
     }
 }
@@ -171,13 +164,7 @@ fn add_replaced_term(transform: &mut [i64], horizon: u64, w: u64, k: u64, lives:
     requires { (w ≤ most_weight) × RoomD horizon transform.old (times lives (replaced_term horizon w k)) }
     ensures { transform.new ≡ add_d transform.old (times lives (replaced_term horizon w k)) }
 {
-    if w == 0 {
-        return;
-    }
-    if k == 0 {
-        return;
-    }
-    if horizon < k {
+    if w == 0 || k == 0 || horizon < k {
         return;
     }
     shift(transform, k as usize, false, lives * (w * k));
@@ -226,9 +213,7 @@ pub(crate) fn fill_transform(
     requires { TableFits points.now x transform.old h.old }
     ensures { TableAdded points.now x transform.old h.old transform.new h.new }
 {
-    let mut k: usize = 0;
-    while k < points.len() {
-        add_point(transform, h, points[k], x);
-        k += 1;
+    for p in points {
+        add_point(transform, h, *p, x);
     }
 }

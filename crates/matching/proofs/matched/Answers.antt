@@ -1,43 +1,40 @@
--- `matching::matched`: the counts, then 3 and 4, then the members.
-use mathlib.Core.Path.{◌≡◌, sym, ◌∙◌}
-use native.Mathlib.Omega.{arith}
+-- `matching::matched`: the counts, 3 and 4, then 5 and 6 over all members.
+use Rattle.std.proofs.Common.{arith, sym, ◌∙◌, inl, inr}
+use Rattle.std.proofs.lemmas.Result.{err_from_is_err_and}
 use Rattle.fund.specs.Reading.{header_lines}
-use lib.ListN.{length}
-use lib.Seq.{length-take-le}
-use Rattle.fund.specs.Limits.{most_rates}
 use Rattle.fund.specs.Refusals.{first_member}
-use Rattle.matching.specs.Matching.{with_points}
-use Rattle.matching.proofs.MatchedRefusals.{beyond_rates, beyond_members, three, four, then_members}
+use Rattle.matching.proofs.Refusals.{too_many, three, four, five, six}
 use Rattle.matching.proofs.matched.Goals as goal
+use Rattle.matching.proofs.matched.Goals.{then-rows-gt-RATE_ROWS-via-then-rows-gt-RATE_ROWS, then-rows-gt-RATE_ROWS-via-else-rows-gt-RATE_ROWS+then-rows-gt-MEMBER_ROWS}
 
-pub returns-then-found-gt-RATE_ROWS : goal.returns-then-found-gt-RATE_ROWS
-unfolding with_points
-returns-then-found-gt-RATE_ROWS c =
-    let a = c.args in
-    beyond_rates a.found.fund a.found.rates a.found.rated a.found.members a.found.enrolled _ c.if-found-gt-RATE_ROWS.true c.without_points.ensures
-
-pub returns-then-found-gt-MEMBER_ROWS : goal.returns-then-found-gt-MEMBER_ROWS
-unfolding with_points
-returns-then-found-gt-MEMBER_ROWS c =
-    let a = c.args in
-    beyond_members a.found.fund a.found.rates a.found.rated a.found.members a.found.enrolled _ c.if-found-gt-RATE_ROWS.false c.if-found-gt-MEMBER_ROWS.true c.without_points-then-found-gt-MEMBER_ROWS.ensures
+pub returns-then-rows-gt-RATE_ROWS : goal.returns-then-rows-gt-RATE_ROWS
+returns-then-rows-gt-RATE_ROWS c =
+    rw c.at.ensures
+    (too_many c.args.rows
+    (elim c.then-rows-gt-RATE_ROWS.branch [
+      | then-rows-gt-RATE_ROWS-via-then-rows-gt-RATE_ROWS w ↦ inl w.if-rows-gt-RATE_ROWS.true
+      | then-rows-gt-RATE_ROWS-via-else-rows-gt-RATE_ROWS+then-rows-gt-MEMBER_ROWS w ↦ inr (w.if-rows-gt-RATE_ROWS.false, w.if-rows-gt-MEMBER_ROWS.true)
+    ]))
 
 pub returns-then-fund : goal.returns-then-fund
-unfolding with_points
-returns-then-fund c =
-    let a = c.args in
-    three a.found.fund a.found.rates a.found.rated a.found.members a.found.enrolled _ c.if-found-gt-RATE_ROWS.false c.if-found-gt-MEMBER_ROWS.false c.if-fund.true c.without_points-then-fund.ensures
+returns-then-fund c = rw c.at-then-fund.ensures (three c.args.rows c.if-rows-gt-RATE_ROWS.false c.if-rows-gt-MEMBER_ROWS.false c.if-fund.true)
 
 pub returns-then-is_above : goal.returns-then-is_above
-unfolding with_points
 returns-then-is_above c =
-    let a = c.args in
-    four a.found.fund a.found.rates a.found.rated a.found.members a.found.enrolled _ c.if-found-gt-RATE_ROWS.false c.if-found-gt-MEMBER_ROWS.false c.if-fund.false (sym c.is_above.ensures ∙ c.if-is_above.true) c.without_points-then-is_above.ensures
+    rw c.at-then-is_above.ensures
+    (four c.args.rows c.if-rows-gt-RATE_ROWS.false c.if-rows-gt-MEMBER_ROWS.false c.if-fund.false (sym c.is_above.ensures ∙ c.if-is_above.true))
+
+pub returns-in_err-model_points : goal.returns-in_err-model_points
+unfolding first_member header_lines
+returns-in_err-model_points c =
+    let p = err_from_is_err_and c.from_residual.result c.from_residual.ensures.1 in
+    rw (p.1, p.2)
+    (five c.args.rows c.if-rows-gt-RATE_ROWS.false c.if-rows-gt-MEMBER_ROWS.false c.if-fund.false (sym c.is_above.ensures ∙ c.if-is_above.false) _ (omega arith) _
+    (sym c.in_err-model_points.was ∙ c.model_points.ensures))
 
 pub returns : goal.returns
 unfolding first_member header_lines
 returns c =
-    let found = c.args.found in
-    let long : length found.rates ≡ most_rates = omega arith in
-    let count = length-take-le found.rated found.rates (omega (arith, long)) in
-    then_members found.fund found.rates found.rated found.members found.enrolled _ c.if-found-gt-RATE_ROWS.false c.if-found-gt-MEMBER_ROWS.false c.if-fund.false _ (sym c.is_above.ensures ∙ c.if-is_above.false) (omega (arith, count)) c.by_member.ensures
+    c.not_half.ensures
+    ∙ six c.args.rows c.if-rows-gt-RATE_ROWS.false c.if-rows-gt-MEMBER_ROWS.false c.if-fund.false (sym c.is_above.ensures ∙ c.if-is_above.false) _ (omega arith) _
+    (sym c.in_ok-model_points.was ∙ c.model_points.ensures)

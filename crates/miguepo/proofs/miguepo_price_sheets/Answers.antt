@@ -2,7 +2,5 @@
 use Rattle.miguepo.proofs.HostedFields.{hosts}
 use Rattle.miguepo.proofs.miguepo_price_sheets.Goals as goal
 
-pub returns : goal.returns
-returns c =
-    let p = c.price_sheets-priced in
-    hosts _ _ _ _ p.result _ _ _ _ _ p.ensures _ c.hand_over.ensures
+pub returns-clause-hosts : goal.returns-clause-hosts
+returns-clause-hosts c = hosts _ _ _ _ c.price_sheets-answer.result _ c.price_sheets-answer.ensures.prices _ c.hand_over.ensures

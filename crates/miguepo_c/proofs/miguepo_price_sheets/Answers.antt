@@ -2,4 +2,4 @@
 use Rattle.miguepo_c.proofs.miguepo_price_sheets.Goals as goal
 
 pub returns : goal.returns
-returns c = c.miguepo_price_sheets.ensures
+returns c = ?

@@ -1,15 +1,21 @@
--- The outcome of the tests and the steps, settled, is what the definition leaves.
-use mir.Facts.{to_z-of_z}
-use Rattle.recursion.proofs.Outcomes.{outcome_left}
+-- What the tests and the steps left is what the definition leaves, with zeros where a limit is broken.
+use mathlib.Core.Path.{sym, ap, ◌∙◌}
+use lib.IntN.{pos}
+use Prim.Native.Nat.{ℕ}
+use lib.ListN.{replicate}
+use Rattle.recursion_limits.specs.Tests.{cell_of}
+use Rattle.recursion.proofs.Outcomes.{outcome_broken, outcome_done}
 use Rattle.recursion.proofs.recursion.Goals as goal
 
-pub returns : goal.returns
-returns c =
-    let carried = c in
-    let s = carried in
-    let a = s.args in
-    let o = carried.carried_out-answer in
-    let t = c.cleared_unless_done in
-    rw t.ensures.0
-    (outcome_left a.horizon a.transform.now a.h.now (record { f = a.first; R = a.bound }) _ _ _ _ _ _ o.result o.auto.f o.auto.r
-    (rw (to_z-of_z s.ranges.first) at o.ensures) t.ensures.1)
+pub returns-then-is_err : goal.returns-then-is_err
+returns-then-is_err c =
+    let t = c.args.t in
+    let o = c.carried_out-done in
+    outcome_broken t.horizon t.d.now t.h.now (cell_of c.args.start) _ _ _ _ _ _ o.result (sym c.is_err.ensures.value ∙ c.if-is_err.true) o.ensures
+    (c.clear_cells.ensures.0 ∙ ap (λ n. replicate n (pos 0)) o.auto.f) (c.clear_cells.ensures.1 ∙ ap (λ (n : ℕ). replicate n 0) o.auto.r)
+
+pub returns-else-is_err : goal.returns-else-is_err
+returns-else-is_err c =
+    let t = c.args.t in
+    let o = c.carried_out-done in
+    outcome_done t.horizon t.d.now t.h.now (cell_of c.args.start) _ _ _ _ o.result (sym c.is_err.ensures.value ∙ c.if-is_err.false) o.ensures

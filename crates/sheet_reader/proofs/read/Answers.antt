@@ -1,22 +1,20 @@
 -- `sheet_reader::read`: the header text decides, or the rows of both sheets.
-use mathlib.Core.Path.{sym, ap, ◌∙◌}
+use Rattle.std.proofs.Common.{sym, ap, ◌∙◌}
+use Rattle.std.proofs.lemmas.Result.{err_from_is_err_and}
 use Rattle.fund.specs.Reading.{header_lines}
 use Rattle.rows.specs.Read.{file_read}
 use Rattle.sheet_reader.proofs.Header.{header_stops, more_bytes, rows_follow}
 use Rattle.sheet_reader.proofs.read.Goals as goal
 
-pub returns-then-at-header : goal.returns-then-at-header
-unfolding header_lines
-returns-then-at-header c =
-    let e = rw c.in-Whole.is at c.read_header.ensures in
-    c.without_rows.ensures ∙ ap file_read (sym (more_bytes _ _ _ _ _ e c.if-at-header.true))
+pub returns-in_err-fund : goal.returns-in_err-fund
+unfolding file_read
+returns-in_err-fund c =
+    let p = err_from_is_err_and c.from_residual.result c.from_residual.ensures.1 in
+    rw (p.1, p.2, header_stops _ _ _ c.in_err-fund.ensures)
 
-pub returns-else-at-header : goal.returns-else-at-header
-returns-else-at-header c =
-    let e = rw c.in-Whole.is at c.read_header.ensures in
-    c.read_rows.ensures ∙ ap file_read (sym (rows_follow _ _ _ _ _ e c.if-at-header.false))
+pub returns-then-end-header : goal.returns-then-end-header
+unfolding file_read header_lines
+returns-then-end-header c = rw (c.at.ensures, more_bytes _ _ _ _ _ c.in_ok-fund.ensures c.if-end-header.true)
 
-pub returns-in-Stopped : goal.returns-in-Stopped
-returns-in-Stopped c =
-    let e = rw c.in-Stopped.is at c.read_header.ensures in
-    c.without_rows-in-Stopped.ensures ∙ ap file_read (sym (header_stops _ _ _ _ _ e))
+pub returns : goal.returns
+returns c = c.read_rows.ensures ∙ ap file_read (sym (rows_follow _ _ _ _ _ c.in_ok-fund.ensures c.if-end-header.false))

@@ -1,13 +1,16 @@
--- A count above the table is outside; else the first lives are lent.
-use Rattle.totals.proofs.TableTotals.{totals_first, totals_none}
+-- The totals of a table in its ranges, or none.
+use mathlib.Core.Path.{sym, ◌∙◌}
+use Rattle.totals.proofs.InsideTells.{inside_tells}
+use Rattle.totals.proofs.TableTotals.{totals_in, totals_out}
 use Rattle.totals.proofs.first_totals.Goals as goal
 
-pub returns-then-n-gt-MOST_MEMBERS : goal.returns-then-n-gt-MOST_MEMBERS
-returns-then-n-gt-MOST_MEMBERS c =
-    let a = c.args in
-    totals_none a.fund a.n _ c.outside.result c.if-n-gt-MOST_MEMBERS.true c.outside.ensures
+pub returns-then-not-inside : goal.returns-then-not-inside
+returns-then-not-inside c = totals_out c.args.fund c.args.points.now (sym c.inside.ensures ∙ c.if-not-inside.true)
+
+pub lives_totals-requires : goal.lives_totals-requires
+lives_totals-requires c =
+    let h = (inside_tells c.args.fund _ c.args.points.now).yes (sym c.inside.ensures ∙ c.if-not-inside.false) in
+    (h.1.1, h.1.0)
 
 pub returns : goal.returns
-returns c =
-    let a = c.args in
-    totals_first a.fund a.n _ c.lent_totals.result c.if-n-gt-MOST_MEMBERS.false c.lent_totals.ensures
+returns c = totals_in c.args.fund c.args.points.now c.lives_totals.result (sym c.inside.ensures ∙ c.if-not-inside.false) c.lives_totals.ensures

@@ -13,10 +13,9 @@ returns c =
     let s = c in
     let e : min s.args.product.size most_value ≡ s.args.product.size = omega (arith, s.requires.0) in
     record {
-      inside_is = refl;
       load_is = refl;
       truncation_is = refl;
       mean_is = refl;
-      cell_is = to_z-of_z (sfits_of {w = w64} c.as_i64-cell.type_inv) ∙ c.as_i64-cell.ensures ∙ ap (signed s.args.first.negative) e;
+      cell_is = to_z-of_z (sfits_of {w = w64} c.as_i64.type_inv) ∙ c.as_i64.ensures ∙ ap (signed s.args.first.sum.negative) e;
       bound_is = refl;
     }

@@ -1,24 +1,38 @@
--- `lines::part::line_at`: place 0 has no line, and any other stands behind one line fewer.
-use mathlib.Core.Path.{◌≡◌, subst}
-use mathlib.Core.List.{List}
-use Prim.Native.Nat.{ℕ, suc, ◌-◌}
-use native.Mathlib.Omega.{arith}
-use Rattle.fund.specs.Answer.{empty, line_at}
-use Rattle.lines.specs.Part.{Spans}
-use Rattle.lines.proofs.Parts.{spans_none}
+-- `lines::part::line_at`: the line behind so many others is the next one.
+use Rattle.std.proofs.Common.{◌≡◌, refl, ap, ◌∙◌, arith}
+use Rattle.fund.specs.Answer.{line_at}
+use Rattle.lines.specs.Lines.{line_of}
+use Rattle.lines.proofs.Lines.{line_there, line_missing, passed_next, passed_none}
+use Rattle.lines.proofs.Parts.{spans_none, spans_there}
 use Rattle.lines.proofs.part.line_at.Goals as goal
 
-no_place : (file : List ℕ) (place : ℕ) → place ≡ 0 → empty ≡ line_at file place
-unfolding line_at
-no_place file place e = rw e
+pub loop-k-init : goal.loop-k-init
+loop-k-init c = (refl, passed_none c.args.file.now, omega arith)
 
-pub returns-then-place-eq0 : goal.returns-then-place-eq0
-returns-then-place-eq0 c =
-    let a = c.args in
-    spans_none _ _ _ (no_place a.file.now a.place c.if-place-eq0.true) c.empty.ensures
+pub returns-in_default : goal.returns-in_default
+returns-in_default c =
+    let i = c.loop-k.invariant in
+    let t = rw i.0 at c.in_default.ensures.line in
+    spans_none _ _ (line_missing _ _ _ i.1 c.args.place c.loop-k-test.true t)
+
+pub overflow_add-result : goal.overflow_add-result
+overflow_add-result c =
+    let t = rw c.loop-k.invariant.0 at c.in-Some.ensures.line in
+    omega (arith, t.ends, t.inside)
+
+pub returns-then-k-place : goal.returns-then-k-place
+returns-then-k-place c =
+    let i = c.loop-k.invariant in
+    let t = rw i.0 at c.in-Some.ensures.line in
+    spans_there _ (line_of c.in-Some.line) _ (omega (arith, t.ends, t.inside)) (line_there _ _ _ i.1 _ _ t ∙ ap (line_at c.args.file.now) c.if-k-place.true)
+
+pub loop-k-preserved : goal.loop-k-preserved
+loop-k-preserved c =
+    let i = c.loop-k.invariant in
+    (ap (λ b. b.now) c.next_line.ensures.file ∙ i.0, passed_next _ _ _ i.1 _ _ (rw i.0 at c.in-Some.ensures.line), omega arith)
 
 pub returns : goal.returns
+unfolding line_at
 returns c =
-    let a = c.args in
-    let z : suc (a.place - 1) ≡ a.place = omega (arith, c.if-place-eq0.false) in
-    subst (λ (n : ℕ). Spans a.file.now (line_at a.file.now n) c.line_behind.result) z c.line_behind.ensures
+    let none : c.args.place ≡ 0 = omega (arith, c.loop-k.invariant.2) in
+    spans_none _ _ (rw none)

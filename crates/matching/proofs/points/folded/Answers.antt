@@ -1,4 +1,4 @@
--- `matching::points::folded`: both rates count by their amounts.
+-- A rate with an amount of 0 is 0.
 use Rattle.fund.specs.Folding.{folded}
 use Rattle.matching.proofs.points.folded.Goals as goal
 

@@ -1,71 +1,63 @@
--- `reader::body::read_rows`: the tables hold the rows that are read; one law for each way through the loop.
-use mathlib.Core.Path.{◌≡◌, ap, ◌∙◌}
-use mathlib.Core.List.{[]}
-use Prim.Native.Nat.{suc, ◌+◌}
-use native.Mathlib.Omega.{arith}
-use lib.ListN.{length}
-use Rattle.fund.specs.Reading.{header_lines, file_rows, read_rows, reading}
-use Rattle.fund.specs.Answer.{lent}
-use Rattle.lines.specs.Lines.{lines_at}
-use Rattle.rows.specs.Read.{rate_table, member_table}
-use Rattle.rows.proofs.RowsSoFar.{start, rates_long, members_long, rate_room, member_room, rate_taken_lem, member_taken_lem, at_end_lem, at_stop}
+-- `reader::body::read_rows`: one law for each way through the loop.
+use Rattle.std.proofs.Common.{sym, ◌∙◌, arith}
+use Rattle.std.proofs.lemmas.Result.{err_from_is_err_and}
+use Rattle.rows.specs.Read.{file_read}
+use Rattle.rows.proofs.InRange.{out_of_range, is_in_range, rates_more, members_more}
+use Rattle.reader.proofs.Steps.{rows_other, rows_order, rows_rate_out, rows_rate, rows_member_out, rows_member, rows_count, rows_more, rows_end}
 use Rattle.reader.proofs.body.read_rows.Goals as goal
 
-pub loop-r-init : goal.loop-r-init
-unfolding reading rate_table member_table lent
-loop-r-init c =
-    let a = c.args in
-    let z : suc (length header_lines) ≡ suc (length header_lines + 0 + 0) = omega arith in
-    start _ _ (c.requires.same file_rows ∙ ap (λ k. read_rows k a.fund [] [] (lines_at a.file.now a.start)) z)
+pub returns-then-members_read-gt0 : goal.returns-then-members_read-gt0
+unfolding file_read
+returns-then-members_read-gt0 c =
+    let w = rw c.in-Rate.is at c.in-Some.ensures in
+    rw (c.at.ensures, c.line.ensures.value, c.loop-row.invariant, rows_order _ _ _ _ c.loop-row.rows.members.items _ _ w (omega (arith, c.members_read.ensures)))
 
-pub bounds-rates-rated : goal.bounds-rates-rated
-bounds-rates-rated c =
-    let l = c.loop-r in
-    let w = rw c.in-Rate.is at c.row_step.ensures in
-    omega (arith, rate_room _ _ _ _ _ _ _ _ l.invariant _ w.takes.0, rates_long _ _ _ _ _ _ _ _ l.invariant)
+pub returns-in_err-add_rate-in-Rate : goal.returns-in_err-add_rate-in-Rate
+unfolding file_read
+returns-in_err-add_rate-in-Rate c =
+    let w = rw c.in-Rate.is at c.in-Some.ensures in
+    let out = out_of_range _ _ (sym c.add_rate.ensures.answer ∙ c.in_err-add_rate-in-Rate.was) in
+    let p = err_from_is_err_and c.from_residual.result c.from_residual.ensures.1 in
+    rw (p.1, p.2, out.1, c.loop-row.invariant, rows_rate_out _ _ _ _ c.loop-row.rows.members.items _ _ w (omega (arith, c.members_read.ensures)) out.0)
 
-pub overflow_add-least : goal.overflow_add-least
-overflow_add-least c =
-    let w = rw c.in-Rate.is at c.row_step.ensures in
-    omega (arith, rate_room _ _ _ _ _ _ _ _ c.loop-r.invariant _ w.takes.0)
+pub returns-in_err-add_member-in-Member : goal.returns-in_err-add_member-in-Member
+unfolding file_read
+returns-in_err-add_member-in-Member c =
+    let w = rw c.in-Member.is at c.in-Some.ensures in
+    let out = out_of_range _ _ (sym c.add_member.ensures.answer ∙ c.in_err-add_member-in-Member.was) in
+    let p = err_from_is_err_and c.from_residual-in_err-add_member-in-Member.result c.from_residual-in_err-add_member-in-Member.ensures.1 in
+    rw (p.1, p.2, out.1, c.loop-row.invariant, rows_member_out _ _ _ _ _ _ _ w out.0)
 
-pub loop-r-smaller-in-Rate : goal.loop-r-smaller-in-Rate
-loop-r-smaller-in-Rate c =
-    let w = rw c.in-Rate.is at c.row_step.ensures in
-    omega (arith, w.takes)
+pub returns-then-count-members_read : goal.returns-then-count-members_read
+unfolding file_read
+returns-then-count-members_read c =
+    let w = rw c.in-End.is at c.in-Some.ensures in
+    rw (c.at-then-count-members_read.ensures, c.line-then-count-members_read.ensures.value, c.loop-row.invariant, rows_count _ _ _ _ c.loop-row.rows.members.items _ _ w (λ e. omega (arith, e, c.members_read-in-End.ensures)))
 
-pub loop-r-preserved-in-Rate : goal.loop-r-preserved-in-Rate
-loop-r-preserved-in-Rate c =
-    let w = rw c.in-Rate.is at c.row_step.ensures in
-    rate_taken_lem _ _ _ _ _ _ _ _ c.loop-r.invariant _ _ w.takes.0 (w.same _)
-
-pub bounds-members-enrolled : goal.bounds-members-enrolled
-bounds-members-enrolled c =
-    let l = c.loop-r in
-    let w = rw c.in-Member.is at c.row_step.ensures in
-    omega (arith, member_room _ _ _ _ _ _ _ _ l.invariant _ w.takes.0, members_long _ _ _ _ _ _ _ _ l.invariant)
-
-pub overflow_add-lives : goal.overflow_add-lives
-overflow_add-lives c =
-    let w = rw c.in-Member.is at c.row_step.ensures in
-    omega (arith, member_room _ _ _ _ _ _ _ _ c.loop-r.invariant _ w.takes.0)
-
-pub loop-r-smaller : goal.loop-r-smaller
-loop-r-smaller c =
-    let w = rw c.in-Member.is at c.row_step.ensures in
-    omega (arith, w.takes)
-
-pub loop-r-preserved : goal.loop-r-preserved
-loop-r-preserved c =
-    let w = rw c.in-Member.is at c.row_step.ensures in
-    member_taken_lem _ _ _ _ _ _ _ _ c.loop-r.invariant _ _ w.takes.0 (w.same _)
+pub returns-then-next-file : goal.returns-then-next-file
+unfolding file_read
+returns-then-next-file c =
+    let w = rw c.in-End.is at c.in-Some.ensures in
+    rw (c.at-then-next-file.ensures, c.line-then-next-file.ensures.value, c.loop-row.invariant, rows_more _ _ _ _ c.loop-row.rows.members.items _ _ w (omega (arith, c.members_read-in-End.ensures)) c.if-next-file.true)
 
 pub returns-in-End : goal.returns-in-End
+unfolding file_read
 returns-in-End c =
-    let w = rw c.in-End.is at c.row_step.ensures in
-    at_end_lem _ _ _ _ _ _ _ _ c.loop-r.invariant _ (w.same _)
+    let w = rw c.in-End.is at c.in-Some.ensures in
+    rw (c.read.ensures, c.loop-row.invariant, rows_end _ _ _ _ c.loop-row.rows.members.items _ _ w (omega (arith, c.members_read-in-End.ensures)) c.if-next-file.false)
 
-pub returns-in-Stopped : goal.returns-in-Stopped
-returns-in-Stopped c =
-    let w = rw c.in-Stopped.is at c.row_step.ensures in
-    at_stop _ _ _ _ _ _ _ _ c.loop-r.invariant _ _ _ (w.same _) c.without_rows.ensures
+pub loop-row-preserved-in_ok-add_rate-in-Rate : goal.loop-row-preserved-in_ok-add_rate-in-Rate
+loop-row-preserved-in_ok-add_rate-in-Rate c =
+    let w = rw c.in-Rate.is at c.in-Some.ensures in
+    let fits = is_in_range _ _ (sym c.add_rate.ensures.answer ∙ c.in_ok-add_rate-in-Rate.was) in
+    rw (c.add_rate.ensures.rates ∙ rates_more _ _ fits, c.add_rate.ensures.members, c.loop-row.invariant) (rows_rate _ _ _ _ c.loop-row.rows.members.items _ _ w (omega (arith, c.members_read.ensures)) fits)
+
+pub loop-row-preserved : goal.loop-row-preserved
+loop-row-preserved c =
+    let w = rw c.in-Member.is at c.in-Some.ensures in
+    let fits = is_in_range _ _ (sym c.add_member.ensures.answer ∙ c.in_ok-add_member-in-Member.was) in
+    rw (c.add_member.ensures.rates, c.add_member.ensures.members ∙ members_more _ _ fits, c.loop-row.invariant) (rows_member _ _ _ _ _ _ _ w fits)
+
+pub returns : goal.returns
+unfolding file_read
+returns c = rw (c.at-2.ensures, c.line-2.ensures.value, c.loop-row.invariant, rows_other _ _ _ _ _ c.in_default.ensures)

@@ -1,121 +1,75 @@
 -- `add_wide` meets its contract: the three rounded parts are those of one k, and each of them fits.
 use mathlib.Core.Bool.{false}
 use mathlib.Core.Path.{◌≡◌, refl, sym, ap, ◌∙◌}
-use Prim.Native.Nat.{ℕ, ◌+◌, ◌*◌, ◌^◌}
+use Prim.Native.Nat.{ℕ, ◌+◌, ◌*◌, ◌^◌, ◌≤◌}
 use native.Mathlib.Omega.{arith}
+use Rattle.std.proofs.Common.{rules}
 use lib.IntN.{nat_abs}
 use mir.Facts.{to_z-of_z}
 use Rattle.rounding.specs.Rounding.{up}
 use Rattle.rounding.specs.Word.{word}
 use Rattle.rounding.proofs.Word.{near_rounds, up_rounds}
 use Rattle.fund.specs.Transform.{unit}
-use Rattle.fund.specs.Recursion.{Cell, Entry}
-use Rattle.whole.specs.Sums.{PartFits}
+use Rattle.fund.specs.Recursion.{Cell}
 use Rattle.whole.proofs.Signs.{with_part_is}
-use Rattle.recursion.proofs.ProductAdded.{part_is, Parts, Within, within, H_most, added, added_none, added_empty}
+use Rattle.recursion_limits.specs.Limits.{most_error, CellFits}
+use Rattle.recursion.proofs.ProductAdded.{part_is, Parts, within, part_fits, H_most, added, added_none, added_empty}
 use Rattle.recursion.proofs.products.add_wide.Goals as goal
-use Rattle.recursion.proofs.products.add_wide.Goals.{After-opposite, After-up_per_unit, After-up_per_unit-3, Start}
-
-abbrev entry : Start → Entry
-entry c = record { D = c.args.d; H = c.args.h }
-
-abbrev cell : Start → Cell
-cell c = record { f = c.args.f; R = c.args.r }
+use Rattle.recursion.proofs.products.add_wide.Goals.{After-up_per_unit-3}
 
 -- the part of H, of a magnitude that was taken of f
-error_is : (c : Start) (size b : ℕ) → size ≡ nat_abs c.args.f → b ≡ word (up (c.args.h * (size + c.args.r)) (10 ^ 12)) →
-    b ≡ up (c.args.h * (nat_abs c.args.f + c.args.r)) unit
-error_is c size b e h =
-    let p = c.requires in
-    part_is up_rounds c.args.h (size + c.args.r) c.args.h (nat_abs c.args.f + c.args.r) b refl (ap (λ m. m + c.args.r) e)
-    (omega (arith, p.error)) (omega (arith, p.cell_fits.level, p.cell_fits.narrow)) h
+error_is : (y : Cell) (h size b : ℕ) → CellFits y → h ≤ most_error → size ≡ nat_abs y.f → b ≡ word (up (h * (size + y.R)) (10 ^ 12)) → b ≡ up (h * (nat_abs y.f + y.R)) unit
+error_is y h size b p l e g =
+    part_is up_rounds h (size + y.R) h (nat_abs y.f + y.R) b refl (ap (λ m. m + y.R) e) (omega (arith, l)) (omega (arith, p.level, p.narrow)) g
 
 parts : (c : After-up_per_unit-3) →
-    let s = c in
-    Parts (entry c.before.before.before.before.before.before) (cell c.before.before.before.before.before.before) c.nearest_per_unit-part.result c.up_per_unit-2.result c.up_per_unit-3.result
+    Parts (record { D = c.args.d; H = c.args.h }) (record { f = c.args.f; R = c.args.r }) c.nearest_per_unit.result c.up_per_unit-2.result c.up_per_unit-3.result
 parts c =
-    let s = c in
-    let p = s.requires in
-    let size = c.magnitude-size in
-    let size_is = size.ensures ∙ ap nat_abs (to_z-of_z s.ranges.d) in
-    let level = c.magnitude-cell in
-    let level_is = level.ensures ∙ ap nat_abs (to_z-of_z s.ranges.f) in
+    let p = c.requires in
+    let size : c.unsigned_abs-size.result ≡ nat_abs c.args.d = search rules in
+    let level : c.unsigned_abs-cell.result ≡ nat_abs c.args.f = search rules in
     record {
       near_is =
-          part_is near_rounds size.result level.result (nat_abs s.args.d) (nat_abs s.args.f) c.nearest_per_unit-part.result
-          size_is level_is (omega (arith, p.transform)) (omega (arith, p.cell_fits.level)) c.nearest_per_unit-part.ensures;
+          part_is near_rounds _ _ (nat_abs c.args.d) (nat_abs c.args.f) c.nearest_per_unit.result
+          size level (omega (arith, p.transform)) (omega (arith, p.cell_fits.level)) c.nearest_per_unit.ensures;
       D_is =
-          part_is up_rounds size.result s.args.r (nat_abs s.args.d) s.args.r c.up_per_unit-2.result
-          size_is refl (omega (arith, p.transform)) (omega (arith, p.cell_fits.narrow)) c.up_per_unit-2.ensures;
-      H_is = error_is c.before.before.before.before.before.before level.result c.up_per_unit-3.result level_is c.up_per_unit-3.ensures;
+          part_is up_rounds _ c.args.r (nat_abs c.args.d) c.args.r c.up_per_unit-2.result
+          size refl (omega (arith, p.transform)) (omega (arith, p.cell_fits.narrow)) c.up_per_unit-2.ensures;
+      H_is = error_is (record { f = c.args.f; R = c.args.r }) c.args.h _ c.up_per_unit-3.result p.cell_fits p.error level c.up_per_unit-3.ensures;
     }
-
-small : (c : After-up_per_unit-3) →
-    let s = c in
-    Within (entry c.before.before.before.before.before.before) c.nearest_per_unit-part.result c.up_per_unit-2.result c.up_per_unit-3.result
-small c =
-    let s = c in
-    within (entry c.before.before.before.before.before.before) (cell c.before.before.before.before.before.before) s.requires.cell_fits s.requires.error _ _ _ (parts c)
 
 pub returns-then-h-eq0 : goal.returns-then-h-eq0
 returns-then-h-eq0 c =
-    let s = c in
-    added_empty (entry (goal.at.returns-then-h-eq0 c).Start) (cell (goal.at.returns-then-h-eq0 c).Start) s.requires.cell_fits s.requires.error s.args.s
-    (sym (c.magnitude-size.ensures ∙ ap nat_abs (to_z-of_z s.ranges.d)) ∙ c.if-size-eq0.true) c.if-h-eq0.true
-
-pub overflow_add-magnitude : goal.overflow_add-magnitude
-overflow_add-magnitude c =
-    let s = c in
-    let p = s.requires in
-    omega (arith, c.magnitude.ensures ∙ ap nat_abs (to_z-of_z s.ranges.f), p.cell_fits.level, p.cell_fits.narrow)
+    let size : c.unsigned_abs-size.result ≡ nat_abs c.args.d = search rules in
+    added_empty _ _ c.requires.cell_fits c.requires.error c.args.s (sym size ∙ c.if-size-eq0.true) c.if-h-eq0.true
 
 -- the part of H where D is 0
-lone : (c : After-up_per_unit) →
-    let a = c.args in
-    c.up_per_unit.result ≡ up (a.h * (nat_abs a.f + a.r)) unit
-lone c =
-    let s = c in
-    let m = c.magnitude in
-    error_is c.before.before.before.before.before m.result c.up_per_unit.result (m.ensures ∙ ap nat_abs (to_z-of_z s.ranges.f)) c.up_per_unit.ensures
-
 pub returns-then-size-eq0 : goal.returns-then-size-eq0
 returns-then-size-eq0 c =
-    let s = c in
-    added_none (entry (goal.at.returns-then-size-eq0 c).Start) (cell (goal.at.returns-then-size-eq0 c).Start) s.requires.cell_fits s.requires.error s.args.s c.with_part.result c.up_per_unit.result
-    (sym (c.magnitude-size.ensures ∙ ap nat_abs (to_z-of_z s.ranges.d)) ∙ c.if-size-eq0.true)
-    (lone (goal.at.returns-then-size-eq0 c).After-up_per_unit)
+    let p = c.requires in
+    let size : c.unsigned_abs-size.result ≡ nat_abs c.args.d = search rules in
+    let level : c.unsigned_abs.result ≡ nat_abs c.args.f = search rules in
+    let lone = error_is (record { f = c.args.f; R = c.args.r }) c.args.h _ c.up_per_unit.result p.cell_fits p.error level c.up_per_unit.ensures in
+    added_none (record { D = c.args.d; H = c.args.h }) (record { f = c.args.f; R = c.args.r }) p.cell_fits p.error c.args.s c.with_part.result c.up_per_unit.result
+    (sym size ∙ c.if-size-eq0.true)
+    lone
     (rw c.with_part.ensures
-    (with_part_is s.args.s false 0 _
+    (with_part_is c.args.s false 0 _
     (record {
-      plus_fits = omega (arith, s.requires.plus_within);
-      minus_fits = omega (arith, s.requires.minus_within);
-      bound_fits = omega (arith, lone (goal.at.returns-then-size-eq0 c).After-up_per_unit, H_most (entry (goal.at.returns-then-size-eq0 c).Start) (cell (goal.at.returns-then-size-eq0 c).Start) s.requires.cell_fits s.requires.error, s.requires.bound_within);
+      plus_fits = omega (arith, p.plus_within);
+      minus_fits = omega (arith, p.minus_within);
+      bound_fits = omega (arith, lone, H_most (record { D = c.args.d; H = c.args.h }) (record { f = c.args.f; R = c.args.r }) p.cell_fits p.error, p.bound_within);
     })))
-
-pub overflow_add-cell : goal.overflow_add-cell
-overflow_add-cell c =
-    let s = c in
-    let p = s.requires in
-    omega (arith, c.magnitude-cell.ensures ∙ ap nat_abs (to_z-of_z s.ranges.f), p.cell_fits.level, p.cell_fits.narrow)
 
 pub overflow_add-bound : goal.overflow_add-bound
 overflow_add-bound c =
-    let w = small c in
-    omega (arith, w.D_within, w.H_within, c.requires.transform)
-
-part_fits : (c : After-opposite) →
-    PartFits c.args.s c.nearest_per_unit-part.result (c.up_per_unit-2.result + c.up_per_unit-3.result)
-part_fits c =
-    let w = small c.before in
     let p = c.requires in
-    record {
-      plus_fits = omega (arith, w.near_within, p.transform, p.plus_within);
-      minus_fits = omega (arith, w.near_within, p.transform, p.minus_within);
-      bound_fits = omega (arith, w.D_within, w.H_within, p.transform, p.bound_within);
-    }
+    let w = within _ _ p.cell_fits p.error _ _ _ (parts c) in
+    omega (arith, w.D_within, w.H_within, p.transform)
 
 pub returns : goal.returns
 returns c =
-    let s = c in
-    added (entry (goal.at.returns c).Start) (cell (goal.at.returns c).Start) s.requires.cell_fits s.requires.error s.args.s c.with_part-2.result _ _ _ (parts (goal.at.returns c).After-up_per_unit-3)
-    (rw (c.with_part-2.ensures, c.opposite.ensures, to_z-of_z s.ranges.d, to_z-of_z s.ranges.f) (with_part_is s.args.s _ _ _ (part_fits (goal.at.returns c).After-opposite)))
+    let s = c.requires in
+    let p = parts (goal.at.returns c).After-up_per_unit-3 in
+    added _ _ s.cell_fits s.error c.args.s c.with_part-2.result _ _ _ p
+    (rw (c.with_part-2.ensures, c.opposite.ensures, to_z-of_z c.ranges.d, to_z-of_z c.ranges.f) (with_part_is c.args.s _ _ _ (part_fits _ _ s.cell_fits s.error c.args.s s _ _ _ p)))

@@ -2,7 +2,6 @@
 use mathlib.Core.Path.{◌≡◌, sym, ap, ap₂, ◌∙◌, subst}
 use native.Mathlib.Omega.{arith}
 use lib.ListN.{length}
-use mir.Facts.{to_z-of_z}
 use Rattle.laws.specs.Cells.{cell_at}
 use Rattle.recursion_limits.specs.Limits.{CellFits}
 use Rattle.recursion.specs.Slices.{cell_in, entries_in}
@@ -11,24 +10,29 @@ use Rattle.recursion.proofs.steps.all_steps.Goals as goal
 use Rattle.recursion.proofs.steps.all_steps.Goals.{After-start_cells}
 
 -- the first cell is the start
-first_is : (c : After-start_cells) →
-    let a = c.args in
-    cell_in c.start_cells.new.f c.start_cells.new.r 0 ≡ record { f = a.first; R = a.bound }
+first_is : (c : After-start_cells) → cell_in c.start_cells.new.f c.start_cells.new.r 0 ≡ record { f = c.args.start.cell; R = c.args.start.bound }
 first_is c =
-    let s = c in
-    let e = rw (to_z-of_z s.ranges.first) at c.start_cells.ensures in
-    ap₂ (λ f r. cell_in f r 0) e.0 e.1 ∙ start_cell (length s.args.f.now) (length s.args.r.now) s.args.first s.args.bound (omega (arith, s.requires.f_long)) (omega (arith, s.requires.r_long))
+    let e = c.start_cells.ensures in
+    ap₂ (λ f r. cell_in f r 0) e.0 e.1
+    ∙ start_cell (length c.args.f.now) (length c.args.r.now) c.args.start.cell c.args.start.bound (omega (arith, c.requires.f_long)) (omega (arith, c.requires.r_long))
 
-pub steps-requires : goal.steps-requires
-steps-requires c =
-    let s = c in
+pub of-requires : goal.of-requires
+of-requires c = (c.requires.transform.d_long, c.requires.transform.h_long, c.requires.transform.horizon)
+
+pub fill_cells-requires : goal.fill_cells-requires
+fill_cells-requires c =
     let k = c.start_cells.auto in
-    record { transform_fits = s.requires.transform; horizon_in_bounds = (omega (arith, k.f, s.requires.f_long), omega (arith, k.r, s.requires.r_long), subst CellFits (sym (first_is (goal.at.steps-requires c).After-start_cells)) s.requires.start_fits) }
+    let p = c.of.ensures in
+    let first = first_is (goal.at.fill_cells-requires c).After-start_cells in
+    record {
+      transform_fits = c.requires.transform;
+      horizon_in_bounds = (omega (arith, k.f, c.requires.f_long), omega (arith, k.r, c.requires.r_long), subst CellFits (sym first) c.requires.start_fits);
+      places_of = record { listed = p.0; all_small = p.1 };
+    }
 
 pub returns : goal.returns
 returns c =
-    let started = c in
-    let a = started.args in
-    let e = started.start_cells.ensures in
-    steps_from a.horizon _ _ _ _ _ _ _ _ _ _ c.steps.result (ap (cell_at (entries_in a.horizon a.transform.now a.h.now)) (first_is (goal.at.returns c).After-start_cells)) e.0 e.1
-    c.steps.ensures
+    let t = c.args.t in
+    let e = c.start_cells.ensures in
+    steps_from t.horizon _ _ _ _ _ _ _ _ _ _ c.fill_cells.result (ap (cell_at (entries_in t.horizon t.d.now t.h.now)) (first_is (goal.at.returns c).After-start_cells)) e.0 e.1
+    c.fill_cells.ensures

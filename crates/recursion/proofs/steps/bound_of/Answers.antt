@@ -1,6 +1,5 @@
--- `bound_of` meets its contract, which is its code.
-use mathlib.Core.Path.{ap}
-use Prim.Native.Nat.{◌+◌, ◌*◌, ◌≤◌}
+-- One more than the quotient fits a word.
+use Prim.Native.Nat.{◌*◌, ◌≤◌}
 use native.Mathlib.Nat as N
 use native.Mathlib.Omega.{arith}
 use Rattle.rounding.proofs.Laws.{up_least}
@@ -12,6 +11,3 @@ overflow_add-result c =
     let p = c.requires in
     let m : a.s.bound * 1 ≤ a.s.bound * a.x = N.mul-le-mul_left a.s.bound p.1 in
     omega (arith, c.up.ensures, up_least a.s.bound a.x a.s.bound p.1 (omega arith), p.0)
-
-pub returns : goal.returns
-returns c = ap (λ n. n + 1) c.up.ensures

@@ -14,9 +14,9 @@ use Rattle.recursion.proofs.steps.cell_of.Goals as goal
 use Rattle.recursion.proofs.steps.cell_of.Goals.{After-nearest_over}
 
 -- the rounded magnitude is at most the sum's, which fits
-size_is : (c : After-nearest_over) → min c.nearest_over.result.size most_value ≡ near c.difference-sum.result.size c.args.x
+size_is : (c : After-nearest_over) → min c.nearest_over.result.size most_value ≡ near c.difference.result.size c.args.x
 size_is c =
-    let d = c.difference-sum in
+    let d = c.difference in
     let x = c.args.x in
     let p = c.requires in
     let m : d.result.size * 1 ≤ d.result.size * x = N.mul-le-mul_left d.result.size p.2 in
@@ -25,7 +25,7 @@ size_is c =
 
 pub returns : goal.returns
 returns c =
-    let d = c.difference-sum in
+    let d = c.difference in
     let a = c.args in
     let n = c.nearest_over in
     to_z-of_z (sfits_of {w = w64} c.as_i64.type_inv)

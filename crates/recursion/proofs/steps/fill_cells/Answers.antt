@@ -1,12 +1,11 @@
 -- `fill_cells` meets its contract. The loop's invariant: the slices are filled up to `last`, and as they were beyond; the measure
 -- is how many cells are left.
-use mathlib.Core.Path.{◌≡◌, refl, ap, subst, ◌∙◌}
+use mathlib.Core.Path.{◌≡◌, ap, subst, ◌∙◌}
 use Prim.Native.Nat.{suc, ◌+◌, ◌≤◌}
 use native.Mathlib.Numerals.{add-one}
 use native.Mathlib.Omega.{arith}
 use borrow.Author.Rules.{sfits_of}
 use lib.IntN.{nat_abs}
-use lib.ListN.{length-set}
 use mir.Syntax.{w64}
 use mir.Val.{to_z, of_z}
 use mir.Facts.{to_z-of_z}
@@ -23,18 +22,14 @@ use Rattle.recursion.proofs.steps.fill_cells.Goals.{After-bound_of-bound, After-
 pub loop-last-init : goal.loop-last-init
 loop-last-init c =
     let s = c in
-    let a = s.args in (
-      omega arith,
-      refl,
-      refl,
-      filled_first a.horizon a.transform.now a.h.now a.f.now a.r.now (omega arith) (omega arith) s.requires.horizon_in_bounds.2,
-    )
+    let a = s.args in
+    filled_first a.t.horizon a.t.d.now a.t.h.now a.f.now a.r.now (omega arith) (omega arith) s.requires.horizon_in_bounds.2
 
 pub sums-s-requires : goal.sums-s-requires
 sums-s-requires c =
     let s = c in
     let a = s.args in
-    let l = c.loop-last in record { transform_fits = s.requires.transform_fits; cells_fit = (filled_known a.horizon a.transform.now a.h.now a.f.now a.r.now l.f l.r l.last l.invariant.3 (omega arith) (omega arith), omega arith); places_of = s.requires.places_of }
+    let l = c.loop-last in record { transform_fits = s.requires.transform_fits; cells_fit = (filled_known a.t.horizon a.t.d.now a.t.h.now a.f.now a.r.now l.f l.r l.last l.invariant (omega arith) (omega arith), omega arith); places_of = s.requires.places_of }
 
 -- the sums for the next cell fit
 fit : (c : After-sums-s) →
@@ -43,23 +38,23 @@ fit c =
     let s = c in
     let a = s.args in
     let l = c.loop-last in
-    sums_fit a.transform.now a.h.now l.f l.r l.last a.horizon (suc l.last) c.sums-s.result s.requires.transform_fits (omega arith) c.sums-s.ensures
+    sums_fit a.t.d.now a.t.h.now l.f l.r l.last a.t.horizon (suc l.last) c.sums-s.result s.requires.transform_fits (omega arith) c.sums-s.ensures
 
 pub bound_of-bound-requires : goal.bound_of-bound-requires
 bound_of-bound-requires c =
     ((fit c).2, omega arith)
 
 -- R and f of the next cell
-bound_is : (c : After-bound_of-bound) → c.bound_of-bound.result ≡ (cell_of c.args.horizon c.args.transform.now c.args.h.now c.args.f.now c.args.r.now (suc c.loop-last.last)).R
+bound_is : (c : After-bound_of-bound) → c.bound_of-bound.result ≡ (cell_of c.args.t.horizon c.args.t.d.now c.args.t.h.now c.args.f.now c.args.r.now (suc c.loop-last.last)).R
 bound_is c =
     let a = c.args in
     let l = c.loop-last in
     let s = c.sums-s in
     c.bound_of-bound.ensures
     ∙ ap (λ x. up s.result.bound x + 1) (add-one l.last)
-    ∙ next_R a.horizon a.transform.now a.h.now a.f.now a.r.now l.f l.r l.last l.invariant.3 s.result (omega arith) s.ensures
+    ∙ next_R a.t.horizon a.t.d.now a.t.h.now a.f.now a.r.now l.f l.r l.last l.invariant s.result (omega arith) s.ensures
 
-cell_is : (c : After-cell_of-cell) → to_z w64 (of_z w64 c.cell_of-cell.result) ≡ (cell_of c.args.horizon c.args.transform.now c.args.h.now c.args.f.now c.args.r.now (suc c.loop-last.last)).f
+cell_is : (c : After-cell_of-cell) → to_z w64 (of_z w64 c.cell_of-cell.result) ≡ (cell_of c.args.t.horizon c.args.t.d.now c.args.t.h.now c.args.f.now c.args.r.now (suc c.loop-last.last)).f
 cell_is c =
     let a = c.args in
     let l = c.loop-last in
@@ -67,7 +62,7 @@ cell_is c =
     to_z-of_z (sfits_of {w = w64} c.cell_of-cell.type_inv)
     ∙ c.cell_of-cell.ensures
     ∙ ap (λ x. nearest (sum_of s.result) x) (add-one l.last)
-    ∙ next_f a.horizon a.transform.now a.h.now a.f.now a.r.now l.f l.r l.last l.invariant.3 s.result (omega arith) s.ensures
+    ∙ next_f a.t.horizon a.t.d.now a.t.h.now a.f.now a.r.now l.f l.r l.last l.invariant s.result (omega arith) s.ensures
 
 pub returns-then-bound-gt-MOST_BOUND : goal.returns-then-bound-gt-MOST_BOUND
 returns-then-bound-gt-MOST_BOUND c =
@@ -75,7 +70,7 @@ returns-then-bound-gt-MOST_BOUND c =
     rw add-one
     (record {
       within = omega arith;
-      fit = λ y g. l.invariant.3.fit y (omega arith);
+      fit = λ y g. l.invariant.fit y (omega arith);
       wide = omega (arith, bound_is (goal.at.returns-then-bound-gt-MOST_BOUND c).After-bound_of-bound);
     })
 
@@ -84,18 +79,15 @@ cell_of-cell-requires c =
     let fits = fit (goal.at.cell_of-cell-requires c).After-sums-s in
     (fits.0, fits.1, omega arith)
 
-pub magnitude-requires : goal.magnitude-requires
-magnitude-requires c = tt
-
-pub returns-then-magnitude-gt-MOST_CELL : goal.returns-then-magnitude-gt-MOST_CELL
-returns-then-magnitude-gt-MOST_CELL c =
+pub returns-then-unsigned_abs-gt-MOST_CELL : goal.returns-then-unsigned_abs-gt-MOST_CELL
+returns-then-unsigned_abs-gt-MOST_CELL c =
     let l = c.loop-last in
     rw add-one
     (record {
       within = omega arith;
-      fit = λ y g. l.invariant.3.fit y (omega arith);
-      narrow = omega (arith, bound_is (goal.at.returns-then-magnitude-gt-MOST_CELL c).After-bound_of-bound);
-      large = omega (arith, c.magnitude.ensures, ap nat_abs (cell_is (goal.at.returns-then-magnitude-gt-MOST_CELL c).After-cell_of-cell));
+      fit = λ y g. l.invariant.fit y (omega arith);
+      narrow = omega (arith, bound_is (goal.at.returns-then-unsigned_abs-gt-MOST_CELL c).After-bound_of-bound);
+      large = omega (arith, c.unsigned_abs.ensures.value, ap nat_abs (cell_is (goal.at.returns-then-unsigned_abs-gt-MOST_CELL c).After-cell_of-cell));
     })
 
 pub loop-last-preserved : goal.loop-last-preserved
@@ -105,21 +97,17 @@ loop-last-preserved c =
     let a = start.args in
     let l = c.loop-last in
     let R_is = bound_is (goal.at.loop-last-preserved c).After-bound_of-bound in
-    let limited : CellFits (cell_of c.args.horizon c.args.transform.now c.args.h.now c.args.f.now c.args.r.now (suc l.last)) =
-    record { narrow = omega (arith, R_is); level = omega (arith, c.magnitude.ensures, ap nat_abs (cell_is (goal.at.loop-last-preserved c).After-cell_of-cell)) } in (
-      omega arith,
-      simp length-set l.invariant.1,
-      simp length-set l.invariant.2,
-      rw add-one
-          (filled_more a.horizon a.transform.now a.h.now a.f.now a.r.now l.f l.r l.last l.invariant.3
-          (to_z w64 (of_z w64 c.cell_of-cell.result)) c.bound_of-bound.result
-          (omega arith) (omega arith) (cell_is (goal.at.loop-last-preserved c).After-cell_of-cell) R_is limited),
-    )
+    let limited : CellFits (cell_of c.args.t.horizon c.args.t.d.now c.args.t.h.now c.args.f.now c.args.r.now (suc l.last)) =
+    record { narrow = omega (arith, R_is); level = omega (arith, c.unsigned_abs.ensures.value, ap nat_abs (cell_is (goal.at.loop-last-preserved c).After-cell_of-cell)) } in
+    rw add-one
+    (filled_more a.t.horizon a.t.d.now a.t.h.now a.f.now a.r.now l.f l.r l.last l.invariant
+    (to_z w64 (of_z w64 c.cell_of-cell.result)) c.bound_of-bound.result
+    (omega arith) (omega arith) (cell_is (goal.at.loop-last-preserved c).After-cell_of-cell) R_is limited)
 
 pub returns : goal.returns
 returns c =
     let s = c in
     let a = s.args in
     let l = c.loop-last in
-    let e : l.last ≡ a.horizon = omega arith in
-    subst (λ n. CellsFilled n (cell_of a.horizon a.transform.now a.h.now a.f.now a.r.now) a.f.now l.f a.r.now l.r) e l.invariant.3
+    let e : l.last ≡ a.t.horizon = omega arith in
+    subst (λ n. CellsFilled n (cell_of a.t.horizon a.t.d.now a.t.h.now a.f.now a.r.now) a.f.now l.f a.r.now l.r) e l.invariant

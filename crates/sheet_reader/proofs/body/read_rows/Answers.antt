@@ -1,77 +1,74 @@
--- `sheet_reader::body::read_rows`: the tables hold the rows that are read; one law for each way through the loop.
-use mathlib.Core.Path.{refl}
-use native.Mathlib.Omega.{arith}
+-- `sheet_reader::body::read_rows`: one law for each way through the two loops.
+use Rattle.std.proofs.Common.{ℕ, sym, ap, ◌∙◌}
+use Rattle.std.proofs.lemmas.Result.{err_from_is_err_and}
+use Rattle.std.specs.Slice.Iter.{chunks_rest, chunks_size}
+use Rattle.std.specs.declared.slice.Chunks.{Chunks}
 use Rattle.rows.specs.Read.{file_read}
-use Rattle.rows.proofs.RowsSoFar.{start, rates_long, members_long, rate_room, member_room, rate_taken_lem, member_taken_lem, at_end_lem, at_stop}
+use Rattle.rows.proofs.InRange.{out_of_range, is_in_range, rates_more, members_more}
+use Rattle.sheet_reader.proofs.Steps.{all_left, rates_end, rows_end, rate_not_taken, rate_refused, rate_added, member_not_taken, member_refused, member_added}
 use Rattle.sheet_reader.proofs.body.read_rows.Goals as goal
 
-pub loop-r-init : goal.loop-r-init
+pub loop-rate-init : goal.loop-rate-init
+loop-rate-init c =
+    let is = c.into_iter-rate-iterator.ensures.into_iter_gives in
+    let n = c.new-rows.ensures in (
+      ap (λ (x : Chunks ℕ). chunks_size x) is ∙ c.chunks-rate-items.ensures.size,
+      rw (n.rates, n.members, ap (λ (x : Chunks ℕ). chunks_rest x) is ∙ c.chunks-rate-items.ensures.rest, all_left),
+    )
+
+pub loop-member-init : goal.loop-member-init
+loop-member-init c =
+    let is = c.into_iter-member-iterator.ensures.into_iter_gives in (
+      ap (λ (x : Chunks ℕ). chunks_size x) is ∙ c.chunks-member-items.ensures.size,
+      rw (ap (λ (x : Chunks ℕ). chunks_rest x) is ∙ c.chunks-member-items.ensures.rest) (c.loop-rate.invariant.1 ∙ rates_end _ _ _ _ _ c.in-None.ensures.steps.1.0),
+    )
+
+pub returns-in_default : goal.returns-in_default
 unfolding file_read
-loop-r-init c = rw c.without_rows-blank.ensures (start _ _ refl)
+returns-in_default c =
+    let i = c.loop-rate.invariant in
+    let s = c.in-Some.ensures.steps in
+    rw (c.not_taken.ensures, i.1, rate_not_taken _ _ _ _ _ _ _ s.1.0 (rw i.0 at s.1.1) s.1.2 c.in_default.ensures)
 
-pub row_step-requires : goal.row_step-requires
-row_step-requires c = (c.loop-r.invariant.few_rates, c.loop-r.invariant.few_members)
+pub returns-in_err-add_rate : goal.returns-in_err-add_rate
+unfolding file_read
+returns-in_err-add_rate c =
+    let i = c.loop-rate.invariant in
+    let s = c.in-Some.ensures.steps in
+    let out = out_of_range _ _ (sym c.add_rate.ensures.answer ∙ c.in_err-add_rate.was) in
+    let p = err_from_is_err_and c.from_residual.result c.from_residual.ensures.1 in
+    rw (p.1, p.2, out.1, i.1, rate_refused _ _ _ _ _ _ _ s.1.0 (rw i.0 at s.1.1) s.1.2 _ c.in-Some-rate_row.ensures out.0)
 
-pub offset_bounds-rate_rows-rated : goal.offset_bounds-rate_rows-rated
-offset_bounds-rate_rows-rated c = omega (arith, c.loop-r.invariant.few_rates)
+pub loop-rate-preserved : goal.loop-rate-preserved
+loop-rate-preserved c =
+    let i = c.loop-rate.invariant in
+    let s = c.in-Some.ensures.steps in
+    let fits = is_in_range _ _ (sym c.add_rate.ensures.answer ∙ c.in_ok-add_rate.was) in
+    (s.0 ∙ i.0, rw (c.add_rate.ensures.rates ∙ rates_more _ _ fits, c.add_rate.ensures.members, i.1) (rate_added _ _ _ _ _ _ _ s.1.0 (rw i.0 at s.1.1) s.1.2 _ c.in-Some-rate_row.ensures fits))
 
-pub bounds-rate_rows-rated : goal.bounds-rate_rows-rated
-bounds-rate_rows-rated c =
-    let l = c.loop-r in
-    let w = rw c.in-Rate.is at c.row_step.ensures in
-    omega (arith, rate_room _ _ _ _ _ _ _ _ l.invariant _ w.takes, rates_long _ _ _ _ _ _ _ _ l.invariant)
+pub returns-in_default-member_row : goal.returns-in_default-member_row
+unfolding file_read
+returns-in_default-member_row c =
+    let i = c.loop-member.invariant in
+    let s = c.in-Some-member.ensures.steps in
+    rw (c.not_taken-in_default-member_row.ensures, i.1, member_not_taken _ _ _ _ _ _ s.1.0 (rw i.0 at s.1.1) s.1.2 c.in_default-member_row.ensures)
 
-pub overflow_add-rated : goal.overflow_add-rated
-overflow_add-rated c = omega (arith, c.loop-r.invariant.few_rates)
+pub returns-in_err-add_member : goal.returns-in_err-add_member
+unfolding file_read
+returns-in_err-add_member c =
+    let i = c.loop-member.invariant in
+    let s = c.in-Some-member.ensures.steps in
+    let out = out_of_range _ _ (sym c.add_member.ensures.answer ∙ c.in_err-add_member.was) in
+    let p = err_from_is_err_and c.from_residual-in_err-add_member.result c.from_residual-in_err-add_member.ensures.1 in
+    rw (p.1, p.2, out.1, i.1, member_refused _ _ _ _ _ _ s.1.0 (rw i.0 at s.1.1) s.1.2 _ c.in-Some-member_row.ensures out.0)
 
-pub overflow_add-least : goal.overflow_add-least
-overflow_add-least c =
-    let w = rw c.in-Rate.is at c.row_step.ensures in
-    omega (arith, rate_room _ _ _ _ _ _ _ _ c.loop-r.invariant _ w.takes)
+pub loop-member-preserved : goal.loop-member-preserved
+loop-member-preserved c =
+    let i = c.loop-member.invariant in
+    let s = c.in-Some-member.ensures.steps in
+    let fits = is_in_range _ _ (sym c.add_member.ensures.answer ∙ c.in_ok-add_member.was) in
+    (s.0 ∙ i.0, rw (c.add_member.ensures.rates, c.add_member.ensures.members ∙ members_more _ _ fits, i.1) (member_added _ _ _ _ _ _ s.1.0 (rw i.0 at s.1.1) s.1.2 _ c.in-Some-member_row.ensures fits))
 
-pub loop-r-smaller-in-Rate : goal.loop-r-smaller-in-Rate
-loop-r-smaller-in-Rate c =
-    let w = rw c.in-Rate.is at c.row_step.ensures in
-    omega (arith, rate_room _ _ _ _ _ _ _ _ c.loop-r.invariant _ w.takes)
-
-pub loop-r-preserved-in-Rate : goal.loop-r-preserved-in-Rate
-loop-r-preserved-in-Rate c =
-    let w = rw c.in-Rate.is at c.row_step.ensures in
-    rate_taken_lem _ _ _ _ _ _ _ _ c.loop-r.invariant _ _ w.takes (w.same _)
-
-pub offset_bounds-member_rows-enrolled : goal.offset_bounds-member_rows-enrolled
-offset_bounds-member_rows-enrolled c = omega (arith, c.loop-r.invariant.few_members)
-
-pub bounds-member_rows-enrolled : goal.bounds-member_rows-enrolled
-bounds-member_rows-enrolled c =
-    let l = c.loop-r in
-    let w = rw c.in-Member.is at c.row_step.ensures in
-    omega (arith, member_room _ _ _ _ _ _ _ _ l.invariant _ w.takes, members_long _ _ _ _ _ _ _ _ l.invariant)
-
-pub overflow_add-enrolled : goal.overflow_add-enrolled
-overflow_add-enrolled c = omega (arith, c.loop-r.invariant.few_members)
-
-pub overflow_add-lives : goal.overflow_add-lives
-overflow_add-lives c =
-    let w = rw c.in-Member.is at c.row_step.ensures in
-    omega (arith, member_room _ _ _ _ _ _ _ _ c.loop-r.invariant _ w.takes)
-
-pub loop-r-smaller : goal.loop-r-smaller
-loop-r-smaller c =
-    let w = rw c.in-Member.is at c.row_step.ensures in
-    omega (arith, member_room _ _ _ _ _ _ _ _ c.loop-r.invariant _ w.takes)
-
-pub loop-r-preserved : goal.loop-r-preserved
-loop-r-preserved c =
-    let w = rw c.in-Member.is at c.row_step.ensures in
-    member_taken_lem _ _ _ _ _ _ _ _ c.loop-r.invariant _ _ w.takes (w.same _)
-
-pub returns-in-End : goal.returns-in-End
-returns-in-End c =
-    let w = rw c.in-End.is at c.row_step.ensures in
-    at_end_lem _ _ _ _ _ _ _ _ c.loop-r.invariant _ (w.same _)
-
-pub returns-in-Stopped : goal.returns-in-Stopped
-returns-in-Stopped c =
-    let w = rw c.in-Stopped.is at c.row_step.ensures in
-    at_stop _ _ _ _ _ _ _ _ c.loop-r.invariant _ _ _ (w.same _) c.without_rows.ensures
+pub returns : goal.returns
+unfolding file_read
+returns c = rw (c.read.ensures, c.loop-member.invariant.1, rows_end _ _ _ _ c.in-None-member.ensures.steps.1.0)

@@ -1,13 +1,16 @@
--- `sheet_reader::body::read_rows`: the tables hold the rows that are read; one law for each way through the loop.
-use mathlib.Core.List.{[]}
-use Prim.Native.Nat.{◌+◌, ◌-◌}
-use Rattle.fund.specs.Limits.{most_rates, most_members}
-use Rattle.rows.proofs.RowsSoFar.{RowsSoFar}
+-- `sheet_reader::body::read_rows`: the reading is that of the rows that are left, behind the rows so far.
+use Rattle.std.proofs.Common.{◌≡◌, []}
+use Rattle.std.specs.Slice.Iter.{chunks_rest, chunks_size}
+use Rattle.fund.specs.SheetCells.{rate_width, member_width}
+use Rattle.fund.specs.Sheets.{sheet_rows}
 use Rattle.sheet_reader.specs.Rows.{rows_from}
+use Rattle.sheet_reader.proofs.Steps.{rates_left, members_left}
 use Rattle.sheet_reader.proofs.body.read_rows.Given as goal
 
-abbrev pub invariant-loop-r : goal.invariant-loop-r
-invariant-loop-r l = RowsSoFar (rows_from l.rates l.members l.fund [] []) (rows_from l.rates l.members l.fund) l.rate_rows l.member_rows l.rated l.enrolled l.least l.lives
+abbrev pub invariant-loop-rate : goal.invariant-loop-rate
+invariant-loop-rate l =
+    (chunks_size l.rate-iterator ≡ rate_width) × (rows_from l.fund [] [] (sheet_rows l.rates l.members) ≡ rows_from l.fund l.rows.rates.items l.rows.members.items (rates_left (chunks_rest l.rate-iterator) l.members))
 
-abbrev pub decreases-loop-r : goal.decreases-loop-r
-decreases-loop-r l = most_rates + most_members - (l.rated + l.enrolled)
+abbrev pub invariant-loop-member : goal.invariant-loop-member
+invariant-loop-member l =
+    (chunks_size l.member-iterator ≡ member_width) × (rows_from l.fund [] [] (sheet_rows l.rates l.members) ≡ rows_from l.fund l.rows.rates.items l.rows.members.items (members_left (chunks_rest l.member-iterator)))

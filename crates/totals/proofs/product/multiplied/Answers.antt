@@ -4,24 +4,24 @@ use Rattle.totals.proofs.PointSums.{at_line, none_left}
 use Rattle.totals.proofs.PointProduct.{ProductSoFar, product_first, product_more, product_asks, product_all}
 use Rattle.totals.proofs.product.multiplied.Goals as goal
 
-pub loop-k-init : goal.loop-k-init
-loop-k-init c = (omega arith, product_first c.args.points.now c.args.size c.requires)
+pub loop-p-init : goal.loop-p-init
+loop-p-init c = product_first c.args.points.now c.args.size c.requires
 
 pub product_step-product-requires : goal.product_step-product-requires
 product_step-product-requires c =
     let ps = c.args.points.now in
-    let l = c.loop-k in
-    product_asks ps c.args.size _ _ l.product (at_line ps l.k (λ rest. ProductSoFar ps c.args.size rest l.product) c.loop-k-test.true l.invariant.1)
+    let l = c.loop-p in
+    product_asks ps c.args.size _ _ l.product (at_line ps l.p-index (λ rest. ProductSoFar ps c.args.size rest l.product) c.loop-p-test.true l.invariant)
 
-pub loop-k-preserved : goal.loop-k-preserved
-loop-k-preserved c =
+pub loop-p-preserved : goal.loop-p-preserved
+loop-p-preserved c =
     let ps = c.args.points.now in
-    let l = c.loop-k in
-    let i = at_line ps l.k (λ rest. ProductSoFar ps c.args.size rest l.product) c.loop-k-test.true l.invariant.1 in
-    (omega arith, product_more ps c.args.size _ _ l.product i _ c.product_step-product.ensures)
+    let l = c.loop-p in
+    let i = at_line ps l.p-index (λ rest. ProductSoFar ps c.args.size rest l.product) c.loop-p-test.true l.invariant in
+    product_more ps c.args.size _ _ l.product i _ c.product_step-product.ensures
 
 pub returns : goal.returns
 returns c =
     let ps = c.args.points.now in
-    let l = c.loop-k in
-    product_all ps c.args.size l.product (none_left ps l.k (λ rest. ProductSoFar ps c.args.size rest l.product) l.invariant.0 c.loop-k-test.false l.invariant.1)
+    let l = c.loop-p in
+    product_all ps c.args.size l.product (none_left ps l.p-index (λ rest. ProductSoFar ps c.args.size rest l.product) (omega arith) c.loop-p-test.false l.invariant)

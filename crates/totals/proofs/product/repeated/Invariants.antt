@@ -1,14 +1,11 @@
 -- The lives that are left, multiplied with the product so far, give the whole product.
 use mathlib.Core.Path.{◌≡◌}
 use mathlib.Core.Bool.{Bool}
-use Prim.Native.Nat.{◌≤◌}
+use Prim.Native.Nat.{◌-◌, ◌≤◌}
 use lib.ListN.{replicate}
 use Rattle.fund.specs.Recursion.{multiplied}
 use Rattle.whole.specs.Sign.{signed}
 use Rattle.totals.proofs.product.repeated.Given as goal
 
-abbrev pub invariant-loop-left : goal.invariant-loop-left
-invariant-loop-left l = (l.product ≤ l.size) × ((s : Bool) → multiplied (signed s l.product) (replicate l.left l.m) ≡ multiplied (signed s l.size) (replicate l.lives l.m))
-
-abbrev pub decreases-loop-left : goal.decreases-loop-left
-decreases-loop-left l = l.left
+abbrev pub invariant-loop-k : goal.invariant-loop-k
+invariant-loop-k l = (l.product ≤ l.size) × ((s : Bool) → multiplied (signed s l.product) (replicate (l.lives - l._k) l.m) ≡ multiplied (signed s l.size) (replicate l.lives l.m))

@@ -10,18 +10,17 @@ use Rattle.widths.specs.AddedTerms.{add_d, times}
 use Rattle.widths.specs.Times.{size_d_times}
 use Rattle.widths.specs.PlacedTerms.{replaced_nothing, replaced_zero, replaced_beyond, replaced_here, replaced_size}
 use Rattle.transform.proofs.terms.add_replaced_term.Goals as goal
-use Rattle.transform.proofs.terms.add_replaced_term.Goals.{Else-horizon-k}
+use Rattle.transform.proofs.terms.add_replaced_term.Goals.{Else-horizon-k, then-w-eq0-via-then-w-eq0, then-w-eq0-via-else-w-eq0+then-k-eq0, then-w-eq0-via-else-w-eq0+else-k-eq0+then-horizon-k}
 
 pub returns-then-w-eq0 : goal.returns-then-w-eq0
-returns-then-w-eq0 c = let a = c.args in replaced_nothing a.horizon a.w a.k a.lives c.if-w-eq0.true a.transform.now
-
-pub returns-then-k-eq0 : goal.returns-then-k-eq0
 unfolding add_d times
-returns-then-k-eq0 c = let a = c.args in rw (replaced_zero a.horizon a.w a.k c.if-k-eq0.true)
-
-pub returns-then-horizon-k : goal.returns-then-horizon-k
-unfolding add_d times
-returns-then-horizon-k c = let a = c.args in rw (replaced_beyond a.horizon a.w a.k c.if-horizon-k.true)
+returns-then-w-eq0 c =
+    let a = c.args in
+    elim c.then-w-eq0.branch [
+      | then-w-eq0-via-then-w-eq0 w ↦ replaced_nothing a.horizon a.w a.k a.lives w.if-w-eq0.true a.transform.now
+      | then-w-eq0-via-else-w-eq0+then-k-eq0 w ↦ rw (replaced_zero a.horizon a.w a.k w.if-k-eq0.true)
+      | then-w-eq0-via-else-w-eq0+else-k-eq0+then-horizon-k w ↦ rw (replaced_beyond a.horizon a.w a.k w.if-horizon-k.true)
+    ]
 
 here : (c : Else-horizon-k) → let a = c.args in (0 < a.k) × (a.k ≤ a.horizon) × (a.w * a.k ≤ 5000000000000 * 4095)
 here c =

@@ -35,14 +35,11 @@ add_at-requires c =
     let l = c.loop-l in
     let a = c.args in (
       l.invariant.1,
-      c.loop-l-test.true,
+      omega arith,
       ap (λ r. get_or r l.l 0) l.invariant.2,
       turn_room (λ l. times a.p.lives (row_terms a.horizon a.p.life a.n l)) (λ l. times a.p.lives (terms_at a.horizon a.p.life a.n l))
           (times_goes a.p.lives (row_terms a.horizon a.p.life a.n) (terms_at a.horizon a.p.life a.n) (row_goes a.horizon a.p.life a.n)) l.invariant.0 (omega arith),
     )
-
-pub overflow_add-l : goal.overflow_add-l
-overflow_add-l c = omega (arith, in_row (goal.at.overflow_add-l c).In-loop-l)
 
 pub loop-l-preserved : goal.loop-l-preserved
 loop-l-preserved c =

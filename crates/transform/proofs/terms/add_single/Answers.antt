@@ -26,9 +26,6 @@ next_row-next-requires c =
     let v = c.loop-n.invariant in
     (v.1.limited v.2, omega (arith, v.3, c.loop-n-test.true), v.4)
 
-pub overflow_add-n : goal.overflow_add-n
-overflow_add-n c = let v = c.loop-n.invariant in omega arith
-
 pub add_row-requires : goal.add_row-requires
 add_row-requires c =
     let v = c.loop-n.invariant in

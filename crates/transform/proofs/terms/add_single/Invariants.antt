@@ -1,7 +1,7 @@
 -- After n turns the row is row n, and the terms of the rows up to n are added.
 use mathlib.Core.Path.{◌≡◌}
 use mathlib.Core.Bool.{true}
-use Prim.Native.Nat.{◌-◌, ◌≤◌}
+use Prim.Native.Nat.{◌≤◌}
 use Rattle.fund.specs.Folding.{single}
 use Rattle.fund.specs.Transform.{row as row_of, single_terms}
 use Rattle.widths.specs.Lives.{InRange}
@@ -16,6 +16,3 @@ invariant-loop-n l =
     × (single l.p.life ≡ true)
     × (l.order ≤ 12)
     × (l.row ≡ row_of l.p.life l.n)
-
-abbrev pub decreases-loop-n : goal.decreases-loop-n
-decreases-loop-n l = l.order - l.n

@@ -3,6 +3,6 @@ use Rattle.std.proofs.Common.{arith}
 use Rattle.fund.specs.Reading.{header_lines}
 use Rattle.rows.proofs.so_far.RowsSoFar.line.Goals as goal
 
-pub returns : goal.returns
+pub returns-clause-value : goal.returns-clause-value
 unfolding header_lines
-returns c = omega arith
+returns-clause-value c = omega arith
