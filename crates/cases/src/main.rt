@@ -7,9 +7,10 @@
 mod answers;
 
 ghost use Rattle.std.specs.Prelude.{◌≡◌, ◌≤◌, length, take};
+ghost use Rattle.input.specs.Input.{size_of};
 
 use fund_printing::MOST_BYTES;
-use spelling::Argument;
+use input::ReadFailed;
 use std::io::{Print, Read};
 
 const HEAD: usize = 37;
@@ -20,9 +21,16 @@ fn write(rt: &impl Print, text: &[u8]) -> bool {
 
 // The number that some digits spell.
 fn number_of(digits: &[u8]) -> u64 {
-    match spelling::level_of(digits) {
-        Argument::Level(value) => value,
-        Argument::Misspelled => u64::MAX,
+    spelling::level_of(digits).unwrap_or(u64::MAX)
+}
+
+// How many bytes were there, also where a read failed behind them.
+fn size_of(read: Result<usize, ReadFailed>) -> usize
+    ensures { result ≡ size_of read }
+{
+    match read {
+        Ok(size) => size,
+        Err(failed) => failed.size,
     }
 }
 
@@ -34,7 +42,7 @@ fn read_part(reader: &mut impl Read, buffer: &mut [u8], digits: &[u8]) -> usize
     if buffer.len() < size {
         return 0;
     }
-    input::read_bytes(Some(reader), &mut buffer[..size]).size
+    size_of(input::read_bytes(Some(reader), &mut buffer[..size]))
 }
 
 // Writes the answer of a case; whether its kind is known and all was written.
@@ -63,7 +71,7 @@ fn next_case(
     third: &mut [u8],
 ) -> bool {
     let mut head = [0u8; HEAD];
-    if input::read_bytes(Some(&mut *reader), &mut head).size < HEAD {
+    if size_of(input::read_bytes(Some(&mut *reader), &mut head)) < HEAD {
         return false;
     }
     let first_size = read_part(reader, first, &head[2..8]);
@@ -85,8 +93,9 @@ fn main(rt: HostRuntime) {
     let mut first = [0u8; MOST_BYTES];
     let mut second = [0u8; MOST_BYTES];
     let mut third = [0u8; MOST_BYTES];
-    let mut turns = u64::MAX;
-    while turns > 0 && next_case(&rt, &mut reader, &mut first, &mut second, &mut third) {
-        turns -= 1;
+    for _ in 0..u64::MAX {
+        if !next_case(&rt, &mut reader, &mut first, &mut second, &mut third) {
+            return;
+        }
     }
 }

@@ -1,28 +1,31 @@
 -- What the public calls leave, as an outcome.
-use Rattle.std.specs.Prelude.{◌≡◌, ◌&&◌, List, [], ℕ, zero, suc, ◌+◌, ◌-◌, ◌≤◌, leb, ℤ, length, get_or, take, drop, if◌then◌else◌, None, Option, Some}
+use Rattle.std.specs.Prelude.{◌≡◌, ◌&&◌, List, [], ℕ, zero, suc, ◌+◌, ◌-◌, ◌≤◌, leb, ℤ, length, get_or, take, drop, if◌then◌else◌, None, Option, Some, Result}
 use Rattle.fund.specs.Refusals.{number_in, place_in}
+use Rattle.fund.specs.declared.Cells.{Cells}
 use Rattle.pricing.specs.declared.Priced.{Priced}
+use Rattle.pricing.specs.declared.NotPriced.{NotPriced}
+use Rattle.pricing.specs.Priced.{verdict_in, start_in, end_in, figures_in, horizon_of, quantile_told}
 use Rattle.miguepo.specs.Bits.{read_signed}
 use Rattle.claims.specs.Demands.{Received}
 
--- The bytes from start to end, and none where these lie outside the text.
-abbrev pub handed : List ℕ → Priced → List ℕ
-handed text p = if leb p.start p.end && leb p.end (length text) then take (p.end - p.start) (drop p.start text) else []
+-- The bytes from start to end, and none where these lie outside the text, or of a fund that is priced.
+abbrev pub handed : List ℕ → Result Priced NotPriced → List ℕ
+handed text p = if leb (start_in p) (end_in p) && leb (end_in p) (length text) then take (end_in p - start_in p) (drop (start_in p) text) else []
 
-abbrev pub priced : List ℕ → Priced → List ℤ → List ℕ → List ℤ → List ℕ → List ℤ → Received
-priced text p d h f r s =
+abbrev pub priced : List ℕ → Result Priced NotPriced → Cells → Received
+priced text p c =
     record {
-      number = number_in p.verdict;
-      place = place_in p.verdict;
+      number = number_in (verdict_in p);
+      place = place_in (verdict_in p);
       line = handed text p;
-      horizon = p.horizon;
-      figures = p.figures;
-      quantile = p.quantile;
-      D = d;
-      H = h;
-      f = f;
-      R = r;
-      F = s;
+      horizon = horizon_of p;
+      figures = figures_in p;
+      quantile = quantile_told p;
+      D = c.transform.now;
+      H = c.h.now;
+      f = c.f.now;
+      R = c.r.now;
+      F = c.sums.now;
     }
 
 -- The answer at a level, from the two fields that tell it.
@@ -54,3 +57,6 @@ hosted text result d h f r s =
       R = r;
       F = s;
     }
+
+abbrev pub hosted_cells : List ℕ → List ℕ → Cells → Received
+hosted_cells text result c = hosted text result c.transform.now c.h.now c.f.now c.r.now c.sums.now

@@ -1,9 +1,9 @@
 // What a customer may hold us to where two fund files are compared.
 ghost use Rattle.std.specs.Prelude.{◌≡◌};
-ghost use Rattle.valuation.specs.Valued.{lengths};
+ghost use Rattle.fund.specs.Cells.{lengths};
 ghost use Rattle.moves.specs.Differences.{differences, file_in};
 ghost use Rattle.moves.specs.Move.{moved_of};
-ghost use Rattle.claims.specs.Calls.{priced, ResultStruct, hosted};
+ghost use Rattle.claims.specs.Calls.{priced, ResultStruct, hosted_cells};
 ghost use Rattle.claims.specs.Comparison.{ComparesPlainly, PrintsMove, comparison_read, ComparisonStruct};
 
 use comparison::Compared;
@@ -16,38 +16,22 @@ pub fn claimed_comparison(
     old: &[u8],
     new: &[u8],
     level: u64,
-    old_transform: &mut [i64],
-    old_h: &mut [u64],
-    old_f: &mut [i64],
-    old_r: &mut [u64],
-    old_sums: &mut [i64],
-    new_transform: &mut [i64],
-    new_h: &mut [u64],
-    new_f: &mut [i64],
-    new_r: &mut [u64],
-    new_sums: &mut [i64],
+    old_cells: &mut Cells,
+    new_cells: &mut Cells,
 ) -> Compared
     ensures { ComparesPlainly old.now new.now level
-        (lengths old_transform.old old_h.old old_f.old old_r.old old_sums.old)
-        (lengths new_transform.old new_h.old new_f.old new_r.old new_sums.old)
-        (priced old.now result.old old_transform.new old_h.new old_f.new old_r.new old_sums.new)
-        (priced new.now result.new new_transform.new new_h.new new_f.new new_r.new new_sums.new)
+        (lengths old_cells.old)
+        (lengths new_cells.old)
+        (priced old.now result.old old_cells.new)
+        (priced new.now result.new new_cells.new)
         result.comparison }
 {
     comparison::compare(
         old,
         new,
         level,
-        old_transform,
-        old_h,
-        old_f,
-        old_r,
-        old_sums,
-        new_transform,
-        new_h,
-        new_f,
-        new_r,
-        new_sums,
+        old_cells,
+        new_cells,
     )
 }
 
@@ -56,49 +40,33 @@ pub fn claimed_host_comparison(
     old: &[u8],
     new: &[u8],
     level: u64,
-    old_transform: &mut [i64],
-    old_h: &mut [u64],
-    old_f: &mut [i64],
-    old_r: &mut [u64],
-    old_sums: &mut [i64],
-    new_transform: &mut [i64],
-    new_h: &mut [u64],
-    new_f: &mut [i64],
-    new_r: &mut [u64],
-    new_sums: &mut [i64],
+    old_cells: &mut Cells,
+    new_cells: &mut Cells,
     old_result: &mut [u64; miguepo::FIELDS],
     new_result: &mut [u64; miguepo::FIELDS],
     comparison: &mut [u64; miguepo_comparison::COMPARISON_FIELDS],
 )
     ensures compares_plainly { ComparesPlainly old.now new.now level
-        (lengths old_transform.old old_h.old old_f.old old_r.old old_sums.old)
-        (lengths new_transform.old new_h.old new_f.old new_r.old new_sums.old)
-        (hosted old.now old_result.new old_transform.new old_h.new old_f.new old_r.new old_sums.new)
-        (hosted new.now new_result.new new_transform.new new_h.new new_f.new new_r.new new_sums.new)
+        (lengths old_cells.old)
+        (lengths new_cells.old)
+        (hosted_cells old.now old_result.new old_cells.new)
+        (hosted_cells new.now new_result.new new_cells.new)
         (comparison_read comparison.new) }
     ensures result_struct { ResultStruct old.now old_result.new
-        (hosted old.now old_result.new old_transform.new old_h.new old_f.new old_r.new old_sums.new) }
+        (hosted_cells old.now old_result.new old_cells.new) }
     ensures result_struct_2 { ResultStruct new.now new_result.new
-        (hosted new.now new_result.new new_transform.new new_h.new new_f.new new_r.new new_sums.new) }
+        (hosted_cells new.now new_result.new new_cells.new) }
     ensures comparison_struct { ComparisonStruct
-        (hosted old.now old_result.new old_transform.new old_h.new old_f.new old_r.new old_sums.new)
-        (hosted new.now new_result.new new_transform.new new_h.new new_f.new new_r.new new_sums.new)
+        (hosted_cells old.now old_result.new old_cells.new)
+        (hosted_cells new.now new_result.new new_cells.new)
         comparison.new }
 {
     miguepo_comparison::miguepo_compare(
         old,
         new,
         level,
-        old_transform,
-        old_h,
-        old_f,
-        old_r,
-        old_sums,
-        new_transform,
-        new_h,
-        new_f,
-        new_r,
-        new_sums,
+        old_cells,
+        new_cells,
         old_result,
         new_result,
         comparison,

@@ -13,84 +13,84 @@ ghost use Rattle.std.specs.Prelude.{◌≡◌};
 ghost use Rattle.fund.specs.Reading.{FundFile, Reading, read, reading};
 ghost use Rattle.laws.specs.Ranges.{FundOk};
 ghost use Rattle.rows.specs.Read.{file_read};
-ghost use Rattle.valuation.specs.Valued.{lengths};
+ghost use Rattle.fund.specs.Cells.{lengths};
 ghost use Rattle.claims.specs.Demands.{Demands};
 ghost use Rattle.claims.specs.Listing.{Prints, PrintsRead, PrintsFile};
-ghost use Rattle.claims.specs.Calls.{handed, priced, ResultStruct, hosted};
+ghost use Rattle.pricing.specs.Priced.{found_in};
+ghost use Rattle.claims.specs.Calls.{handed, priced, ResultStruct, hosted_cells};
 ghost use Rattle.claims.specs.WrittenOut.{PricedWrittenOut};
 
 use fund_printing::{Asked, PrintedInput};
 use input::Source;
-use pricing::Priced;
-use rows::FileRead;
+use fund::{Cells, Refused};
+use pricing::{NotPriced, Priced};
+use rows::{FileRead, Rows};
 use std::io::{Empty, Read};
 
 // Demands 1, 2 and 3 of the pricing call, what its answer at the level says, and that a file is priced as the file with its member lines written out.
 pub fn claimed_price(
     file: &[u8],
     level: u64,
-    transform: &mut [i64],
-    h: &mut [u64],
-    f: &mut [i64],
-    r: &mut [u64],
-    sums: &mut [i64],
-) -> Priced
+    cells: &mut Cells,
+) -> Result<Priced, NotPriced>
     ensures demands { Demands file.now (reading file.now) level
-        (lengths transform.old h.old f.old r.old sums.old)
-        (priced file.now result transform.new h.new f.new r.new sums.new) }
+        (lengths cells.old)
+        (priced file.now result cells.new) }
     ensures priced_written_out { PricedWrittenOut file.now level
-        (lengths transform.old h.old f.old r.old sums.old)
-        (priced file.now result transform.new h.new f.new r.new sums.new) }
+        (lengths cells.old)
+        (priced file.now result cells.new) }
 {
-    pricing::price(file, level, transform, h, f, r, sums)
+    pricing::price(file, level, cells)
 }
 
-// The same of what was read of a text, where a reading of it, whose funds are in their ranges, gives it.
+// The same of what was read of a text, where the funds that a reading gives are in their ranges.
 pub fn claimed_price_read(
     text: &[u8],
-    found: FileRead,
+    found: Result<Rows<'_>, Refused>,
     level: u64,
-    transform: &mut [i64],
-    h: &mut [u64],
-    f: &mut [i64],
-    r: &mut [u64],
-    sums: &mut [i64],
-) -> Priced
-    ensures { (x : Reading) → found ≡ file_read x → ((fund : FundFile) → x ≡ read fund → FundOk fund) → Demands text.now x level
-        (lengths transform.old h.old f.old r.old sums.old)
-        (priced text.now result transform.new h.new f.new r.new sums.new) }
+    cells: &mut Cells,
+) -> Result<Priced, NotPriced>
+    ensures { ((fund : FundFile) → found_in found.entry ≡ read fund → FundOk fund) → Demands text.now (found_in found.entry) level
+        (lengths cells.old)
+        (priced text.now result cells.new) }
 {
-    pricing::price_read(text, found, level, transform, h, f, r, sums)
+    pricing::price_read(text, found, level, cells)
+}
+
+// What was read, as rows: those of the reading.
+pub fn claimed_rows(found: &Result<FileRead, Refused>) -> Result<Rows<'_>, Refused>
+    ensures { (x : Reading) → found.now ≡ file_read x → found_in result ≡ x }
+{
+    pricing::rows_of(found)
 }
 
 // The line that the host is handed is that of the outcome.
-pub fn claimed_line<'a>(file: &'a [u8], priced: Priced) -> &'a [u8]
-    ensures { result.now ≡ handed file.now priced }
+pub fn claimed_line<'a>(
+    file: &'a [u8],
+    answer: Result<Priced, NotPriced>,
+) -> &'a [u8]
+    ensures { result.now ≡ handed file.now answer }
 {
-    pricing::line(file, priced)
+    pricing::line(file, answer)
 }
 
 // The same of the call for C, and each field of its struct.
 pub fn claimed_host(
     file: &[u8],
     level: u64,
-    transform: &mut [i64],
-    h: &mut [u64],
-    f: &mut [i64],
-    r: &mut [u64],
-    sums: &mut [i64],
+    cells: &mut Cells,
     res: &mut [u64; miguepo::FIELDS],
 )
     ensures demands { Demands file.now (reading file.now) level
-        (lengths transform.old h.old f.old r.old sums.old)
-        (hosted file.now res.new transform.new h.new f.new r.new sums.new) }
+        (lengths cells.old)
+        (hosted_cells file.now res.new cells.new) }
     ensures priced_written_out { PricedWrittenOut file.now level
-        (lengths transform.old h.old f.old r.old sums.old)
-        (hosted file.now res.new transform.new h.new f.new r.new sums.new) }
+        (lengths cells.old)
+        (hosted_cells file.now res.new cells.new) }
     ensures result_struct { ResultStruct file.now res.new
-        (hosted file.now res.new transform.new h.new f.new r.new sums.new) }
+        (hosted_cells file.now res.new cells.new) }
 {
-    miguepo::miguepo_price(file, level, transform, h, f, r, sums, res);
+    miguepo::miguepo_price(file, level, cells, res);
 }
 
 // What is asked of a file: its listing, or the line of its answer at a level.

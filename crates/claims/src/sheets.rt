@@ -3,19 +3,20 @@ ghost use Rattle.std.specs.Prelude.{◌≡◌};
 ghost use Rattle.fund.specs.Reading.{stopped, between};
 ghost use Rattle.fund.specs.SheetCells.{rate_row_of, member_row_of};
 ghost use Rattle.fund.specs.Sheets.{sheet_reading};
-ghost use Rattle.valuation.specs.Valued.{lengths};
+ghost use Rattle.fund.specs.Cells.{lengths};
 ghost use Rattle.lines.specs.Header.{HeaderRead};
 ghost use Rattle.rows.specs.Rows.{rate_fits, member_fits};
 ghost use Rattle.rows.specs.Read.{file_read};
 ghost use Rattle.claims.specs.Demands.{Demands};
 ghost use Rattle.claims.specs.Listing.{PrintsAsked};
-ghost use Rattle.claims.specs.Calls.{priced, ResultStruct, hosted};
+ghost use Rattle.claims.specs.Calls.{priced, ResultStruct, hosted_cells};
 ghost use Rattle.claims.specs.Sheets.{PricedAsFile};
 
 use fund::{Member, Rate, Refusal, SheetRow};
 use fund_printing::Asked;
 use lines::Header;
-use pricing::Priced;
+use fund::Cells;
+use pricing::{NotPriced, Priced};
 use rows::FileRead;
 
 // Demands 1, 2 and 3 of the pricing call on sheets, what its answer at the level says, and that sheets that are taken are priced as the file
@@ -25,20 +26,16 @@ pub fn claimed_sheets(
     rates: &[u8],
     members: &[u8],
     level: u64,
-    transform: &mut [i64],
-    h: &mut [u64],
-    f: &mut [i64],
-    r: &mut [u64],
-    sums: &mut [i64],
-) -> Priced
+    cells: &mut Cells,
+) -> Result<Priced, NotPriced>
     ensures demands { Demands header.now (sheet_reading header.now rates.now members.now) level
-        (lengths transform.old h.old f.old r.old sums.old)
-        (priced header.now result transform.new h.new f.new r.new sums.new) }
+        (lengths cells.old)
+        (priced header.now result cells.new) }
     ensures priced_as_file { PricedAsFile header.now rates.now members.now level
-        (lengths transform.old h.old f.old r.old sums.old)
-        (priced header.now result transform.new h.new f.new r.new sums.new) }
+        (lengths cells.old)
+        (priced header.now result cells.new) }
 {
-    pricing::price_sheets(header, rates, members, level, transform, h, f, r, sums)
+    pricing::price_sheets(header, rates, members, level, cells)
 }
 
 // The same of the call for C.
@@ -47,23 +44,19 @@ pub fn claimed_host_sheets(
     rates: &[u8],
     members: &[u8],
     level: u64,
-    transform: &mut [i64],
-    h: &mut [u64],
-    f: &mut [i64],
-    r: &mut [u64],
-    sums: &mut [i64],
+    cells: &mut Cells,
     res: &mut [u64; miguepo::FIELDS],
 )
     ensures demands { Demands header.now (sheet_reading header.now rates.now members.now) level
-        (lengths transform.old h.old f.old r.old sums.old)
-        (hosted header.now res.new transform.new h.new f.new r.new sums.new) }
+        (lengths cells.old)
+        (hosted_cells header.now res.new cells.new) }
     ensures priced_as_file { PricedAsFile header.now rates.now members.now level
-        (lengths transform.old h.old f.old r.old sums.old)
-        (hosted header.now res.new transform.new h.new f.new r.new sums.new) }
+        (lengths cells.old)
+        (hosted_cells header.now res.new cells.new) }
     ensures result_struct { ResultStruct header.now res.new
-        (hosted header.now res.new transform.new h.new f.new r.new sums.new) }
+        (hosted_cells header.now res.new cells.new) }
 {
-    miguepo::miguepo_price_sheets(header, rates, members, level, transform, h, f, r, sums, res);
+    miguepo::miguepo_price_sheets(header, rates, members, level, cells, res);
 }
 
 // What is asked of sheets: their listing, or the line of their answer at a level.

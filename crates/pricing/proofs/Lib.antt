@@ -1,3 +1,4 @@
+pub mod Cleared
 pub mod ValuedAnswer
 pub mod ToldAnswer
 pub mod PricedRead

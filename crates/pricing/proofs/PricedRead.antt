@@ -1,5 +1,5 @@
 -- What is answered of what a reading gives is the answer to the text (read_answer_is), so that the call on what was read meets the contract of the call on the text (prices_read).
-use Rattle.std.specs.Prelude.{◌≡◌, refl, List, ℕ, ◌≤◌, length, Result, Ok, Err}
+use Rattle.std.specs.Prelude.{◌≡◌, refl, List, ℕ, length, Result, Ok, Err}
 use Rattle.std.proofs.Common.{sym, ◌∙◌, ap, arith, le-leb}
 use lib.ListN.{length-map}
 use Rattle.arrayvec.specs.ArrayVec.{ArrayVec}
@@ -14,7 +14,9 @@ use Rattle.fund.specs.Refusals.{Lengths, matched}
 use Rattle.fund.specs.Answer.{answer_to}
 use Rattle.fund.specs.Listing.{horizon_in}
 use Rattle.laws.specs.Ranges.{FundOk}
+use Rattle.rows.specs.declared.FileRead.{FileRead}
 use Rattle.rows.specs.declared.Rows.{Rows}
+use Rattle.rows.specs.Read.{with_rows, file_read}
 use Rattle.matching.specs.Matching.{with_points, file_of, matching, matched_rows}
 use Rattle.pricing.specs.declared.Priced.{Priced}
 use Rattle.pricing.specs.declared.NotPriced.{NotPriced}
@@ -22,6 +24,19 @@ use Rattle.pricing.specs.JoinedSteps.{answer_stopped}
 use Rattle.pricing.specs.Priced.{verdict_in, left_priced, lined, horizon_with, valued_by, found_in, found_horizon, read_answer, PricesRead, Prices}
 use Rattle.pricing.proofs.ValuedAnswer.{matched_answers, valued_answers}
 use Rattle.pricing.proofs.ToldAnswer.{prices}
+
+-- ---- rows that are a reading's
+pub rows_found : (x : Reading) (f : FileRead) (r : Rows) → Ok f ≡ file_read x → r.fund ≡ f.fund → r.rates.now ≡ f.rates.items → r.members.now ≡ f.members.items → read (file_of r) ≡ x
+unfolding file_read
+rows_found (read k) f r e a b c =
+    let z : f ≡ with_rows k.header k.rates k.members = cc e in
+    rw (a, b, c) (ap (λ (g : FileRead). read (record { header = g.fund; rates = g.rates.items; members = g.members.items })) z)
+rows_found (stopped why place) f r e a b c = let z : ◌≡◌ {A = ℕ} 0 1 = cc e in absurd (omega arith)
+
+pub stop_found : (x : Reading) (e : Refused) → Err e ≡ file_read x → stopped e.why e.place ≡ x
+unfolding file_read
+stop_found (read k) e c = let z : ◌≡◌ {A = ℕ} 0 1 = cc c in absurd (omega arith)
+stop_found (stopped why place) e c = let z : e ≡ record { why = why; place = place } = cc c in ap (λ (x : Refused). stopped x.why x.place) z
 
 -- ---- what 3 to 6 answered of rows that a file may have
 stops : (ps : List ModelPoint) (v : Verdict) (e : Refused) → with_points ps v ≡ Err e → v ≡ Err e

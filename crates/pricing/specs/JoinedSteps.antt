@@ -119,9 +119,9 @@ pub told_horizon : (level X : ℕ) (F : List ℤ) (v : Verdict) → quantile_of 
 told_horizon level X F (Ok u) = refl
 told_horizon level X F (Err stop) = refl
 
-pub quantile_is : {text : List ℕ} {r : Reading} {level : ℕ} {p : Result Priced NotPriced} {c : Cells} {is : Answer} → Answers text r level p (left_priced p c) is →
+pub quantile_is : {text : List ℕ} {r : Reading} {level : ℕ} {is : Answer} (p : Result Priced NotPriced) (c : Cells) → Answers text r level p (left_priced p c) is →
     quantile_told p ≡ quantile_of level (horizon_in r) is.F is.verdict
-quantile_is {r = r} {level} {p} {c} k =
+quantile_is {r = r} {level} p c k =
     k.quantile
     ∙ ap (λ X. quantile_of level X c.sums.now (verdict_in p)) k.horizon
     ∙ told_horizon level (horizon_in r) c.sums.now (verdict_in p)

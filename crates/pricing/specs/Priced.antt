@@ -1,6 +1,6 @@
 -- What a pricing call leaves: the answer of the method; of every fund that it accepts, demand 3, what the answer at the level says of the exact
 -- distribution function, and what the gross premium covers.
-use Rattle.std.specs.Prelude.{◌≡◌, ◌&&◌, List, [], ℕ, ◌-◌, ◌≤◌, leb, ℤ, length, take, drop, if◌then◌else◌, Option, None, Result, Ok, Err}
+use Rattle.std.specs.Prelude.{◌≡◌, ◌&&◌, List, [], ℕ, ◌-◌, ◌≤◌, leb, length, take, drop, if◌then◌else◌, Option, None, Result, Ok, Err}
 use Rattle.arrayvec.specs.ArrayVec.{ArrayVec}
 use Rattle.fund.specs.declared.Cells.{Cells}
 use Rattle.fund.specs.declared.Figures.{Figures}

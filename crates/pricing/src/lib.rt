@@ -4,9 +4,11 @@
 ghost use Rattle.std.specs.Prelude.{◌≡◌, ◌≤◌, ◌-◌, length, Err};
 ghost use Rattle.fund.specs.Answer.{part};
 ghost use Rattle.fund.specs.Cells.{lengths, SameSlices};
-ghost use Rattle.fund.specs.Reading.{reading};
+ghost use Rattle.fund.specs.Quantile.{quantile};
+ghost use Rattle.fund.specs.Reading.{Reading, reading};
 ghost use Rattle.fund.specs.Sheets.{sheet_reading};
 ghost use Rattle.valuation.specs.Valued.{left_valued};
+ghost use Rattle.rows.specs.Read.{file_read};
 ghost use Rattle.pricing.specs.Priced.{left_priced, valued_of, found_in, Prices, PricesRead, line_of};
 
 use fund::{Cells, Figures, Refused};
@@ -56,6 +58,14 @@ fn valued(rows: Rows<'_>, cells: &mut Cells) -> Result<Figures, Refused>
     }
 }
 
+// The answer at the level, of the sums as they are lent.
+fn quantile_in(level: u64, horizon: usize, sums: &mut [i64]) -> Option<u64>
+    ensures same { sums.new ≡ sums.old }
+    ensures answer { result ≡ quantile level horizon sums.old }
+{
+    quantile::quantile(level, horizon, &sums[..])
+}
+
 // Prices rows that were read of a text. The part that goes with a refusal is one of the text.
 fn price_rows(
     text: &[u8],
@@ -69,7 +79,7 @@ fn price_rows(
     match valued(rows, cells) {
         Ok(figures) => {
             let horizon = rows.fund.horizon;
-            let quantile = quantile::quantile(level, horizon as usize, &cells.sums[..]);
+            let quantile = quantile_in(level, horizon as usize, cells.sums);
             Ok(Priced {
                 horizon,
                 figures,
@@ -138,7 +148,7 @@ pub fn line<'a>(file: &'a [u8], answer: Result<Priced, NotPriced>) -> &'a [u8]
     ensures { result.now ≡ line_of file.now answer }
 {
     match answer {
-        Err(stop) if stop.start <= stop.end && stop.end <= file.len() => &file[stop.start..stop.end],
-        _ => &file[0..0],
+        Ok(_) => &file[0..0],
+        Err(stop) => file.get(stop.start..stop.end).unwrap_or(&file[0..0]),
     }
 }

@@ -62,7 +62,7 @@ fn rate(x: f64) -> Option<u64>
     let mut lo = 0u64;
     let mut hi = Fund::MOST_RATE + 1;
     while lo < hi {
-        let mid = lo.midpoint(hi);
+        let mid = lo + (hi - lo) / 2;
         let quotient = mid as f64 / 1000000.0;
         if x == quotient {
             return Some(mid);

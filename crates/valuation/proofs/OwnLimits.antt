@@ -3,7 +3,6 @@
 use mathlib.Core.Path.{◌≡◌, refl, sym, ◌∙◌, ap, ap₂, subst}
 use mathlib.Core.Bool.{Bool, true, false}
 use mathlib.Core.List.{List, ◌∷◌, ◌++◌, reverse}
-use mathlib.Core.Option.{Option, none, some}
 use Prim.Native.Nat.{ℕ, zero, suc, ◌+◌, ◌<◌, ◌≤◌}
 use native.Mathlib.Omega.{arith}
 use borrow.Author.Tests.{le-ltb, ltb-false}
@@ -25,8 +24,9 @@ use Rattle.laws.specs.Answer.{fund_cell, fund_cells_are}
 use Rattle.distance.specs.Members.{Priceable}
 use Rattle.distance.specs.Widths.{f_small}
 use Rattle.widths.specs.Widths.{width_D, width_H, H_le, D_sum_le}
-use Rattle.recursion_limits.specs.declared.Recursed.{Recursed}
-use Rattle.recursion_limits.specs.declared.Recursed.TheVariants.{Done, Wide}
+use Rattle.std.specs.Prelude.{⊤, Option, Some, None, Result, Ok, Err}
+use Rattle.recursion_limits.specs.declared.Broken.{Broken}
+use Rattle.recursion_limits.specs.declared.Broken.TheVariants.{Wide}
 use Rattle.recursion_limits.specs.Limits.{most_cell, CellFits, TransformFits}
 use Rattle.recursion_limits.specs.Tests.{large}
 use Rattle.recursion_limits.proofs.TestedLimits.{tested_kept}
@@ -35,9 +35,9 @@ use Rattle.totals.specs.Table.{Members}
 use Rattle.totals.specs.Inside.{HeaderIn}
 
 -- ---- the first wide cell
-abbrev pub answer_of : Option ℕ → Recursed
-answer_of none = Done
-answer_of (some x) = Wide x
+abbrev pub answer_of : Option ℕ → Result ⊤ Broken
+answer_of None = Ok tt
+answer_of (Some x) = Err (Wide x)
 
 narrow_more : (g : ℕ → Cell) → (g 0).R ≤ most_bound → (x : ℕ) → ((k : ℕ) → k ≤ x → (g (suc k)).R ≤ most_bound) → (k : ℕ) → k ≤ suc x → (g k).R ≤ most_bound
 narrow_more g first x rest zero l = first

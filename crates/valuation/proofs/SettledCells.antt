@@ -1,9 +1,8 @@
 -- What follows the recursion of a fund: refusal 10 with its zeros (answers_wide), or cells that stand (Stands), from which the premium's sums are had (below_deductible)
 -- and the fund's figures (answers_accepted).
-use mathlib.Core.Path.{◌≡◌, refl, sym, ◌∙◌, ap, ap₂}
+use mathlib.Core.Path.{◌≡◌, refl, sym, ◌∙◌, ap, ap₂, subst}
 use mathlib.Core.Bool.{Bool, false}
 use mathlib.Core.List.{List, []}
-use mathlib.Core.Option.{Option, none, some}
 use Prim.Native.Nat.{ℕ, zero, suc, min, ◌<◌, ◌≤◌}
 use native.Mathlib.Omega.{arith}
 use lib.IntN.{ℤ, pos, nat_abs}
@@ -14,7 +13,8 @@ use Rattle.fund.specs.declared.Frequencies.{Frequencies}
 use Rattle.fund.specs.declared.Life.{Life}
 use Rattle.fund.specs.declared.ModelPoint.{ModelPoint}
 use Rattle.fund.specs.declared.Refusal.TheVariants as refusal
-use Rattle.fund.specs.declared.Verdict.TheVariants.{Accepted, Refused}
+use Rattle.std.specs.Prelude.{⊤, Option, Some, None, Result, Ok, Err, unwrap_or}
+use Rattle.fund.specs.declared.Refused.{Refused}
 use Rattle.fund.specs.Base.{table}
 use Rattle.fund.specs.Limits.{most_bound, most_load}
 use Rattle.fund.specs.Folding.{copies}
@@ -24,7 +24,7 @@ use Rattle.fund.specs.Premium.{premium, within}
 use Rattle.fund.specs.Tariff.{gross}
 use Rattle.fund.specs.Refusals.{Lengths, first, wide, refuse, valued}
 use Rattle.fund.specs.Quantile.{running_sum}
-use Rattle.fund.specs.Answer.{Answer, part, no_figures, fund_terms, fund_start, fund_cells, fund_truncation, fund_mean, fund_premium, fund_within, fund_figures, lent, refused, accepted}
+use Rattle.fund.specs.Answer.{Answer, part, fund_terms, fund_start, fund_cells, fund_truncation, fund_mean, fund_premium, fund_within, fund_figures, lent, refused, accepted}
 use Rattle.laws.specs.Accepted.{all_map, all_table, first_none, Long, long_of}
 use Rattle.laws.specs.Slices.{table_ext}
 use Rattle.laws.specs.Valued.{valued_rest}
@@ -35,25 +35,24 @@ use Rattle.widths.specs.Lives.{InRange}
 use Rattle.widths.specs.Parts.{load_part, mean_part}
 use Rattle.widths.specs.PartBounds.{mean_le, load_is}
 use Rattle.widths.specs.Sums.{total_le}
-use Rattle.recursion_limits.specs.declared.Recursed.{Recursed}
-use Rattle.recursion_limits.specs.declared.Recursed.TheVariants as recursed
+use Rattle.recursion_limits.specs.declared.Broken.{Broken}
+use Rattle.recursion_limits.specs.declared.Broken.TheVariants.{Wide}
 use Rattle.recursion_limits.specs.Limits.{most_cell}
 use Rattle.recursion.specs.Slices.{cell_in}
 use Rattle.recursion.specs.Recursion.{Left, leaves}
 use Rattle.recursion.specs.Recursion as Rec
-use Rattle.valuation.specs.declared.Valued.{Valued}
 use Rattle.valuation.specs.declared.premium.StopLoss.{StopLoss}
 use Rattle.tariff.specs.Gross.{gross_of}
 use Rattle.tariff.proofs.GrossAnswers.{gross_inside}
 use Rattle.totals.specs.declared.Totals.{Totals}
 use Rattle.totals.specs.Inside.{HeaderIn}
 use Rattle.totals.specs.Table.{Members, members_of_lem, most_mean}
-use Rattle.totals.specs.Totals.{start_lambda, LivesTotals}
+use Rattle.totals.specs.Totals.{start_lambda, LivesTotals, TotalsIn, TotalsFor}
 use Rattle.transform.specs.Transformed.{lengths_of, outcome}
 use Rattle.valuation.specs.Premium.{Cells, StopLossIs, levels}
 use Rattle.valuation.specs.Sums.{SumsFit}
-use Rattle.valuation.specs.Valued.{left_valued}
-use Rattle.valuation.specs.Steps.{ReadyFor, Ready, RecursionLeft, RecursedFor, refusal_of, centimes_in, ValuedAnswer, SettledFor, AnsweredFor}
+use Rattle.valuation.specs.Valued.{left_in}
+use Rattle.valuation.specs.Steps.{ReadyFor, Ready, RecursionLeft, RecursedFor, refusal_of, ValuedAnswer, SettledFor, AnsweredFor}
 use Rattle.valuation.proofs.OwnLimits.{answer_of, narrow_of, FundFits, recursion_is}
 
 -- a mean that the cap does not change
@@ -63,20 +62,13 @@ mean_is ms l a m h e = omega (arith, e, load_is a ms, total_le InRange (mean_par
 
 -- answers that agree field by field
 same_answer : {d d' f f' s s' : List ℤ} {h h' r r' : List ℕ} {e e' m m' w w' g g' : ℕ} {p p' : ℤ} → d ≡ d' → h ≡ h' → f ≡ f' → r ≡ r' → s ≡ s' → e ≡ e' → m ≡ m' → p ≡ p' → w ≡ w' → g ≡ g' →
-    left_valued (record { verdict = Accepted; figures = record { truncation = e; mean = m; premium = p; within = w; gross = g } }) d h f r s
-    ≡ left_valued (record { verdict = Accepted; figures = record { truncation = e'; mean = m'; premium = p'; within = w'; gross = g' } }) d' h' f' r' s'
-same_answer a b c q s x y z u g = λ i. left_valued (record { verdict = Accepted; figures = record { truncation = x i; mean = y i; premium = z i; within = u i; gross = g i } }) (a i) (b i) (c i) (q i) (s i)
+    left_in (Ok (record { truncation = e; mean = m; premium = p; within = w; gross = g })) d h f r s
+    ≡ left_in (Ok (record { truncation = e'; mean = m'; premium = p'; within = w'; gross = g' })) d' h' f' r' s'
+same_answer a b c q s x y z u g = λ i. left_in (Ok (record { truncation = x i; mean = y i; premium = z i; within = u i; gross = g i })) (a i) (b i) (c i) (q i) (s i)
 
 -- a search that found none
-none_of : {A : Type 0} (met : A → Bool) (at n : ℕ) (g : ℕ → A) → first met at (table n g) ≡ none → (x : ℕ) → x < n → met (g x) ≡ false
+none_of : {A : Type 0} (met : A → Bool) (at n : ℕ) (g : ℕ → A) → first met at (table n g) ≡ None → (x : ℕ) → x < n → met (g x) ≡ false
 none_of met at n g e x l = all_table (λ a. met a ≡ false) n g (first_none met at (table n g) e) x l
-
-abbrev answer_of_recursed : Recursed → ℕ
-answer_of_recursed recursed.Done = 0
-answer_of_recursed recursed.Short = 1
-answer_of_recursed (recursed.Outside k) = 1
-answer_of_recursed (recursed.Wide x) = 1
-answer_of_recursed (recursed.Large x) = 1
 
 module _ (fund : Fund) (count : ℕ) (ps : List ModelPoint) (t : Totals) (d : List ℤ) (h : List ℕ) (f : List ℤ) (r : List ℕ) (ns : ℕ) (k : ReadyFor fund count ps t d h (length f) (length r) ns) where
   abbrev ms : List Life
@@ -88,24 +80,27 @@ module _ (fund : Fund) (count : ℕ) (ps : List ModelPoint) (t : Totals) (d : Li
   abbrev n : Lengths
   n = lengths_of d h (length f) (length r) ns
 
+  pub in_ranges : TotalsIn fund count ps t
+  in_ranges = subst (TotalsFor fund count ps) k.known_is.inside_is k.totals_are
+
   header : HeaderIn fund
-  header = (k.totals_are.tells.yes k.verdict_is.inside_is).2
+  header = in_ranges.header
 
   members : Members ms
-  members = members_of_lem ps (k.totals_are.tells.yes k.verdict_is.inside_is).1
+  members = members_of_lem ps in_ranges.points
 
   sums : LivesTotals fund ms t
-  sums = k.totals_are.sums k.verdict_is.inside_is
+  sums = in_ranges.sums
 
   within_load : load fund.frequency ms ≤ most_load
-  within_load = omega (arith, sums.load_is, k.verdict_is.load_within)
+  within_load = omega (arith, sums.load_is, k.known_is.load_within)
 
   figure_is : t.truncation ≡ fund_truncation fund ms
   unfolding fund_truncation
-  figure_is = omega (arith, sums.truncation_is, k.verdict_is.truncation_within)
+  figure_is = omega (arith, sums.truncation_is, k.known_is.truncation_within)
 
   long : Long n X
-  long = long_of n X k.verdict_is.long
+  long = long_of n X k.known_is.long
 
   fits : FundFits fund ms
   unfolding fund_truncation
@@ -118,7 +113,7 @@ module _ (fund : Fund) (count : ℕ) (ps : List ModelPoint) (t : Totals) (d : Li
               limited = all_map (λ m r. r.limited) ms members.in_range;
               folded = all_map (λ m r. record { q_folded = r.no_death; i_folded = r.no_disability }) ms members.in_range;
               load_within = within_load;
-              truncation_within = omega (arith, figure_is, k.verdict_is.truncation_within);
+              truncation_within = omega (arith, figure_is, k.known_is.truncation_within);
             };
       }
 
@@ -134,11 +129,11 @@ module _ (fund : Fund) (count : ℕ) (ps : List ModelPoint) (t : Totals) (d : Li
   abbrev found : Option ℕ
   found = first wide 0 (fund_cells fund ms)
 
-  rest : valued fund ms n (fund_cells fund ms) ≡ refuse refusal.Wide found Accepted
+  rest : valued fund ms n (fund_cells fund ms) ≡ refuse refusal.Wide found (Ok tt)
   unfolding fund_truncation
-  rest = valued_rest fund ms n (fund_cells fund ms) within_load (omega (arith, figure_is, k.verdict_is.truncation_within)) k.verdict_is.long
+  rest = valued_rest fund ms n (fund_cells fund ms) within_load (omega (arith, figure_is, k.known_is.truncation_within)) k.known_is.long
 
-  leaves_is : (a : Recursed) → RecursionLeft fund t a d h f r → Rec.left_cells a f r ≡ leaves (fund_cells fund ms) (length f) (length r) (answer_of found)
+  leaves_is : (a : Result ⊤ Broken) → RecursionLeft fund t a d h f r → Rec.left_cells a f r ≡ leaves (fund_cells fund ms) (length f) (length r) (answer_of found)
   unfolding accepted lent
   leaves_is a e =
       e
@@ -146,46 +141,48 @@ module _ (fund : Fund) (count : ℕ) (ps : List ModelPoint) (t : Totals) (d : Li
       ∙ recursion_is fund ms fits d h _ _ k.d_is k.h_is (omega (arith, ap (λ (y : Cell). y.R) start_is, sums.bound_within)) (length f) (length r) long.f_long long.r_long
 
   -- ---- a wide cell
-  pub answers_wide : (a : Recursed) → (a ≡ recursed.Done → ⊥) → RecursionLeft fund t a d h f r → (v : Valued) (d' : List ℤ) (h' : List ℕ) (s' : List ℤ) →
-      v ≡ record { verdict = refusal_of a; figures = no_figures } → d' ≡ replicate (length d) (pos 0) → h' ≡ replicate (length h) 0 → s' ≡ replicate ns (pos 0) → ValuedAnswer fund ms n (left_valued v d' h' f r s')
+  pub answers_wide : (limit : Broken) → RecursionLeft fund t (Err limit) d h f r → (stop : Refused) (d' : List ℤ) (h' : List ℕ) (s' : List ℤ) →
+      stop ≡ refusal_of limit → d' ≡ replicate (length d) (pos 0) → h' ≡ replicate (length h) 0 → s' ≡ replicate ns (pos 0) → ValuedAnswer fund ms n (left_in (Err stop) d' h' f r s')
   unfolding leaves refuse refused part
-  answers_wide a o e v d' h' s' v-is d_is h_is s-is = go found refl
+  answers_wide limit e stop d' h' s' stop_is d_is h_is s-is = go found refl
     where
-      go : (x : Option ℕ) → found ≡ x → ValuedAnswer fund ms n (left_valued v d' h' f r s')
-      go none s =
-          let e' = leaves_is a e ∙ ap (λ x. leaves (fund_cells fund ms) (length f) (length r) (answer_of x)) s in
+      go : (x : Option ℕ) → found ≡ x → ValuedAnswer fund ms n (left_in (Err stop) d' h' f r s')
+      go None s =
+          let e' = leaves_is (Err limit) e ∙ ap (λ x. leaves (fund_cells fund ms) (length f) (length r) (answer_of x)) s in
           let done = ap (λ (l : Left). l.answer) e' in
-          absurd (o done)
-      go (some x) s =
-          let e' = leaves_is a e ∙ ap (λ x. leaves (fund_cells fund ms) (length f) (length r) (answer_of x)) s in
-          let w : v ≡ record { verdict = Refused refusal.Wide x; figures = no_figures } = v-is ∙ ap (λ b. record { verdict = refusal_of b; figures = no_figures }) (ap (λ (l : Left). l.answer) e') in
+          cc
+      go (Some x) s =
+          let e' = leaves_is (Err limit) e ∙ ap (λ x. leaves (fund_cells fund ms) (length f) (length r) (answer_of x)) s in
+          let answer = ap (λ (l : Left). l.answer) e' in
+          let same : limit ≡ Wide x = cc in
+          let w : stop ≡ record { why = refusal.Wide; place = x } = stop_is ∙ ap refusal_of same in
           let f₀ : f ≡ replicate (length f) (pos 0) = ap (λ (l : Left). l.f) e' in
           let r₀ : r ≡ replicate (length r) 0 = ap (λ (l : Left). l.R) e' in
-          let z : left_valued v d' h' f r s' ≡ refused [] n (Refused refusal.Wide x) = λ i. left_valued (w i) (d_is i) (h_is i) (f₀ i) (r₀ i) (s-is i) in
-          z ∙ ap (outcome fund ms n) (sym (rest ∙ ap (λ x. refuse refusal.Wide x Accepted) s))
+          let z : left_in (Err stop) d' h' f r s' ≡ refused [] n (Err (record { why = refusal.Wide; place = x })) = λ i. left_in (Err (w i)) (d_is i) (h_is i) (f₀ i) (r₀ i) (s-is i) in
+          z ∙ ap (outcome fund ms n) (sym (rest ∙ ap (λ x. refuse refusal.Wide x (Ok tt)) s))
 
   -- ---- cells that stand
   pub record Stands : Type 0 where
-    pub accepts : valued fund ms n (fund_cells fund ms) ≡ Accepted
+    pub accepts : valued fund ms n (fund_cells fund ms) ≡ Ok tt
     pub f_is : f ≡ (accepted fund ms n).f
     pub r_is : r ≡ (accepted fund ms n).R
     pub narrow : (x : ℕ) → x ≤ X → (fund_cell fund ms x).R ≤ most_bound
 
-  all_narrow : found ≡ none → (x : ℕ) → x ≤ X → (fund_cell fund ms x).R ≤ most_bound
+  all_narrow : found ≡ None → (x : ℕ) → x ≤ X → (fund_cell fund ms x).R ≤ most_bound
   all_narrow e x l = narrow_of (fund_cell fund ms x) (none_of wide 0 (suc X) (fund_cell fund ms) (ap (first wide 0) (sym (fund_cells_are fund ms)) ∙ e) x (omega arith))
 
-  pub stands : (a : Recursed) → a ≡ recursed.Done → RecursionLeft fund t a d h f r → Stands
+  pub stands : RecursionLeft fund t (Ok tt) d h f r → Stands
   unfolding leaves refuse accepted
-  stands a done e = go found refl
+  stands e = go found refl
     where
       go : (x : Option ℕ) → found ≡ x → Stands
-      go none s =
-          let e' = leaves_is a e ∙ ap (λ x. leaves (fund_cells fund ms) (length f) (length r) (answer_of x)) s in
-          record { accepts = rest ∙ ap (λ x. refuse refusal.Wide x Accepted) s; f_is = ap (λ (l : Left). l.f) e'; r_is = ap (λ (l : Left). l.R) e'; narrow = all_narrow s }
-      go (some x) s =
-          let e' = leaves_is a e ∙ ap (λ x. leaves (fund_cells fund ms) (length f) (length r) (answer_of x)) s in
-          let z : ◌≡◌ {A = ℕ} 0 1 = ap answer_of_recursed (sym done ∙ ap (λ (l : Left). l.answer) e') in
-          absurd (omega arith)
+      go None s =
+          let e' = leaves_is (Ok tt) e ∙ ap (λ x. leaves (fund_cells fund ms) (length f) (length r) (answer_of x)) s in
+          record { accepts = rest ∙ ap (λ x. refuse refusal.Wide x (Ok tt)) s; f_is = ap (λ (l : Left). l.f) e'; r_is = ap (λ (l : Left). l.R) e'; narrow = all_narrow s }
+      go (Some x) s =
+          let e' = leaves_is (Ok tt) e ∙ ap (λ x. leaves (fund_cells fund ms) (length f) (length r) (answer_of x)) s in
+          let done = ap (λ (l : Left). l.answer) e' in
+          cc
 
   module _ (s : Stands) where
     f_at : (x : ℕ) → x ≤ X → get_or f x (pos 0) ≡ (fund_cell fund ms x).f
@@ -224,8 +221,8 @@ module _ (fund : Fund) (count : ℕ) (ps : List ModelPoint) (t : Totals) (d : Li
     sums_fit = record { horizon = header.horizon; f_long = long.f_long; sums_long = long.sums_long; levels_within = levels_within (suc X) (omega arith) }
 
     -- the figures and the slices
-    pub answers_accepted : (pr : ℤ) (p : StopLoss) (g : ℕ) (s' : List ℤ) → StopLossIs fund.deductible t.mean t.truncation f r p → pr ≡ p.premium → g ≡ centimes_in (gross_of fund p.premium p.within) → s' ≡ lent (pos 0) ns (table (suc X) (running_sum f)) →
-        ValuedAnswer fund ms n (left_valued (record { verdict = Accepted; figures = record { truncation = t.truncation; mean = t.mean; premium = pr; within = p.within; gross = g } }) d h f r s')
+    pub answers_accepted : (pr : ℤ) (p : StopLoss) (g : ℕ) (s' : List ℤ) → StopLossIs fund.deductible t.mean t.truncation f r p → pr ≡ p.premium → g ≡ unwrap_or (gross_of fund p.premium p.within) 0 → s' ≡ lent (pos 0) ns (table (suc X) (running_sum f)) →
+        ValuedAnswer fund ms n (left_in (Ok (record { truncation = t.truncation; mean = t.mean; premium = pr; within = p.within; gross = g })) d h f r s')
     unfolding accepted fund_figures fund_mean fund_premium fund_within
     answers_accepted pr p g s' priced pr-is gross_is sums-is = same_answer k.d_is k.h_is s.f_is s.r_is s_lent figure_is m_is pr_of p_of g_of ∙ ap (outcome fund ms n) (sym s.accepts)
       where
@@ -247,11 +244,11 @@ module _ (fund : Fund) (count : ℕ) (ps : List ModelPoint) (t : Totals) (d : Li
         g_of : g ≡ gross fund.deductible fund.worth (fund_premium fund ms) (fund_within fund ms)
         g_of =
             gross_is
-            ∙ ap centimes_in (gross_inside fund p.premium p.within header.worth_least header.worth_most)
+            ∙ ap (λ o. unwrap_or o 0) (gross_inside fund p.premium p.within header.worth_least header.worth_most)
             ∙ ap₂ (gross fund.deductible fund.worth) (sym pr-is ∙ pr_of) p_of
 
 -- ---- slices whose lengths are those of others
-module _ (fund : Fund) (t : Totals) (a : Recursed) (d : List ℤ) (h : List ℕ) (f : List ℤ) (r : List ℕ) (nf nr ns : ℕ) (ef : length f ≡ nf) (er : length r ≡ nr) where
+module _ (fund : Fund) (t : Totals) (a : Result ⊤ Broken) (d : List ℤ) (h : List ℕ) (f : List ℤ) (r : List ℕ) (nf nr ns : ℕ) (ef : length f ≡ nf) (er : length r ≡ nr) where
   pub recursed_for : Ready fund t d h nf nr ns → Rec.left_cells a f r ≡ Rec.recursion fund.horizon d h (record { f = t.cell; R = t.bound }) nf nr → RecursedFor fund t a d h f r ns
   recursed_for k e = record { ready = rw (ef, er) k; left_is = rw (ef, er) e }
 

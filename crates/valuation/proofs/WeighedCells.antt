@@ -42,8 +42,8 @@ weighed s t w y part is p =
 
 -- ---- the sums
 module _ (M : ℕ) (f : List ℤ) (r : List ℕ) where
-  pub below_none : BelowTo M f r 0 (record { plus = 0; minus = 0; bound = 0 })
-  below_none = record { sum_is = refl; bound_is = refl; plus_within = omega arith; minus_within = omega arith; bound_within = omega arith }
+  pub below_none : (s : Sums) → (s.plus ≡ 0) × ((s.minus ≡ 0) × (s.bound ≡ 0)) → BelowTo M f r 0 s
+  below_none s e = record { sum_is = rw (e.0, e.1.0) refl; bound_is = e.1.1; plus_within = omega arith; minus_within = omega arith; bound_within = omega arith }
 
   pub below_more : (x : ℕ) (s t : Sums) → Cells M f r → x < M → BelowTo M f r x s → CellWeighed s (M - x) (cell_in f r x) t → BelowTo M f r (suc x) t
   below_more x s t cells l i w =

@@ -1,26 +1,23 @@
 -- What the steps of a valuation say, from the transform to the answer. Those that see no table say it for every table of which this is known.
-use Rattle.std.specs.Prelude.{◌≡◌, List, ℕ, ℤ, length}
+use Rattle.std.specs.Prelude.{◌≡◌, List, ℕ, ℤ, length, ⊤, Result, Ok}
 use Rattle.fund.specs.declared.Fund.{Fund}
 use Rattle.fund.specs.declared.Life.{Life}
 use Rattle.fund.specs.declared.ModelPoint.{ModelPoint}
 use Rattle.fund.specs.declared.Refusal.TheVariants as refusal
-use Rattle.fund.specs.declared.Verdict.{Verdict}
-use Rattle.fund.specs.declared.Verdict.TheVariants.{Accepted, Refused}
+use Rattle.fund.specs.declared.Refused.{Refused}
 use Rattle.fund.specs.Folding.{copies}
 use Rattle.fund.specs.Refusals.{Lengths, valued}
 use Rattle.fund.specs.Answer.{Answer, fund_cells}
-use Rattle.recursion_limits.specs.declared.Recursed.{Recursed}
-use Rattle.recursion_limits.specs.declared.Recursed.TheVariants as recursed
+use Rattle.recursion_limits.specs.declared.Broken.{Broken}
+use Rattle.recursion_limits.specs.declared.Broken.TheVariants.{Short, Outside, Wide, Large}
 use Rattle.recursion.specs.Recursion.{recursion}
 use Rattle.recursion.specs.Recursion as Rec
-use Rattle.tariff.specs.declared.Gross.{Gross}
-use Rattle.tariff.specs.declared.Gross.TheVariants.{Centimes, Outside}
 use Rattle.totals.specs.declared.Totals.{Totals}
 use Rattle.transform.specs.Transformed.{lengths_of, outcome, TransformedFor}
 
 -- totals that have passed 7, 8 and 9, and the transform, of the first `count` model points of a table
 abbrev pub ReadyFor : Fund → ℕ → List ModelPoint → Totals → List ℤ → List ℕ → ℕ → ℕ → ℕ → Type 0
-ReadyFor fund count ps t d h nf nr ns = TransformedFor fund count ps (lengths_of d h nf nr ns) (record { verdict = Accepted; totals = t }) d h
+ReadyFor fund count ps t d h nf nr ns = TransformedFor fund count ps (lengths_of d h nf nr ns) (Ok t) d h
 
 pub record Ready (fund : Fund) (t : Totals) (d : List ℤ) (h : List ℕ) (nf nr ns : ℕ) : Type 0 where
   pub count : ℕ
@@ -28,24 +25,18 @@ pub record Ready (fund : Fund) (t : Totals) (d : List ℤ) (h : List ℕ) (nf nr
   pub ready : ReadyFor fund count ps t d h nf nr ns
 
 -- what the recursion left of the totals and the transform
-abbrev pub RecursionLeft : Fund → Totals → Recursed → List ℤ → List ℕ → List ℤ → List ℕ → Type 0
+abbrev pub RecursionLeft : Fund → Totals → Result ⊤ Broken → List ℤ → List ℕ → List ℤ → List ℕ → Type 0
 RecursionLeft fund t a d h f r = Rec.left_cells a f r ≡ recursion fund.horizon d h (record { f = t.cell; R = t.bound }) (length f) (length r)
 
-pub record RecursedFor (fund : Fund) (t : Totals) (a : Recursed) (d : List ℤ) (h : List ℕ) (f : List ℤ) (r : List ℕ) (ns : ℕ) : Type 0 where
+pub record RecursedFor (fund : Fund) (t : Totals) (a : Result ⊤ Broken) (d : List ℤ) (h : List ℕ) (f : List ℤ) (r : List ℕ) (ns : ℕ) : Type 0 where
   pub ready : Ready fund t d h (length f) (length r) ns
   pub left_is : RecursionLeft fund t a d h f r
 
-abbrev pub refusal_of : Recursed → Verdict
-refusal_of recursed.Done = Accepted
-refusal_of recursed.Short = Refused refusal.Range 0
-refusal_of (recursed.Outside k) = Refused refusal.Range 0
-refusal_of (recursed.Wide x) = Refused refusal.Wide x
-refusal_of (recursed.Large x) = Refused refusal.Range 0
-
--- the centimes of a gross premium, 0 where there are none
-abbrev pub centimes_in : Gross → ℕ
-centimes_in (Centimes n) = n
-centimes_in Outside = 0
+abbrev pub refusal_of : Broken → Refused
+refusal_of Short = record { why = refusal.Range; place = 0 }
+refusal_of (Outside k) = record { why = refusal.Range; place = 0 }
+refusal_of (Wide x) = record { why = refusal.Wide; place = x }
+refusal_of (Large x) = record { why = refusal.Range; place = 0 }
 
 -- the answer is that of 7 to 10
 abbrev pub ValuedAnswer : Fund → List Life → Lengths → Answer → Type 0

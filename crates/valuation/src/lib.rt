@@ -5,82 +5,22 @@
 mod premium;
 mod sums;
 
-ghost use Rattle.std.specs.Prelude.{◌≡◌, [], pos, length, replicate, take};
-ghost use Rattle.fund.specs.Answer.{no_figures, refused};
-ghost use Rattle.valuation.specs.Valued.{left_valued, lengths, valuation};
-ghost use Rattle.valuation.specs.Steps.{Ready, refusal_of, centimes_in, RecursedFor, SettledFor, AnsweredFor};
+ghost use Rattle.std.specs.Prelude.{◌≡◌, length};
+ghost use Rattle.fund.specs.Cells.{lengths, SameSlices};
+ghost use Rattle.valuation.specs.Valued.{left_valued, left_in, lengths_in, valuation};
+ghost use Rattle.valuation.specs.Steps.{Ready, refusal_of, RecursedFor, SettledFor, AnsweredFor};
 
-use fund::{Figures, Fund, ModelPoint, Refusal, Verdict};
-use recursion::Recursed;
-use tariff::Gross;
+use fund::{Cells, Figures, Fund, ModelPoint, Refusal, Refused};
+use recursion::{Broken, Start, Transform};
 use totals::Totals;
 
-// What a valuation answers beside the result slices.
-#[derive(Clone, Copy)]
-pub struct Valued {
-    pub verdict: Verdict,
-    pub figures: Figures,
-}
-
-fn refused(verdict: Verdict) -> Valued
-    ensures { result ≡ record { verdict = verdict; figures = no_figures } }
+// Refusal 10. A fund's own transform breaks no other limit.
+fn refusal(limit: Broken) -> Refused
+    ensures { result ≡ refusal_of limit }
 {
-    Valued {
-        verdict,
-        figures: fund::no_figures(),
-    }
-}
-
-fn clear_transform(transform: &mut [i64], h: &mut [u64])
-    ensures { (transform.new ≡ replicate (length transform.old) (pos 0)) × (h.new ≡ replicate (length h.old) 0) }
-{
-    whole::clear_signed(transform);
-    whole::clear(h);
-}
-
-fn clear_cells(f: &mut [i64], r: &mut [u64], sums: &mut [i64])
-    ensures { (f.new ≡ replicate (length f.old) (pos 0)) × (r.new ≡ replicate (length r.old) 0)
-        × (sums.new ≡ replicate (length sums.old) (pos 0)) }
-{
-    clear_transform(f, r);
-    whole::clear_signed(sums);
-}
-
-// A refusal with zeros in all slices; it hands back no line here.
-pub fn refuse(
-    verdict: Verdict,
-    transform: &mut [i64],
-    h: &mut [u64],
-    f: &mut [i64],
-    r: &mut [u64],
-    sums: &mut [i64],
-) -> Valued
-    ensures { left_valued result transform.new h.new f.new r.new sums.new ≡
-        refused [] (lengths transform.old h.old f.old r.old sums.old) verdict }
-{
-    clear_transform(transform, h);
-    clear_cells(f, r, sums);
-    refused(verdict)
-}
-
-// Refusal 10, or none. A fund's own transform has no other answers than these two: any other breaks a limit.
-fn refusal(answer: Recursed) -> Verdict
-    ensures { result ≡ refusal_of answer }
-{
-    match answer {
-        Recursed::Wide(x) => Verdict::Refused(Refusal::Wide, x),
-        Recursed::Done => Verdict::Accepted,
-        _ => Verdict::Refused(Refusal::Range, 0),
-    }
-}
-
-// The centimes of a gross premium; a worth in its range has some.
-fn centimes_of(gross: Gross) -> u64
-    ensures { result ≡ centimes_in gross }
-{
-    match gross {
-        Gross::Centimes(n) => n,
-        Gross::Outside => 0,
+    match limit {
+        Broken::Wide(x) => Refusal::Wide.at(x),
+        _ => Refusal::Range.at(0),
     }
 }
 
@@ -88,35 +28,33 @@ fn centimes_of(gross: Gross) -> u64
 fn settled(
     fund: Fund,
     t: Totals,
-    answer: Recursed,
+    done: Result<(), Broken>,
     transform: &mut [i64],
     h: &mut [u64],
     f: &[i64],
     r: &[u64],
     sums: &mut [i64],
-) -> Valued
-    requires { RecursedFor fund t answer transform.old h.old f.now r.now (length sums.old) }
+) -> Result<Figures, Refused>
+    requires { RecursedFor fund t done transform.old h.old f.now r.now (length sums.old) }
     ensures { SettledFor fund t transform.old h.old f.now r.now (length sums.old)
-        (left_valued result transform.new h.new f.now r.now sums.new) }
+        (left_in result transform.new h.new f.now r.now sums.new) }
 {
-    let Recursed::Done = answer else {
-        clear_transform(transform, h);
-        whole::clear_signed(sums);
-        return refused(refusal(answer));
-    };
+    if let Err(limit) = done {
+        transform.fill(0);
+        h.fill(0);
+        sums.fill(0);
+        return Err(refusal(limit));
+    }
     sums::running_sums(fund.horizon as usize, f, sums);
     let priced = premium::premium(fund.deductible as usize, t.mean, t.truncation, f, r);
     let gross = tariff::gross_premium(fund, priced.premium, priced.within);
-    Valued {
-        verdict: Verdict::Accepted,
-        figures: Figures {
-            truncation: t.truncation,
-            mean: t.mean,
-            premium: priced.premium,
-            within: priced.within,
-            gross: centimes_of(gross),
-        },
-    }
+    Ok(Figures {
+        truncation: t.truncation,
+        mean: t.mean,
+        premium: priced.premium,
+        within: priced.within,
+        gross: gross.unwrap_or(0),
+    })
 }
 
 // The recursion and what follows it, for a transform that is filled.
@@ -128,43 +66,61 @@ fn recursed(
     f: &mut [i64],
     r: &mut [u64],
     sums: &mut [i64],
-) -> Valued
+) -> Result<Figures, Refused>
     requires { Ready fund t transform.old h.old (length f.old) (length r.old) (length sums.old) }
     ensures { AnsweredFor fund t transform.old h.old (length f.old) (length r.old) (length sums.old)
-        (left_valued result transform.new h.new f.new r.new sums.new) }
+        (left_in result transform.new h.new f.new r.new sums.new) }
 {
-    let answer = recursion::recursion(
-        fund.horizon as usize,
-        &transform[..],
-        &h[..],
-        t.cell,
-        t.bound,
-        f,
-        r,
-    );
-    settled(fund, t, answer, transform, h, &f[..], &r[..], sums)
+    let start = Start {
+        cell: t.cell,
+        bound: t.bound,
+    };
+    let filled = Transform {
+        horizon: fund.horizon as usize,
+        d: &transform[..],
+        h: &h[..],
+    };
+    let done = recursion::recursion(filled, start, f, r);
+    settled(fund, t, done, transform, h, &f[..], &r[..], sums)
 }
 
-// The valuation of the first n model points of a table, into five result slices.
-pub fn value(
+// The same of the slices by name.
+fn value_in(
     fund: Fund,
-    points: [ModelPoint; Fund::MEMBER_ROWS],
-    n: usize,
+    points: &[ModelPoint],
     transform: &mut [i64],
     h: &mut [u64],
     f: &mut [i64],
     r: &mut [u64],
     sums: &mut [i64],
-) -> Valued
-    ensures { left_valued result transform.new h.new f.new r.new sums.new ≡
-        valuation fund n (take n points) (lengths transform.old h.old f.old r.old sums.old) }
+) -> Result<Figures, Refused>
+    ensures { left_in result transform.new h.new f.new r.new sums.new ≡
+        valuation fund (length points.now) points.now (lengths_in transform.old h.old f.old r.old sums.old) }
 {
-    let known = transform::transformed(fund, points, n, f.len(), r.len(), sums.len(), transform, h);
-    let verdict = known.verdict;
-    let Verdict::Accepted = verdict else {
-        clear_cells(f, r, sums);
-        return refused(verdict);
-    };
-    let totals = known.totals;
-    recursed(fund, totals, transform, h, f, r, sums)
+    let known = transform::transformed(fund, points, f.len(), r.len(), sums.len(), transform, h);
+    match known {
+        Ok(totals) => recursed(fund, totals, transform, h, f, r, sums),
+        Err(refused) => {
+            f.fill(0);
+            r.fill(0);
+            sums.fill(0);
+            Err(refused)
+        }
+    }
+}
+
+// The valuation of a table of model points, into five result slices: a refusal leaves zeros.
+pub fn value(fund: Fund, points: &[ModelPoint], cells: &mut Cells) -> Result<Figures, Refused>
+    ensures same_slices { SameSlices cells.old cells.new }
+    ensures left { left_valued result cells.new ≡ valuation fund (length points.now) points.now (lengths cells.old) }
+{
+    value_in(
+        fund,
+        points,
+        cells.transform,
+        cells.h,
+        cells.f,
+        cells.r,
+        cells.sums,
+    )
 }

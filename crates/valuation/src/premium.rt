@@ -6,9 +6,10 @@ ghost use Rattle.recursion_limits.specs.Limits.{most_cell};
 ghost use Rattle.valuation.specs.Premium.{Cells, CellWeighed, BelowTo, StopLossIs};
 
 use rounding::UNIT;
-use whole::Sums;
+use whole::{Signed, Sums};
 
-#[derive(Clone, Copy)]
+// The premium, and the bound within which it is right.
+#[derive(Clone, Copy, PartialEq, Eq)]
 pub(crate) struct StopLoss {
     pub(crate) premium: i64,
     pub(crate) within: u64,
@@ -27,9 +28,9 @@ pub(crate) fn premium(
 {
     let s = below(deductible, f, r);
     let m = deductible as u64;
-    let excess = whole::difference(mean + s.plus, m * UNIT + s.minus);
+    let excess = Signed::difference(mean + s.plus, m * UNIT + s.minus);
     StopLoss {
-        premium: whole::as_i64(excess),
+        premium: excess.as_i64(),
         within: s.bound + 2 * m * truncation,
     }
 }
@@ -39,15 +40,9 @@ fn below(deductible: usize, f: &[i64], r: &[u64]) -> Sums
     requires { Cells deductible f.now r.now }
     ensures { BelowTo deductible f.now r.now deductible result }
 {
-    let mut s = Sums {
-        plus: 0,
-        minus: 0,
-        bound: 0,
-    };
-    let mut x: usize = 0;
-    while x < deductible {
+    let mut s = Sums::default();
+    for x in 0..deductible {
         s = with_cell(s, (deductible - x) as u64, f[x], r[x]);
-        x += 1;
     }
     s
 }
@@ -58,5 +53,9 @@ fn with_cell(s: Sums, weight: u64, f: i64, r: u64) -> Sums
     requires weight_le_most_deductible { (weight ≤ most_deductible) × (nat_abs f ≤ most_cell) × (r ≤ most_bound) }
     ensures { CellWeighed s weight (record { f = f; R = r }) result }
 {
-    whole::with_part(s, f < 0, weight * whole::magnitude(f), weight * r)
+    let part = Signed {
+        negative: f < 0,
+        size: weight * f.unsigned_abs(),
+    };
+    s.with_part(part, weight * r)
 }

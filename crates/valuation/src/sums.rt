@@ -18,11 +18,9 @@ fn fill_sums(horizon: usize, f: &[i64], sums: &mut [i64])
     ensures { sums.new ≡ table (suc horizon) (running_sum f.now) ++ drop (suc horizon) sums.old }
 {
     let mut sum: i64 = 0;
-    let mut x: usize = 0;
-    while x <= horizon {
+    for x in 0..horizon + 1 {
         sum = plus(sum, f[x]);
         sums[x] = sum;
-        x += 1;
     }
 }
 
@@ -31,6 +29,6 @@ pub(crate) fn running_sums(horizon: usize, f: &[i64], sums: &mut [i64])
     requires { SumsFit horizon f.now (length sums.old) }
     ensures { sums.new ≡ lent (pos 0) (length sums.old) (table (suc horizon) (running_sum f.now)) }
 {
-    whole::clear_signed(sums);
+    sums.fill(0);
     fill_sums(horizon, f, sums);
 }

@@ -1,7 +1,7 @@
 -- `sheet_cells::number::rate`: the invariant: every k whose quotient x equals lies from lo on and below hi.
 use mathlib.Core.Path.{◌≡◌}
 use mathlib.Core.Bool.{Bool}
-use Prim.Native.Nat.{ℕ, ◌≤◌}
+use Prim.Native.Nat.{ℕ, ◌+◌, ◌-◌, ◌/◌, ◌≤◌}
 use native.Mathlib.Nat.{le_trans}
 use native.Mathlib.Omega.{arith}
 use lib.Dec.{le→leb, lit≤}
@@ -24,7 +24,8 @@ loop-lo-init c = (omega arith, ascending.within_all q 1000000 ascending.milliont
 pub int_to_float-quotient : goal.int_to_float-quotient
 unfolding in_float
 int_to_float-quotient c =
-    let small : c.midpoint-mid.result ≤ 1000000 = omega arith in
+    let at = c.loop-lo in
+    let small : at.lo + (at.hi - at.lo) / 2 ≤ 1000000 = omega arith in
     le→leb _ _ (le_trans small (lit≤ tt))
 
 pub returns-then-x-quotient : goal.returns-then-x-quotient

@@ -1,11 +1,7 @@
 -- The loop's invariant: the sum is that of the first x cells, and the slice begins with the sums of these.
 use mathlib.Core.Path.{◌≡◌}
-use Prim.Native.Nat.{suc, ◌-◌, ◌≤◌}
 use Rattle.valuation.proofs.RunningSums.{sum_to, summed}
 use Rattle.valuation.proofs.sums.fill_sums.Given as goal
 
 abbrev pub invariant-loop-x : goal.invariant-loop-x
-invariant-loop-x l = (l.x ≤ suc l.horizon) × (l.sum ≡ sum_to l.f l.x) × (l.sums ≡ summed l.f l.x l.initial.sums)
-
-abbrev pub decreases-loop-x : goal.decreases-loop-x
-decreases-loop-x l = suc l.horizon - l.x
+invariant-loop-x l = (l.sum ≡ sum_to l.f l.x) × (l.sums ≡ summed l.f l.x l.initial.sums)

@@ -1,0 +1,21 @@
+-- Slices that are cleared are those of a refusal.
+use Rattle.std.specs.Prelude.{◌≡◌, refl, List, [], ℕ, Err}
+use Rattle.std.proofs.Common.{sym}
+use Rattle.fund.specs.declared.Cells.{Cells}
+use Rattle.fund.specs.declared.Refused.{Refused}
+use Rattle.fund.specs.Answer.{Part, Answer, empty, no_figures, part, refused}
+use Rattle.fund.specs.Cells.{Zeros}
+use Rattle.fund.specs.Refusals.{Lengths}
+use Rattle.laws.specs.Answer.{no_line_lem}
+use Rattle.valuation.specs.Valued.{left_valued}
+
+abbrev pub with_part : Refused → Part → Cells → Answer
+with_part e p c =
+    record { verdict = Err e; part = p; figures = no_figures; D = c.transform.now; H = c.h.now; f = c.f.now; R = c.r.now; F = c.sums.now }
+
+pub cleared : (text : List ℕ) (n : Lengths) (e : Refused) (p : Part) (c : Cells) → p ≡ part text (Err e) → Zeros n c → with_part e p c ≡ refused text n (Err e)
+unfolding refused
+cleared text n e p c k z = rw (k, z.D, z.H, z.f, z.R, z.F) refl
+
+pub cleared_rows : (n : Lengths) (e : Refused) (c : Cells) → Zeros n c → left_valued (Err e) c ≡ refused [] n (Err e)
+cleared_rows n e c z = cleared [] n e empty c (sym (no_line_lem (Err e))) z

@@ -1,0 +1,13 @@
+-- Where refusals 3 to 6 stop, their refusal, and all cells are zero.
+use Rattle.std.proofs.Common.{sym, ◌∙◌, ap}
+use Rattle.fund.specs.Cells.{lengths}
+use Rattle.pricing.specs.Priced.{valued_by}
+use Rattle.pricing.proofs.Cleared.{cleared_rows}
+use Rattle.pricing.proofs.valued.Goals as goal
+
+pub returns-in-Err-clause-left : goal.returns-in-Err-clause-left
+returns-in-Err-clause-left c =
+    let a = c.args in
+    let n = lengths a.cells.now in
+    cleared_rows n c.in-Err.refused c.clear.new.self c.clear.ensures.zeros
+    ∙ ap (valued_by a.rows.fund n) (sym c.in-Err.is ∙ c.matched.ensures)
