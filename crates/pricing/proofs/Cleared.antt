@@ -13,6 +13,9 @@ abbrev pub with_part : Refused → Part → Cells → Answer
 with_part e p c =
     record { verdict = Err e; part = p; figures = no_figures; D = c.transform.now; H = c.h.now; f = c.f.now; R = c.r.now; F = c.sums.now }
 
+pub with_line : (e f : Refused) (p q : Part) (c : Cells) → e ≡ f → p ≡ q → with_part e p c ≡ with_part f q c
+with_line e f p q c k l = rw (k, l) refl
+
 pub cleared : (text : List ℕ) (n : Lengths) (e : Refused) (p : Part) (c : Cells) → p ≡ part text (Err e) → Zeros n c → with_part e p c ≡ refused text n (Err e)
 unfolding refused
 cleared text n e p c k z = rw (k, z.D, z.H, z.f, z.R, z.F) refl
