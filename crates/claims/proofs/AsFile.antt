@@ -2,7 +2,7 @@
 use mathlib.Core.Path.{◌∙◌, ap}
 use mathlib.Core.List.{List}
 use Prim.Native.Nat.{ℕ}
-use Rattle.fund.specs.Verdict.{Verdict, refused_at}
+use Rattle.fund.specs.Verdict.{Verdict}
 use Rattle.fund.specs.Reading.{Reading}
 use Rattle.fund.specs.Refusals.{Lengths, number_in, place_in}
 use Rattle.fund.specs.Quantile.{quantile_of}

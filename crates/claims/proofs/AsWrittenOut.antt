@@ -5,7 +5,7 @@ use mathlib.Core.List.{List}
 use Prim.Native.Nat.{ℕ}
 use lib.Dec.{eqb}
 use lib.IntN.{ℤ}
-use Rattle.fund.specs.Verdict.{Verdict, refused_at}
+use Rattle.fund.specs.Verdict.{Verdict}
 use Rattle.std.specs.Prelude.{if◌then◌else◌, Err, Ok}
 use Rattle.fund.specs.Reading.{FundFile, read, reading}
 use Rattle.fund.specs.Refusals.{Lengths, number_in, place_in}

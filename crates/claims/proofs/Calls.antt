@@ -2,12 +2,12 @@
 use mathlib.Core.Path.{◌≡◌, refl, sym, ◌∙◌, ap, subst}
 use mathlib.Core.Bool.{Bool}
 use mathlib.Core.List.{List, []}
-use Prim.Native.Nat.{ℕ, ◌≤◌}
+use Prim.Native.Nat.{ℕ}
 use borrow.Author.Tests.{le-leb, lt-leb}
 use lib.Dec.{leb}
 use lib.IntN.{ℤ}
 use lib.ListN.{length, get_or, drop}
-use Rattle.fund.specs.Verdict.{Verdict, refused_at}
+use Rattle.fund.specs.Verdict.{Verdict}
 use Rattle.std.specs.Prelude.{if◌then◌else◌, None, Option, Some, Result, Ok, Err, IfOk, ◌<◌, take}
 use Rattle.std.proofs.Common.{arith}
 use Rattle.fund.specs.Reading.{FundFile, Reading, read, reading}
@@ -22,7 +22,6 @@ use Rattle.answer_text.specs.Shown.{room}
 use Rattle.writing.specs.Writing.{Written}
 use Rattle.fund_printing.specs.declared.PrintedInput.{PrintedInput}
 use Rattle.input.specs.AllRead.{first_bytes, fails_at, ends_at}
-use Rattle.prefix.specs.Prefix.{most_bytes}
 use Rattle.fund_printing.specs.declared.Asked.{Asked}
 use Rattle.fund_printing.specs.declared.Asked.TheVariants.{Listing, AtLevel}
 use Rattle.input.specs.declared.ReadFailed.{ReadFailed}

@@ -1,11 +1,11 @@
 -- What a host has of two funds after a comparison, in plain words (plainly): from the demands on both, that the comparison is the definition's, and the theorem on the exact move. So
 -- of the comparison call (compares_plainly), of the call for C (hosts_plainly), and of the listing (prints_move).
-use Rattle.std.specs.Prelude.{Bool, true, false, not, eqb, ◌∷◌, [], suc, zero, if◌then◌else◌, Result, Ok, Err, Option, Some, None, option_map, unwrap_or}
+use Rattle.std.specs.Prelude.{Bool, true, false, not, eqb, ◌∷◌, [], suc, zero, if◌then◌else◌, Ok, Err, Option, Some, None, option_map, unwrap_or}
 use mathlib.Core.Path.{◌≡◌, refl, sym, ◌∙◌, ap, ap₂, subst}
 use mathlib.Core.List.{List}
 use Prim.Native.Nat.{ℕ, ◌+◌, ◌<◌}
 use native.Mathlib.Omega.{arith}
-use lib.IntN.{ℤ, pos, ◌+ℤ◌, ◌-ℤ◌}
+use lib.IntN.{pos, ◌+ℤ◌, ◌-ℤ◌}
 use lib.ListN.{length, get_or}
 use Rattle.fund.specs.declared.Cells.{Cells}
 use Rattle.fund.specs.declared.Figures.{Figures}

@@ -1,5 +1,5 @@
 -- The tests of the totals and of the limits answer as their definitions do (tests_totals, kept_as), and so the transform (transforms).
-use Rattle.std.specs.Prelude.{◌≡◌, refl, List, ℕ, ℤ, length, ⊤, Option, Result, Ok, Err}
+use Rattle.std.specs.Prelude.{◌≡◌, List, ℕ, ℤ, length, ⊤, Option, Result, Ok, Err}
 use Rattle.std.proofs.Common.{sym, arith}
 use borrow.Author.Tests.{le-ltb}
 use Rattle.fund.specs.declared.Fund.{Fund}

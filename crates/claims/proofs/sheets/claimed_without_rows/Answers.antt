@@ -1,5 +1,5 @@
 -- A reading that stops is a refusal at its place.
-use Rattle.std.specs.Prelude.{refl, Err}
+use Rattle.std.specs.Prelude.{Err}
 use Rattle.std.proofs.Common.{ap}
 use Rattle.rows.specs.Read.{file_read}
 use Rattle.claims.proofs.sheets.claimed_without_rows.Goals as goal
