@@ -1,3 +1,2 @@
 pub mod LineSizes
-pub mod Pieces
 pub mod ShownComparison

@@ -1,8 +1,7 @@
 -- The listing of a comparison is that of the first 65,536 bytes of each file (comparison_first).
-use Rattle.std.specs.Prelude.{◌≡◌, refl, List, ℕ, ◌≤◌, take}
+use Rattle.std.specs.Prelude.{◌≡◌, refl, List, ℕ, ◌≤◌, take, Ok, Err, Some}
 use Rattle.std.proofs.Common.{◌∙◌, ap₂}
-use Rattle.fund.specs.declared.Verdict.{Verdict}
-use Rattle.fund.specs.declared.Verdict.TheVariants.{Accepted, Refused}
+use Rattle.fund.specs.Verdict.{Verdict}
 use Rattle.fund.specs.Reading.{FundFile, Reading, read, stopped, reading}
 use Rattle.fund.specs.Folding.{lives}
 use Rattle.fund.specs.Refusals.{Lengths, verdict}
@@ -11,7 +10,6 @@ use Rattle.fund.specs.Listing.{enough}
 use Rattle.prefix.specs.Prefix.{most_bytes, reading_first}
 use Rattle.moves.specs.Differences.{differences}
 use Rattle.moves.specs.Move.{move_of}
-use Rattle.comparison.specs.declared.Comparison.TheVariants.{Moved}
 use Rattle.comparison.specs.Comparison.{if_accepted, compared}
 use Rattle.comparison_printing.specs.Lines.{comparison_lines}
 use Rattle.comparison_printing.specs.Printed.{comparison_of, comparison_listing}
@@ -23,8 +21,8 @@ record Alike (a b : Answer) : Type 0 where
 
 alike_of : (f g : List ℕ) (n : Lengths) (fund : FundFile) (v : Verdict) → Alike (answer_of f n fund v) (answer_of g n fund v)
 unfolding answer_of refused
-alike_of f g n fund Accepted = record { verdict_is = refl; figures_are = refl }
-alike_of f g n fund (Refused why place) = record { verdict_is = refl; figures_are = refl }
+alike_of f g n fund (Ok tt) = record { verdict_is = refl; figures_are = refl }
+alike_of f g n fund (Err stop) = record { verdict_is = refl; figures_are = refl }
 
 alike_to : (f g : List ℕ) (n : Lengths) (r : Reading) → Alike (answer_to f n r) (answer_to g n r)
 unfolding answer_to refused
@@ -34,7 +32,7 @@ alike_to f g n (stopped why place) = record { verdict_is = refl; figures_are = r
 compared_alike : (r s : Reading) (a c b d : Answer) → Alike a c → Alike b d → compared r a s b ≡ compared r c s d
 unfolding compared
 compared_alike (read f) (read g) a c b d h k =
-    λ i. if_accepted (h.verdict_is i) (if_accepted (k.verdict_is i) (Moved (move_of f.header (h.figures_are i) g.header (k.figures_are i)) (differences f g)))
+    λ i. if_accepted (h.verdict_is i) (if_accepted (k.verdict_is i) (Some (record { moved = move_of f.header (h.figures_are i) g.header (k.figures_are i); differences = differences f g })))
 compared_alike (read f) (stopped why place) a c b d h k = refl
 compared_alike (stopped why place) s a c b d h k = refl
 

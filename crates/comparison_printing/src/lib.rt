@@ -1,20 +1,23 @@
 // The listing of a comparison, from two fund files to its bytes.
 #![tactic(auto)]
 
-ghost use Rattle.std.specs.Prelude.{◌≡◌, [], ◌∷◌, ◌++◌, ◌+◌, ◌*◌, ◌≤◌, length};
+ghost use Rattle.std.specs.Prelude.{◌≡◌, [], ◌∷◌, ◌++◌, ◌+◌, ◌*◌, ◌≤◌, length, take};
 ghost use Rattle.fund.specs.Listing.{joined};
 ghost use Rattle.writing.specs.Writing.{Puts, Written};
 ghost use Rattle.comparison_printing.specs.Lines.{figure_lines, nothing_else, other_header, other_member, other_lines, interval_lines, move_lines};
-ghost use Rattle.comparison_printing.specs.Printed.{priced_lines, listing_of};
+ghost use Rattle.comparison_printing.specs.Printed.{priced_lines, listing_of, PrintsComparison};
 
 use comparison::{Compared, Comparison};
-use fund::Figures;
+use fund::{Cells, Figures, Fund};
 use moves::{Differences, MemberLine, Move};
 use pricing::{NotPriced, Priced};
 use writing::{Pointed, Printed, Text};
 
 // Bytes enough for the listing of every comparison.
 pub const ROOM: usize = 512;
+
+// Cells enough for every horizon.
+const CELLS: usize = Fund::MOST_HORIZON as usize + 1;
 
 // The digits behind the point of units of 10^-12, and of centimes.
 const UNITS: u8 = 12;
@@ -149,4 +152,38 @@ fn listing(compared: Compared, text: &mut [u8]) -> usize
     put_fund(b"new-", compared.new, &mut lines);
     put_comparison(compared.comparison, &mut lines);
     lines.next
+}
+
+// Compares two fund files and writes the listing from the start of the text; returns its size. A text that has no room for every such listing is left as it
+// is. No listing shows an answer at a level.
+pub fn print(old: &[u8], new: &[u8], text: &mut [u8]) -> usize
+    ensures prints_comparison { PrintsComparison old.now new.now text.old text.new result }
+    ensures upper_bound { (result ≤ length text.new) × (result ≡ length (take result text.new)) }
+{
+    let mut old_transform = [0i64; CELLS];
+    let mut old_h = [0u64; CELLS];
+    let mut old_f = [0i64; CELLS];
+    let mut old_r = [0u64; CELLS];
+    let mut old_sums = [0i64; CELLS];
+    let mut new_transform = [0i64; CELLS];
+    let mut new_h = [0u64; CELLS];
+    let mut new_f = [0i64; CELLS];
+    let mut new_r = [0u64; CELLS];
+    let mut new_sums = [0i64; CELLS];
+    let mut old_cells = Cells::new(
+        &mut old_transform,
+        &mut old_h,
+        &mut old_f,
+        &mut old_r,
+        &mut old_sums,
+    );
+    let mut new_cells = Cells::new(
+        &mut new_transform,
+        &mut new_h,
+        &mut new_f,
+        &mut new_r,
+        &mut new_sums,
+    );
+    let compared = comparison::compare(old, new, 0, &mut old_cells, &mut new_cells);
+    listing(compared, text)
 }

@@ -8,20 +8,21 @@ use borrow.Author.Tests.{le-leb, lt-ltb}
 use lib.Dec.{leb}
 use lib.IntN.{ℤ, pos}
 use lib.ListN.{length, take, replicate, length-take, length-replicate}
-use Rattle.fund.specs.declared.Verdict.{Verdict}
-use Rattle.fund.specs.declared.Verdict.TheVariants.{Accepted, Refused}
-use Rattle.std.specs.Prelude.{if◌then◌else◌}
+use Rattle.fund.specs.Verdict.{Verdict}
+use Rattle.std.specs.Prelude.{Result, Err, Ok, if◌then◌else◌}
 use Rattle.fund.specs.Limits.{most_horizon, most_truncation}
 use Rattle.fund.specs.Reading.{FundFile, Reading, read, stopped}
+use Rattle.fund.specs.declared.Cells.{Cells}
+use Rattle.fund.specs.Cells.{slice_lengths}
 use Rattle.fund.specs.Refusals.{Lengths}
 use Rattle.fund.specs.Answer.{Answer, answer_to}
 use Rattle.fund.specs.Listing.{listed, printed, horizon_in, enough, listing_to}
 use Rattle.laws.specs.Ranges.{FundOk}
 use Rattle.writing.specs.Writing.{Written}
 use Rattle.answer_text.specs.Shown.{room, shown_answer, printable, listing_of}
-use Rattle.valuation.specs.Valued.{lengths}
 use Rattle.pricing.specs.declared.Priced.{Priced}
-use Rattle.pricing.specs.Priced.{left_priced, horizon_with, Answers}
+use Rattle.pricing.specs.declared.NotPriced.{NotPriced}
+use Rattle.pricing.specs.Priced.{verdict_in, figures_in, horizon_of, left_priced, horizon_with, Answers}
 use Rattle.prefix.specs.Prefix.{most_bytes}
 use Rattle.fund_printing.specs.declared.Asked.TheVariants.{Listing}
 use Rattle.fund_printing.specs.Printed.{shown_to}
@@ -48,52 +49,52 @@ pub signed_length : length signed_cells ≡ suc most_horizon
 signed_length = length-replicate {A = ℤ} (suc most_horizon) (pos 0)
 
 abbrev pub lent_lengths : Lengths
-lent_lengths = lengths signed_cells cells signed_cells cells signed_cells
+lent_lengths = slice_lengths signed_cells cells signed_cells cells signed_cells
 
 enough_lent : lent_lengths ≡ enough
 enough_lent = rw (signed_length, cells_length)
 
-pub answers_enough : (text : List ℕ) (r : Reading) (level : ℕ) (p : Priced) (a : Answer) → Answers text r level p a (answer_to text lent_lengths r) → Answers text r level p a (answer_to text enough r)
+pub answers_enough : (text : List ℕ) (r : Reading) (level : ℕ) (p : Result Priced NotPriced) (a : Answer) → Answers text r level p a (answer_to text lent_lengths r) → Answers text r level p a (answer_to text enough r)
 answers_enough text r level p a k = subst (λ (n : Lengths). Answers text r level p a (answer_to text n r)) enough_lent k
 
 horizon_most : (r : Reading) → ((fund : FundFile) → r ≡ read fund → FundOk fund) → (v : Verdict) → horizon_with v (horizon_in r) ≤ most_horizon
 unfolding horizon_in
-horizon_most r ok (Refused why place) = omega arith
-horizon_most (read fund) ok Accepted = (ok fund refl).header.horizon
-horizon_most (stopped why place) ok Accepted = omega arith
+horizon_most r ok (Err stop) = omega arith
+horizon_most (read fund) ok (Ok tt) = (ok fund refl).header.horizon
+horizon_most (stopped why place) ok (Ok tt) = omega arith
 
 -- a listing shows the same of a refusal for every horizon
-printed_left : (p : Priced) (d : List ℤ) (h : List ℕ) (f : List ℤ) (r : List ℕ) (s : List ℤ) (X : ℕ) (v : Verdict) →
-    printed (shown_answer p.verdict p.figures f r s) (horizon_with v X) v ≡ printed (left_priced p d h f r s) X v
+printed_left : (p : Result Priced NotPriced) (c : Cells) (X : ℕ) (v : Verdict) →
+    printed (shown_answer (verdict_in p) (figures_in p) c.f.now c.r.now c.sums.now) (horizon_with v X) v ≡ printed (left_priced p c) X v
 unfolding printed listed
-printed_left p d h f r s X Accepted = refl
-printed_left p d h f r s X (Refused why place) = refl
+printed_left p c X (Ok tt) = refl
+printed_left p c X (Err stop) = refl
 
-module _ (text : List ℕ) (r : Reading) (ok : (fund : FundFile) → r ≡ read fund → FundOk fund) (level : ℕ) (p : Priced) (d : List ℤ) (h : List ℕ) (f : List ℤ) (b : List ℕ) (s : List ℤ)
-    (given : Answers text r level p (left_priced p d h f b s) (answer_to text lent_lengths r)) where
-  k : Answers text r level p (left_priced p d h f b s) (answer_to text enough r)
-  k = answers_enough text r level p (left_priced p d h f b s) given
+module _ (text : List ℕ) (r : Reading) (ok : (fund : FundFile) → r ≡ read fund → FundOk fund) (level : ℕ) (p : Result Priced NotPriced) (c : Cells)
+    (given : Answers text r level p (left_priced p c) (answer_to text lent_lengths r)) where
+  k : Answers text r level p (left_priced p c) (answer_to text enough r)
+  k = answers_enough text r level p (left_priced p c) given
 
   abbrev shown_one : Answer
-  shown_one = shown_answer p.verdict p.figures f b s
+  shown_one = shown_answer (verdict_in p) (figures_in p) c.f.now c.r.now c.sums.now
 
-  within : AnswerIn (left_priced p d h f b s)
+  within : AnswerIn enough (left_priced p c)
   within = rw k.answer (answer_in text enough r)
 
-  X_most : p.horizon ≤ most_horizon
-  X_most = rw k.horizon (horizon_most r ok p.verdict)
+  X_most : horizon_of p ≤ most_horizon
+  X_most = rw k.horizon (horizon_most r ok (verdict_in p))
 
-  module _ (lf : length f ≡ suc most_horizon) (lr : length b ≡ suc most_horizon) (ls : length s ≡ suc most_horizon) (size : ℕ) where
-    range_is : printable p.figures.truncation p.horizon (length f) b (length s) size ≡ leb room size
+  module _ (size : ℕ) where
+    range_is : printable (figures_in p).truncation (horizon_of p) (length c.f.now) c.r.now (length c.sums.now) size ≡ leb room size
     unfolding printable
     range_is =
         rw (
-          le-leb p.horizon most_horizon X_most,
-          lt-ltb p.horizon (length f) (omega (arith, X_most, lf)),
-          lt-ltb p.horizon (length b) (omega (arith, X_most, lr)),
-          lt-ltb p.horizon (length s) (omega (arith, X_most, ls)),
-          le-leb p.figures.truncation most_truncation within.truncation,
-          bounded_first (suc p.horizon) b within.bounds,
+          le-leb (horizon_of p) most_horizon X_most,
+          lt-ltb (horizon_of p) (length c.f.now) (omega (arith, X_most, within.long_f)),
+          lt-ltb (horizon_of p) (length c.r.now) (omega (arith, X_most, within.long_R)),
+          lt-ltb (horizon_of p) (length c.sums.now) (omega (arith, X_most, within.long_F)),
+          le-leb (figures_in p).truncation most_truncation within.truncation,
+          bounded_first (suc (horizon_of p)) c.r.now within.bounds,
         )
         (both (leb room size))
       where
@@ -101,13 +102,13 @@ module _ (text : List ℕ) (r : Reading) (ok : (fund : FundFile) → r ≡ read 
         both true = refl
         both false = refl
 
-    pub shown_is : listing_of shown_one p.horizon size ≡ shown_to Listing text r size
+    pub shown_is : listing_of shown_one (horizon_of p) size ≡ shown_to Listing text r size
     unfolding listing_of listing_to
     shown_is =
         rw range_is
         (ap (λ (l : List ℕ). if leb room size then l else [])
-        (ap (λ (X : ℕ). printed shown_one X p.verdict) k.horizon
-        ∙ printed_left p d h f b s (horizon_in r) p.verdict
+        (ap (λ (X : ℕ). printed shown_one X (verdict_in p)) k.horizon
+        ∙ printed_left p c (horizon_in r) (verdict_in p)
         ∙ ap (λ (a : Answer). printed a (horizon_in r) a.verdict) k.answer))
 
 -- What is shown of a file that is the same for its first bytes.

@@ -1,5 +1,6 @@
 -- What is printed of a fund: what is asked of it, its listing or the line of its answer at a level.
-use Rattle.std.specs.Prelude.{List, [], ℕ, leb, ℤ, if◌then◌else◌}
+use Rattle.std.specs.Prelude.{List, [], ℕ, leb, Result, if◌then◌else◌}
+use Rattle.fund.specs.declared.Cells.{Cells}
 use Rattle.fund.specs.Reading.{Reading, reading}
 use Rattle.fund.specs.Quantile.{quantile_of}
 use Rattle.fund.specs.Answer.{Answer, answer_to}
@@ -7,6 +8,8 @@ use Rattle.fund.specs.Listing.{horizon_in, enough, listing_to}
 use Rattle.answer_text.specs.Shown.{room, shown_answer, listing_of}
 use Rattle.answer_text.specs.Level.{answer_line, level_room, level_line_of}
 use Rattle.pricing.specs.declared.Priced.{Priced}
+use Rattle.pricing.specs.declared.NotPriced.{NotPriced}
+use Rattle.pricing.specs.Priced.{verdict_in, figures_in, horizon_of, quantile_told}
 use Rattle.fund_printing.specs.declared.Asked.{Asked}
 use Rattle.fund_printing.specs.declared.Asked.TheVariants.{Listing, AtLevel}
 
@@ -16,9 +19,9 @@ level_in Listing = 0
 level_in (AtLevel level) = level
 
 -- What is asked of a call's answer and the slices that it left, for a text of that size.
-abbrev pub text_of : Asked → Priced → List ℤ → List ℕ → List ℤ → ℕ → List ℕ
-text_of Listing p f r s size = listing_of (shown_answer p.verdict p.figures f r s) p.horizon size
-text_of (AtLevel level) p f r s size = level_line_of p.verdict p.quantile size
+abbrev pub text_of : Asked → Result Priced NotPriced → Cells → ℕ → List ℕ
+text_of Listing p c size = listing_of (shown_answer (verdict_in p) (figures_in p) c.f.now c.r.now c.sums.now) (horizon_of p) size
+text_of (AtLevel level) p c size = level_line_of (verdict_in p) (quantile_told p) size
 
 -- The line of an answer at a level, for horizon X.
 abbrev pub line_at_level : ℕ → ℕ → Answer → List ℕ

@@ -7,13 +7,16 @@ mod sheets;
 
 ghost use Rattle.std.specs.Prelude.{◌≡◌, ◌≤◌, IfOk, length, take};
 ghost use Rattle.writing.specs.Writing.{Written};
+ghost use Rattle.answer_text.specs.Level.{level_line_of};
+ghost use Rattle.pricing.specs.Priced.{verdict_in, quantile_told};
+ghost use Rattle.fund_printing.specs.declared.Asked.TheVariants.{Listing};
 ghost use Rattle.fund_printing.specs.Printed.{level_in, text_of, shown};
 ghost use Rattle.fund_printing.specs.Input.{HoldsFirst, ReadFirst, ShowsFirst, ShowsInput, PrintsMemory};
 ghost use Rattle.input.specs.Input.{InMemory};
 
-use fund::Fund;
+use fund::{Cells, Fund};
 use input::{ReadFailed, Source};
-use pricing::Priced;
+use pricing::{NotPriced, Priced};
 pub use sheets::print_sheets;
 use std::io::Read;
 
@@ -37,38 +40,58 @@ pub struct PrintedInput {
     pub size: usize,
 }
 
-// No listing shows an answer at a level.
-pub(crate) fn level_of(asked: Asked) -> u64
-    ensures { result ≡ level_in asked }
+impl Asked {
+    // No listing shows an answer at a level.
+    fn level(self) -> u64
+        ensures { result ≡ level_in self }
+    {
+        match self {
+            Asked::Listing => 0,
+            Asked::AtLevel(level) => level,
+        }
+    }
+}
+
+// Writes the listing of an answer from the start of the text; returns its size.
+fn write_listing(answer: Result<Priced, NotPriced>, cells: &Cells<'_>, text: &mut [u8]) -> usize
+    ensures { Written (text_of Listing answer cells.now (length text.old)) text.old text.new result }
 {
-    match asked {
-        Asked::Listing => 0,
-        Asked::AtLevel(level) => level,
+    let f = &cells.f[..];
+    let r = &cells.r[..];
+    let sums = &cells.sums[..];
+    match answer {
+        Ok(priced) => {
+            let horizon = priced.horizon as usize;
+            answer_text::listing(Ok(()), priced.figures, horizon, f, r, sums, text)
+        }
+        Err(stop) => {
+            answer_text::listing(Err(stop.refused), fund::no_figures(), 0, f, r, sums, text)
+        }
+    }
+}
+
+// Writes the line of an answer at a level from the start of the text; returns its size.
+fn write_level(answer: Result<Priced, NotPriced>, text: &mut [u8]) -> usize
+    ensures { Written (level_line_of (verdict_in answer) (quantile_told answer) (length text.old)) text.old text.new result }
+{
+    match answer {
+        Ok(priced) => answer_text::level_line(Ok(()), priced.quantile, text),
+        Err(stop) => answer_text::level_line(Err(stop.refused), None, text),
     }
 }
 
 // Writes what is asked of an answer from the start of the text; returns its size.
 pub(crate) fn write_asked(
     asked: Asked,
-    priced: Priced,
-    f: &[i64],
-    r: &[u64],
-    sums: &[i64],
+    answer: Result<Priced, NotPriced>,
+    cells: &Cells<'_>,
     text: &mut [u8],
 ) -> usize
-    ensures { Written (text_of asked priced f.now r.now sums.now (length text.old)) text.old text.new result }
+    ensures { Written (text_of asked answer cells.now (length text.old)) text.old text.new result }
 {
-    let verdict = priced.verdict;
     match asked {
-        Asked::Listing => {
-            let figures = priced.figures;
-            let horizon = priced.horizon as usize;
-            answer_text::listing(verdict, figures, horizon, f, r, sums, text)
-        }
-        Asked::AtLevel(_) => {
-            let quantile = priced.quantile;
-            answer_text::level_line(verdict, quantile, text)
-        }
+        Asked::Listing => write_listing(answer, cells, text),
+        Asked::AtLevel(_) => write_level(answer, text),
     }
 }
 
@@ -83,17 +106,9 @@ pub fn print(asked: Asked, file: &[u8], text: &mut [u8]) -> usize
     let mut f = [0i64; CELLS];
     let mut r = [0u64; CELLS];
     let mut sums = [0i64; CELLS];
-    let level = level_of(asked);
-    let priced = pricing::price(
-        file,
-        level,
-        &mut transform,
-        &mut h,
-        &mut f,
-        &mut r,
-        &mut sums,
-    );
-    write_asked(asked, priced, &f, &r, &sums, text)
+    let mut cells = Cells::new(&mut transform, &mut h, &mut f, &mut r, &mut sums);
+    let answer = pricing::price(file, asked.level(), &mut cells);
+    write_asked(asked, answer, &cells, text)
 }
 
 // The same of a file of which the first `size` bytes of the buffer are the first ones, as many as the buffer has room for.

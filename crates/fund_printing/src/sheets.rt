@@ -5,6 +5,7 @@ ghost use Rattle.writing.specs.Writing.{Written};
 ghost use Rattle.fund_printing.specs.Printed.{shown_to};
 
 use crate::{Asked, CELLS};
+use fund::Cells;
 
 // Prices the fund of a header text and two sheets and writes what is asked, as `print` does of a file.
 pub fn print_sheets(
@@ -23,17 +24,7 @@ pub fn print_sheets(
     let mut f = [0i64; CELLS];
     let mut r = [0u64; CELLS];
     let mut sums = [0i64; CELLS];
-    let level = crate::level_of(asked);
-    let priced = pricing::price_sheets(
-        header,
-        rates,
-        members,
-        level,
-        &mut transform,
-        &mut h,
-        &mut f,
-        &mut r,
-        &mut sums,
-    );
-    crate::write_asked(asked, priced, &f, &r, &sums, text)
+    let mut cells = Cells::new(&mut transform, &mut h, &mut f, &mut r, &mut sums);
+    let answer = pricing::price_sheets(header, rates, members, asked.level(), &mut cells);
+    crate::write_asked(asked, answer, &cells, text)
 }

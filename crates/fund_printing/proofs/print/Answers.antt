@@ -1,15 +1,15 @@
 -- What is written is what is asked of the call's answer.
-use mathlib.Core.Path.{◌∙◌}
+use mathlib.Core.Path.{◌≡◌}
+use borrow.Author.Rules.{rules}
+use Rattle.fund.specs.Cells.{lengths}
 use Rattle.laws.specs.Ranges.{read_ranges}
-use Rattle.fund_printing.proofs.ShownListing.{cells_length, signed_length}
+use Rattle.fund_printing.proofs.ShownListing.{lent_lengths}
 use Rattle.fund_printing.proofs.ShownAsked.{written}
 use Rattle.fund_printing.proofs.print.Goals as goal
 
-pub returns : goal.returns
-returns c =
-    let a = c.args in
-    let p = c.price-priced in
-    let o = p.new in
-    let w = written a.file.now _ (read_ranges a.file.now) p.result o.transform o.h o.f o.r o.sums (p.auto.f ∙ signed_length) (p.auto.r ∙ cells_length) (p.auto.sums ∙ signed_length)
-    a.asked c.level_of-level.ensures p.ensures.answers c.write_asked.ensures in
-    record { written = w.0; upper_bound = w.1 }
+pub returns-clause-written : goal.returns-clause-written
+returns-clause-written c =
+    let file = c.args.file.now in
+    let answer = c.price-answer in
+    let lent : lengths c.new-cells.result ≡ lent_lengths = search rules in
+    written file _ (read_ranges file) answer.result answer.new.cells c.args.asked c.level.ensures (rw lent at answer.ensures.prices.answers) c.write_asked.ensures
