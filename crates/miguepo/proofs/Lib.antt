@@ -1,2 +1,3 @@
 pub mod HostedFields
 pub mod Complement
+pub mod Lent
