@@ -3,9 +3,8 @@ use mathlib.Core.Path.{◌≡◌, refl, ◌∙◌, ap, ap₂}
 use mathlib.Core.List.{List, []}
 use Prim.Native.Nat.{ℕ, ◌≤◌}
 use lib.Dec.{leb}
-use lib.IntN.{ℤ}
 use lib.ListN.{take}
-use Rattle.fund.specs.Verdict.{Verdict, refused_at}
+use Rattle.fund.specs.Verdict.{Verdict}
 use Rattle.std.specs.Prelude.{Result, Err, Ok, if◌then◌else◌}
 use Rattle.fund.specs.Reading.{FundFile, Reading, read, stopped, reading}
 use Rattle.fund.specs.Folding.{lives}
@@ -28,7 +27,7 @@ pub level_is : (text : List ℕ) (r : Reading) (level : ℕ) (p : Result Priced 
 unfolding level_line_of level_line_to
 level_is text r level p c given size =
     let k = answers_enough text r level p (left_priced p c) given in
-    ap (λ (l : List ℕ). if leb level_room size then l else []) (ap₂ answer_line (ap (λ (a : Answer). a.verdict) k.answer) (quantile_is c k))
+    ap (λ (l : List ℕ). if leb level_room size then l else []) (ap₂ answer_line (ap (λ (a : Answer). a.verdict) k.answer) (quantile_is p c k))
 
 -- the line does not show the part of the bytes that is handed back with a refusal
 line_of : (f g : List ℕ) (n : Lengths) (fund : FundFile) (level X : ℕ) (v : Verdict) → line_at_level level X (answer_of f n fund v) ≡ line_at_level level X (answer_of g n fund v)

@@ -1,12 +1,10 @@
 -- What is asked of the call's answer is what is asked of what was read (written), and of a file what is asked of its first bytes (prints_first).
-use mathlib.Core.Path.{◌≡◌, ap, subst}
+use mathlib.Core.Path.{◌≡◌, ap}
 use mathlib.Core.List.{List, []}
-use Prim.Native.Nat.{ℕ, suc, ◌≤◌}
+use Prim.Native.Nat.{ℕ, ◌≤◌}
 use lib.Dec.{leb}
-use lib.IntN.{ℤ}
 use lib.ListN.{length, take}
 use Rattle.std.specs.Prelude.{Result, if◌then◌else◌}
-use Rattle.fund.specs.Limits.{most_horizon}
 use Rattle.fund.specs.Reading.{FundFile, Reading, read}
 use Rattle.fund.specs.Answer.{answer_to}
 use Rattle.laws.specs.Ranges.{FundOk}

@@ -8,7 +8,7 @@ use borrow.Author.Tests.{le-leb, lt-ltb}
 use lib.Dec.{leb}
 use lib.IntN.{ℤ, pos}
 use lib.ListN.{length, take, replicate, length-take, length-replicate}
-use Rattle.fund.specs.Verdict.{Verdict, refused_at}
+use Rattle.fund.specs.Verdict.{Verdict}
 use Rattle.std.specs.Prelude.{Result, Err, Ok, if◌then◌else◌}
 use Rattle.fund.specs.Limits.{most_horizon, most_truncation}
 use Rattle.fund.specs.Reading.{FundFile, Reading, read, stopped}
