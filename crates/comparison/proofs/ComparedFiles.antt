@@ -5,7 +5,8 @@ use mathlib.Core.List.{List}
 use Prim.Native.Nat.{ℕ, ◌≤◌}
 use native.Mathlib.Omega.{arith}
 use lib.IntN.{pos, ◌+ℤ◌}
-use lib.ListN.{length, take, take_of_length-le}
+use lib.ListN.{length, take}
+use Rattle.std.proofs.lemmas.List.{take_all}
 use lib.Signed.{◌≤ℤ◌}
 use Rattle.fund.specs.declared.Cells.{Cells}
 use Rattle.fund.specs.declared.Refused.{Refused}
@@ -30,26 +31,46 @@ use Rattle.moves.proofs.FiguresRange.{in_figures}
 use Rattle.comparison.specs.declared.Comparison.{Comparison}
 use Rattle.comparison.specs.Exact.{ExactMove, RatesAlone}
 use Rattle.comparison.specs.Comparison.{if_accepted, compared, Compares}
-use Rattle.comparison.specs.Steps.{told_of}
+use Rattle.comparison.specs.Steps.{told_by, told_of}
 use Rattle.comparison.proofs.ExactMoves.{Known, exact_move_lem}
 use Rattle.comparison.proofs.RatesAlone.{rates_alone}
 use Rattle.comparison.proofs.FigureSizes.{figures_small}
 
 -- ---- the file of what was read
-take_few : {A : Type 0} (n : ℕ) (l : List A) → length l ≤ n → take n l ≡ l
-take_few n l h = take_of_length-le l h
-
 file_in_lem : (r : Rows) → FundOk (file_of r) → file_in r ≡ file_of r
 unfolding file_in
-file_in_lem r ok = λ i. record { header = r.fund; rates = take_few most_rates r.rates.now ok.rows.few_rates i; members = take_few most_members r.members.now ok.rows.few_members i }
+file_in_lem r ok = λ i. record { header = r.fund; rates = take_all most_rates r.rates.now ok.rows.few_rates i; members = take_all most_members r.members.now ok.rows.few_members i }
 
 -- what is told of two funds that were read, whose figures are within the limits
 told_is : (r s : Rows) (x y : Priced) → FundOk (file_of r) → FundOk (file_of s) → FiguresIn r.fund x.figures → FiguresIn s.fund y.figures →
     told_of (Ok x) (Ok y) (Ok r) (Ok s) ≡ Some (record { moved = move_of r.fund x.figures s.fund y.figures; differences = differences (file_of r) (file_of s) })
-unfolding told_of moved_of
+unfolding told_by moved_of
 told_is r s x y ok fine h k =
     rw (in_figures r.fund x.figures h, in_figures s.fund y.figures k)
     (ap₂ (λ f g. Some (record { moved = move_of r.fund x.figures s.fund y.figures; differences = differences f g })) (file_in_lem r ok) (file_in_lem s fine))
+
+-- what is told where one of the four is missing
+pub no_before : (b a : Option Priced) (o n : Option Rows) → b ≡ None → None ≡ told_by b a o n
+unfolding told_by
+no_before b a o n e = rw e refl
+
+pub no_after : (b a : Option Priced) (o n : Option Rows) → a ≡ None → None ≡ told_by b a o n
+unfolding told_by
+no_after (Some b) a o n e = rw e refl
+no_after None a o n e = refl
+
+pub no_old : (b a : Option Priced) (o n : Option Rows) → o ≡ None → None ≡ told_by b a o n
+unfolding told_by
+no_old (Some b) (Some a) o n e = rw e refl
+no_old (Some b) None o n e = refl
+no_old None a o n e = refl
+
+pub no_new : (b a : Option Priced) (o n : Option Rows) → n ≡ None → None ≡ told_by b a o n
+unfolding told_by
+no_new (Some b) (Some a) (Some o) n e = rw e refl
+no_new (Some b) (Some a) None n e = refl
+no_new (Some b) None o n e = refl
+no_new None a o n e = refl
 
 -- ---- an accepted fund
 module _ (text : List ℕ) (level : ℕ) (n : Lengths) (p : Result Priced NotPriced) (a : Answer) (k : Prices text (reading text) level n p a) (v : a.verdict ≡ Ok tt) where
@@ -103,9 +124,9 @@ new_refused (stopped w x) s a b e h k = refl
 module _ (old new : List ℕ) (level : ℕ) (n m : Lengths) (cs ds : Cells) where
   pub told_as_defined : (p q : Result Priced NotPriced) (u v : Result Rows Refused) → Prices old (reading old) level n p (left_priced p cs) → Prices new (reading new) level m q (left_priced q ds) →
       found_in u ≡ reading old → found_in v ≡ reading new → told_of p q u v ≡ compared (reading old) (left_priced p cs) (reading new) (left_priced q ds)
-  unfolding told_of compared
-  told_as_defined (Err e) q u v k l h g = sym (old_refused (reading old) (reading new) (left_priced (Err e) cs) (left_priced q ds) e refl)
-  told_as_defined (Ok x) (Err e) u v k l h g = sym (new_refused (reading old) (reading new) (left_priced (Ok x) cs) (left_priced (Err e) ds) e refl refl)
+  unfolding told_by compared
+  told_as_defined (Err e) q u v k l h g = sym (old_refused (reading old) (reading new) (left_priced (Err e) cs) (left_priced q ds) e.refused refl)
+  told_as_defined (Ok x) (Err e) u v k l h g = sym (new_refused (reading old) (reading new) (left_priced (Ok x) cs) (left_priced (Err e) ds) e.refused refl refl)
   told_as_defined (Ok x) (Ok y) (Err e) v k l h g =
       let f = is_read old level n (Ok x) (left_priced (Ok x) cs) k refl in absurd (never_stopped e.why e.place f.fund (h ∙ f.is_read))
   told_as_defined (Ok x) (Ok y) (Ok r) (Err e) k l h g =
@@ -115,9 +136,9 @@ module _ (old new : List ℕ) (level : ℕ) (n m : Lengths) (cs ds : Cells) wher
       (small old level n (Ok x) (left_priced (Ok x) cs) k refl (file_of r) (sym h)) (small new level m (Ok y) (left_priced (Ok y) ds) l refl (file_of s) (sym g))
       ∙ ap₂ (λ t u. compared t (left_priced (Ok x) cs) u (left_priced (Ok y) ds)) h g
 
-no_member : {f g : FundFile} → member_difference f g ≡ None → first_member_line 1 f.members g.members ≡ None
+no_member : (f g : FundFile) → member_difference f g ≡ None → first_member_line 1 f.members g.members ≡ None
 unfolding member_difference
-no_member {f} {g} e = go (first_member_line 1 f.members g.members) e
+no_member f g e = go (first_member_line 1 f.members g.members) e
   where
     go : (o : Option ℕ) → option_map (in_both f g) o ≡ None → o ≡ None
     go None k = refl
@@ -154,7 +175,7 @@ module _ (old new : List ℕ) (level : ℕ) (n m : Lengths) (p q : Result Priced
     rates e₁ e₂ =
         subst (λ (x : Comparison). RatesAlone f g x.moved) found.told_is
         (rates_alone f a g b (known old level n p a k found.old_accepted f r) (known new level m q b l found.new_accepted g s)
-        (ap (λ (x : Comparison). x.differences.header) found.told_is ∙ e₁) (no_member (ap (λ (x : Comparison). x.differences.member) found.told_is ∙ e₂)))
+        (ap (λ (x : Comparison). x.differences.header) found.told_is ∙ e₁) (no_member f g (ap (λ (x : Comparison). x.differences.member) found.told_is ∙ e₂)))
 
   pub compares : (c : Option Comparison) → c ≡ compared (reading old) a (reading new) b → Compares old new level n m (record { old = p; new = q; comparison = c }) a b
   compares c is = record { old_priced = k; new_priced = l; comparison = is; exact = exact c is; rates = rates c is }

@@ -31,7 +31,7 @@ module _ (text : List ℕ) (r : Reading) (level : ℕ) (n : Lengths) (p : Result
   pub hosts : (result : List ℕ) → (result ≡ priced_fields p) × (read_signed (bits_of (figures_in p).premium) ≡ (figures_in p).premium) → HostsCells text r level n result c
   hosts result e =
       record {
-        result_is = e.0 ∙ rw (quantile_is k.answers, k.answers.horizon) (ap (λ (y : Answer). result_fields y (horizon_in r) (quantile_of level (horizon_in r) (answer_to text n r).F (answer_to text n r).verdict)) same);
+        result_is = e.0 ∙ rw (quantile_is p c k.answers, k.answers.horizon) (ap (λ (y : Answer). result_fields y (horizon_in r) (quantile_of level (horizon_in r) (answer_to text n r).F (answer_to text n r).verdict)) same);
         premium = subst (λ (x : Answer). read_signed (bits_of x.figures.premium) ≡ x.figures.premium) same e.1;
         inside = subst (λ (x : Answer). x.part.start + x.part.size ≤ length text) same (omega (arith, k.answers.ordered, k.answers.inside));
         D_is = ap (λ (x : Answer). x.D) same;
@@ -41,7 +41,7 @@ module _ (text : List ℕ) (r : Reading) (level : ℕ) (n : Lengths) (p : Result
         F_is = ap (λ (x : Answer). x.F) same;
         distance = λ fund e z. subst (λ (x : Answer). WithinBounds fund x) same (k.distance fund e (zero_told z));
         level_within = λ fund e z l.
-            subst (λ (x : Answer). QuantileWithin fund x level (quantile_of level (horizon_in r) (answer_to text n r).F (answer_to text n r).verdict)) same (rw (quantile_is k.answers) at (k.level_within fund e (zero_told z) l));
+            subst (λ (x : Answer). QuantileWithin fund x level (quantile_of level (horizon_in r) (answer_to text n r).F (answer_to text n r).verdict)) same (rw (quantile_is p c k.answers) at (k.level_within fund e (zero_told z) l));
         never_below = λ fund e z. subst (λ (x : Answer). NeverBelow fund x) same (k.never_below fund e (zero_told z));
         average = λ fund e z. k.average fund e (zero_told z);
       }
