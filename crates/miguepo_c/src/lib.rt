@@ -25,7 +25,13 @@ pub extern "C" fn miguepo_price(
         (slice_lengths transform.old h.old f.old r.old sums.old)
         res.new transform.new h.new f.new r.new sums.new }
 {
-    let mut cells = Cells::new(transform, h, f, r, sums);
+    let mut cells = Cells {
+        transform,
+        h,
+        f,
+        r,
+        sums,
+    };
     miguepo::miguepo_price(file, level, &mut cells, res);
 }
 
@@ -47,6 +53,12 @@ pub extern "C" fn miguepo_price_sheets(
         (slice_lengths transform.old h.old f.old r.old sums.old)
         res.new transform.new h.new f.new r.new sums.new }
 {
-    let mut lent = Cells::new(transform, h, f, r, sums);
+    let mut lent = Cells {
+        transform,
+        h,
+        f,
+        r,
+        sums,
+    };
     miguepo::miguepo_price_sheets(header, rates, members, level, &mut lent, res);
 }

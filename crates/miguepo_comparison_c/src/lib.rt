@@ -35,8 +35,20 @@ pub extern "C" fn miguepo_compare(
         (handed new_result.new new_transform.new new_h.new new_f.new new_r.new new_sums.new)
         comparison.new }
 {
-    let mut old_cells = Cells::new(old_transform, old_h, old_f, old_r, old_sums);
-    let mut new_cells = Cells::new(new_transform, new_h, new_f, new_r, new_sums);
+    let mut old_cells = Cells {
+        transform: old_transform,
+        h: old_h,
+        f: old_f,
+        r: old_r,
+        sums: old_sums,
+    };
+    let mut new_cells = Cells {
+        transform: new_transform,
+        h: new_h,
+        f: new_f,
+        r: new_r,
+        sums: new_sums,
+    };
     miguepo_comparison::miguepo_compare(
         old,
         new,

@@ -1,5 +1,5 @@
 -- `miguepo_comparison::moved_fields`: each field is the move's or the differences', and the signed ones are words, which C reads from their bits.
-use mathlib.Core.Path.{◌≡◌, ◌∙◌, ap}
+use mathlib.Core.Path.{◌≡◌, refl, ◌∙◌, ap}
 use Prim.Native.Nat.{ℕ}
 use lib.IntN.{ℤ}
 use borrow.Author.Rules.{rules}
@@ -39,7 +39,9 @@ returns c =
         bits_of_lem w.gross c.bits-gross.ensures,
         bits_of_lem w.gross_least c.bits-gross_least.ensures,
         bits_of_lem w.gross_most c.bits-gross_most.ensures,
-      ),
+        c.unwrap_or-header.ensures,
+        c.member_fields-line.ensures,
+      ) refl,
       record {
         premium = bits_read _ w.premium;
         least = bits_read _ w.least;

@@ -1,5 +1,0 @@
--- What the library's call answers. It is cited, so that what breaks it is refused at a fact, and not where a search gives up.
-use Rattle.miguepo_c.proofs.miguepo_price.Goals as goal
-
-pub returns : goal.returns
-returns c = ?
