@@ -1,6 +1,6 @@
 -- The contracts of the pricing calls and of the listing, in plain words (price_answered, price_demands, host_answered, host_demands, prints, prints_read, prints_file).
 use mathlib.Core.Path.{◌≡◌, refl, sym, ◌∙◌, ap, subst}
-use mathlib.Core.Bool.{Bool, false}
+use mathlib.Core.Bool.{Bool}
 use mathlib.Core.List.{List, []}
 use Prim.Native.Nat.{ℕ, ◌≤◌}
 use borrow.Author.Tests.{le-leb, lt-leb}
@@ -8,7 +8,8 @@ use lib.Dec.{leb}
 use lib.IntN.{ℤ}
 use lib.ListN.{length, get_or, drop}
 use Rattle.fund.specs.Verdict.{Verdict, refused_at}
-use Rattle.std.specs.Prelude.{if◌then◌else◌, None, Option, Some}
+use Rattle.std.specs.Prelude.{if◌then◌else◌, None, Option, Some, Result, Ok, Err, IfOk, ◌<◌, take}
+use Rattle.std.proofs.Common.{arith}
 use Rattle.fund.specs.Reading.{FundFile, Reading, read, reading}
 use Rattle.fund.specs.Refusals.{Lengths, number_in, place_in}
 use Rattle.fund.specs.Quantile.{quantile_of, reached_in, quantile_in}
@@ -24,10 +25,13 @@ use Rattle.input.specs.AllRead.{first_bytes, fails_at, ends_at}
 use Rattle.prefix.specs.Prefix.{most_bytes}
 use Rattle.fund_printing.specs.declared.Asked.{Asked}
 use Rattle.fund_printing.specs.declared.Asked.TheVariants.{Listing, AtLevel}
-use Rattle.fund_printing.specs.Input.{ShowsInput, ReadsFirst}
+use Rattle.input.specs.declared.ReadFailed.{ReadFailed}
+use Rattle.fund_printing.specs.Input.{HoldsFirst, ShowsInput, PrintsMemory}
 use Rattle.fund_printing.specs.Printed.{level_line_to, shown_to, shown}
+use Rattle.fund.specs.declared.Cells.{Cells}
 use Rattle.pricing.specs.declared.Priced.{Priced}
-use Rattle.pricing.specs.Priced.{left_priced, horizon_with, Prices}
+use Rattle.pricing.specs.declared.NotPriced.{NotPriced}
+use Rattle.pricing.specs.Priced.{verdict_in, start_in, end_in, horizon_of, quantile_told, left_priced, horizon_with, Prices}
 use Rattle.pricing.specs.JoinedSteps.{told_horizon}
 use Rattle.miguepo.specs.Host.{Hosts}
 use Rattle.claims.specs.Demands.{part_bytes, Demands}
@@ -35,17 +39,17 @@ use Rattle.claims.specs.Listing.{Shows, PrintsAsked, Prints, PrintsRead, PrintsF
 use Rattle.claims.specs.Calls.{handed, priced, quantile_read, ResultStruct, hosted}
 use Rattle.claims.proofs.DemandsHold.{Answered, demands}
 
-module _ (text : List ℕ) (r : Reading) (level : ℕ) (n : Lengths) (p : Priced) (d : List ℤ) (h : List ℕ) (f : List ℤ) (b : List ℕ) (s : List ℤ) (k : Prices text r level n p (left_priced p d h f b s)) where
-  is : left_priced p d h f b s ≡ answer_to text n r
+module _ (text : List ℕ) (r : Reading) (level : ℕ) (n : Lengths) (p : Result Priced NotPriced) (c : Cells) (k : Prices text r level n p (left_priced p c)) where
+  is : left_priced p c ≡ answer_to text n r
   is = k.answers.answer
 
-  v : p.verdict ≡ (answer_to text n r).verdict
+  v : verdict_in p ≡ (answer_to text n r).verdict
   v = ap (λ (a : Answer). a.verdict) is
 
   line_is : handed text p ≡ part_bytes text (answer_to text n r).part
-  line_is = rw (le-leb p.start p.end k.answers.ordered, le-leb p.end (length text) k.answers.inside) (ap (λ (a : Answer). part_bytes text a.part) is)
+  line_is = rw (le-leb (start_in p) (end_in p) k.answers.ordered, le-leb (end_in p) (length text) k.answers.inside) (ap (λ (a : Answer). part_bytes text a.part) is)
 
-  pub price_answered : Answered text r level n (priced text p d h f b s)
+  pub price_answered : Answered text r level n (priced text p c)
   price_answered =
       record {
         refuses = record { number = ap number_in v; place = ap place_in v; line = line_is };
@@ -59,15 +63,15 @@ module _ (text : List ℕ) (r : Reading) (level : ℕ) (n : Lengths) (p : Priced
               R = ap (λ (a : Answer). a.R) is;
               F = ap (λ (a : Answer). a.F) is;
             };
-        quantile = k.answers.quantile ∙ ap (quantile_of level p.horizon s) v;
+        quantile = k.answers.quantile ∙ ap (quantile_of level (horizon_of p) c.sums.now) v;
         distance = λ fund e a. subst (λ (x : Answer). WithinBounds fund x) is (k.distance fund e (v ∙ a));
-        level_within = λ fund e a l. subst (λ (x : Answer). QuantileWithin fund x level p.quantile) is (k.level_within fund e (v ∙ a) l);
+        level_within = λ fund e a l. subst (λ (x : Answer). QuantileWithin fund x level (quantile_told p)) is (k.level_within fund e (v ∙ a) l);
         never_below = λ fund e a. subst (λ (x : Answer). NeverBelow fund x) is (k.never_below fund e (v ∙ a));
         average = λ fund e a. k.average fund e (v ∙ a);
       }
 
-  pub price_demands : Demands text r level n (priced text p d h f b s)
-  price_demands = demands text r level n (priced text p d h f b s) price_answered
+  pub price_demands : Demands text r level n (priced text p c)
+  price_demands = demands text r level n (priced text p c) price_answered
 
 -- the two fields tell the answer
 read_back : (q : Option ℕ) → quantile_read (reached_in q) (quantile_in q) ≡ q
@@ -137,22 +141,35 @@ prints Listing text r ok before after size w =
 prints (AtLevel level) text r ok before after size w =
     record { shows = shows 64 (level_line_to text r level) before after size w; within = λ fund e v l. level_within text enough r fund (ok fund e) e v level l }
 
-pub prints_read : (asked : Asked) (buffer before after : List ℕ) (p : PrintedInput) → ShowsInput (shown asked) buffer before after p → PrintsRead (Prints asked) buffer before after p.failed p.read p.size
-prints_read asked buffer before after p k =
+pub prints_read : (asked : Asked) (buffer before after : List ℕ) (r : Result PrintedInput ReadFailed) → ShowsInput (shown asked) buffer before after r → PrintsRead (Prints asked) buffer before after r
+prints_read asked buffer before after (Ok p) k =
     record {
-      printed = λ e file h. prints asked file (reading file) (read_ranges file) before after p.size (k.prints e file h);
-      stays = λ e. let s = k.kept e in record { none = s.0; same = s.1 };
+      printed = λ q e file h.
+          let z : p ≡ q = cc e in
+          prints asked file (reading file) (read_ranges file) before after q.size
+          (subst (λ (x : PrintedInput). Written (shown asked file (length before)) before after x.size) z (k.prints file (subst (λ (x : PrintedInput). take (length buffer) file ≡ take x.read buffer) (sym z) h)));
+      stays = λ failed e. let z : ◌≡◌ {A = ℕ} 0 1 = cc e in absurd (omega arith);
       inside = k.inside;
     }
+prints_read asked buffer before after (Err failed) k =
+    record { printed = λ p e file h. let z : ◌≡◌ {A = ℕ} 0 1 = cc e in absurd (omega arith); stays = λ f e. k.kept; inside = k.inside }
 
 -- of a file in memory the bytes that were read are its first ones
-pub prints_file : {prints : List ℕ → List ℕ → List ℕ → ℕ → Type 0} {file pieces buffer before after : List ℕ} {failed : Bool} {read size : ℕ} →
-    PrintsRead prints buffer before after failed read size → (failed ≡ false → most_bytes ≤ length buffer) → ReadsFirst file pieces buffer read failed →
-    PrintsFile prints file pieces buffer before after failed read size
-prints_file {file = file} {buffer = buffer} k enough m =
-    record {
-      printed = λ e. k.printed e file (first_bytes buffer (rw e at (m.reads (enough e))) m.bytes);
-      stays = k.stays;
-      fails = λ e h. fails_at (rw e at (m.reads h));
-      ends = λ e h. ends_at (rw e at (m.reads (enough e))) h;
-    }
+module _ (prints : List ℕ → List ℕ → List ℕ → ℕ → Type 0) (file pieces buffer before after : List ℕ) where
+  pub prints_file : (r : Result PrintedInput ReadFailed) → PrintsRead prints buffer before after r → IfOk r (λ (p : PrintedInput). HoldsFirst buffer p.read) → PrintsMemory file pieces buffer r →
+      PrintsFile prints file pieces buffer before after r
+  prints_file (Ok p) k holds m =
+      let bytes : take (length buffer) file ≡ take p.read buffer = first_bytes buffer (m.reads holds.enough) m.bytes in
+      record {
+        printed = λ q e. let z : p ≡ q = cc e in k.printed q e file (subst (λ (x : PrintedInput). take (length buffer) file ≡ take x.read buffer) z bytes);
+        stays = k.stays;
+        fails = λ failed e h. let z : ◌≡◌ {A = ℕ} 0 1 = cc e in absurd (omega arith);
+        ends = λ q e. let z : p ≡ q = cc e in subst (λ (x : PrintedInput). x.read < length buffer → 0 < get_or pieces x.read 1) z (λ h. ends_at (m.reads holds.enough) h);
+      }
+  prints_file (Err failed) k holds m =
+      record {
+        printed = λ p e. let z : ◌≡◌ {A = ℕ} 0 1 = cc e in absurd (omega arith);
+        stays = k.stays;
+        fails = λ f e h. let z : failed ≡ f = cc e in subst (λ (x : ReadFailed). (x.size < length buffer) × (get_or pieces x.size 1 ≡ 0)) z (fails_at (m.reads h));
+        ends = λ p e h. let z : ◌≡◌ {A = ℕ} 0 1 = cc e in absurd (omega arith);
+      }

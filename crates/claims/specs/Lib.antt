@@ -1,4 +1,5 @@
 pub mod Demands
+pub mod Steps
 pub mod Listing
 pub mod Calls
 pub mod Sheets

@@ -1,12 +1,16 @@
 -- What a text holds after a file's listing, or the line of its answer at a level, was printed into it, and how near it is to the exact figures.
-use Rattle.std.specs.Prelude.{◌≡◌, Bool, true, false, List, ℕ, ◌^◌, ◌<◌, ◌≤◌, length, take, drop, get_or, Ok}
+use Rattle.std.specs.Prelude.{◌≡◌, List, ℕ, ◌^◌, ◌<◌, ◌≤◌, length, take, drop, get_or, Result, Ok, Err}
 use Rattle.fund.specs.Reading.{FundFile, Reading, read, reading}
 use Rattle.fund.specs.Quantile.{quantile_of}
 use Rattle.fund.specs.Answer.{answer_to}
 use Rattle.fund.specs.Listing.{horizon_in, enough, listing_to}
 use Rattle.fund.specs.Distance.{WithinBounds, NeverBelow, QuantileWithin}
 use Rattle.answer_text.specs.Shown.{room}
+use Rattle.input.specs.declared.ReadFailed.{ReadFailed}
+use Rattle.input.specs.Input.{size_of}
 use Rattle.fund_printing.specs.declared.Asked.{Asked}
+use Rattle.fund_printing.specs.declared.PrintedInput.{PrintedInput}
+use Rattle.fund_printing.specs.Input.{read_of}
 use Rattle.fund_printing.specs.declared.Asked.TheVariants.{Listing, AtLevel}
 use Rattle.fund_printing.specs.Printed.{level_line_to}
 
@@ -49,16 +53,16 @@ Prints asked file = PrintsAsked asked file (reading file)
 
 -- Standard input, of which `read` bytes stand in a buffer: whatever the file is, if these are its first bytes, as many as the buffer has
 -- room for, then the same is printed of it. Where it fails, the text stays as it is.
-pub record PrintsRead (prints : List ℕ → List ℕ → List ℕ → ℕ → Type 0) (buffer before after : List ℕ) (failed : Bool) (read size : ℕ) : Type 0 where
-  pub printed : failed ≡ false → (file : List ℕ) → take (length buffer) file ≡ take read buffer → prints file before after size
-  pub stays : failed ≡ true → Unchanged before after size
-  pub inside : read ≤ length buffer
+pub record PrintsRead (prints : List ℕ → List ℕ → List ℕ → ℕ → Type 0) (buffer before after : List ℕ) (r : Result PrintedInput ReadFailed) : Type 0 where
+  pub printed : (p : PrintedInput) → r ≡ Ok p → (file : List ℕ) → take (length buffer) file ≡ take p.read buffer → prints file before after p.size
+  pub stays : (failed : ReadFailed) → r ≡ Err failed → after ≡ before
+  pub inside : size_of (read_of r) ≤ length buffer
 
 -- A file in memory that is read in pieces: a read at a place gives at most as many bytes as the piece there says, one behind the last piece, and fails where that is
 -- 0. Whatever the pieces are, the same is printed of the file's own bytes. It fails where a read does, which is the one behind the bytes that were read, or in a
 -- buffer without room for all that is read of a file; and a read that fails is not taken for the end.
-pub record PrintsFile (prints : List ℕ → List ℕ → List ℕ → ℕ → Type 0) (file pieces buffer before after : List ℕ) (failed : Bool) (read size : ℕ) : Type 0 where
-  pub printed : failed ≡ false → prints file before after size
-  pub stays : failed ≡ true → Unchanged before after size
-  pub fails : failed ≡ true → 65536 ≤ length buffer → (read < length buffer) × (get_or pieces read 1 ≡ 0)
-  pub ends : failed ≡ false → read < length buffer → 0 < get_or pieces read 1
+pub record PrintsFile (prints : List ℕ → List ℕ → List ℕ → ℕ → Type 0) (file pieces buffer before after : List ℕ) (r : Result PrintedInput ReadFailed) : Type 0 where
+  pub printed : (p : PrintedInput) → r ≡ Ok p → prints file before after p.size
+  pub stays : (failed : ReadFailed) → r ≡ Err failed → after ≡ before
+  pub fails : (failed : ReadFailed) → r ≡ Err failed → 65536 ≤ length buffer → (failed.size < length buffer) × (get_or pieces failed.size 1 ≡ 0)
+  pub ends : (p : PrintedInput) → r ≡ Ok p → p.read < length buffer → 0 < get_or pieces p.read 1

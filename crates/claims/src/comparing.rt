@@ -7,9 +7,9 @@ ghost use Rattle.claims.specs.Calls.{priced, ResultStruct, hosted_cells};
 ghost use Rattle.claims.specs.Comparison.{ComparesPlainly, PrintsMove, comparison_read, ComparisonStruct};
 
 use comparison::Compared;
-use fund::{Figures, Fund};
-use moves::{Differences, Moved};
-use rows::FileRead;
+use fund::{Cells, Figures, Fund};
+use moves::{Differences, Move};
+use rows::Rows;
 
 // Demands 1, 2 and 3 of both funds, the premium's move, the most that arithmetic can have to do with it, and the theorem on the exact move.
 pub fn claimed_comparison(
@@ -26,13 +26,7 @@ pub fn claimed_comparison(
         (priced new.now result.new new_cells.new)
         result.comparison }
 {
-    comparison::compare(
-        old,
-        new,
-        level,
-        old_cells,
-        new_cells,
-    )
+    comparison::compare(old, new, level, old_cells, new_cells)
 }
 
 // The same of the call for C, and each field of its three structs.
@@ -80,16 +74,16 @@ pub fn claimed_comparison_print(old: &[u8], new: &[u8], text: &mut [u8]) -> usiz
     comparison_printing::print(old, new, text)
 }
 
-// The move of any figures, or that they are outside their ranges.
-pub fn claimed_move(old: Fund, before: Figures, new: Fund, after: Figures) -> Moved
+// The move of any figures; outside their ranges none.
+pub fn claimed_move(old: Fund, before: Figures, new: Fund, after: Figures) -> Option<Move>
     ensures { result ≡ moved_of old before new after }
 {
     moves::move_between(old, before, new, after)
 }
 
 // What differs between any two files that were read.
-pub fn claimed_differences(old: FileRead, new: FileRead) -> Differences
-    ensures { result ≡ differences (file_in old) (file_in new) }
+pub fn claimed_differences(old: Rows<'_>, new: Rows<'_>) -> Differences
+    ensures { result ≡ differences (file_in old.entry) (file_in new.entry) }
 {
     moves::differing(old, new)
 }

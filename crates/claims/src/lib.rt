@@ -20,9 +20,9 @@ ghost use Rattle.pricing.specs.Priced.{found_in};
 ghost use Rattle.claims.specs.Calls.{handed, priced, ResultStruct, hosted_cells};
 ghost use Rattle.claims.specs.WrittenOut.{PricedWrittenOut};
 
-use fund_printing::{Asked, PrintedInput};
-use input::Source;
 use fund::{Cells, Refused};
+use fund_printing::{Asked, PrintedInput};
+use input::{ReadFailed, Source};
 use pricing::{NotPriced, Priced};
 use rows::{FileRead, Rows};
 use std::io::{Empty, Read};
@@ -106,8 +106,8 @@ pub fn claimed_input<R: Read + Drop>(
     reader: R,
     buffer: &mut [u8],
     text: &mut [u8],
-) -> PrintedInput
-    ensures { PrintsRead (Prints asked) buffer.new text.old text.new result.failed result.read result.size }
+) -> Result<PrintedInput, ReadFailed>
+    ensures { PrintsRead (Prints asked) buffer.new text.old text.new result }
 {
     fund_printing::print_input(asked, reader, buffer, text)
 }
@@ -119,8 +119,8 @@ pub fn claimed_memory(
     pieces: &[u32],
     buffer: &mut [u8],
     text: &mut [u8],
-) -> PrintedInput
-    ensures { PrintsFile (Prints asked) file.now pieces.now buffer.new text.old text.new result.failed result.read result.size }
+) -> Result<PrintedInput, ReadFailed>
+    ensures { PrintsFile (Prints asked) file.now pieces.now buffer.new text.old text.new result }
 {
     fund_printing::print_source(asked, Source::<Empty>::memory(), file, pieces, buffer, text)
 }

@@ -12,10 +12,8 @@ ghost use Rattle.claims.specs.Listing.{PrintsAsked};
 ghost use Rattle.claims.specs.Calls.{priced, ResultStruct, hosted_cells};
 ghost use Rattle.claims.specs.Sheets.{PricedAsFile};
 
-use fund::{Member, Rate, Refusal, SheetRow};
+use fund::{Cells, Fund, Member, Rate, Refusal, Refused};
 use fund_printing::Asked;
-use lines::Header;
-use fund::Cells;
 use pricing::{NotPriced, Priced};
 use rows::FileRead;
 
@@ -74,24 +72,24 @@ pub fn claimed_print_sheets(
 }
 
 // Refusals 1, 2 and 11, or the header and the rows.
-pub fn claimed_read_sheets(header: &[u8], rates: &[u8], members: &[u8]) -> FileRead
+pub fn claimed_read_sheets(header: &[u8], rates: &[u8], members: &[u8]) -> Result<FileRead, Refused>
     ensures { result ≡ file_read (sheet_reading header.now rates.now members.now) }
 {
     sheet_reader::read(header, rates, members)
 }
 
 // The header's figures and the lines behind it, or its refusal, whatever follows it.
-pub fn claimed_header(text: &[u8]) -> Header
+pub fn claimed_header(text: &[u8]) -> Result<(Fund, usize), Refused>
     ensures { HeaderRead text.now result }
 {
     lines::read_header(text)
 }
 
-// A refusal without rows.
-pub fn claimed_without_rows(why: Refusal, place: u64) -> FileRead
+// What is read of a file that is refused.
+pub fn claimed_without_rows(why: Refusal, place: u64) -> Result<FileRead, Refused>
     ensures { result ≡ file_read (stopped why place) }
 {
-    rows::without_rows(why, place)
+    Err(why.at(place))
 }
 
 // Whether a number is from the least to the most.
@@ -116,14 +114,14 @@ pub fn claimed_member_in_range(enrolled: usize, lives: u64, m: Member) -> bool
 }
 
 // A row of the rates' sheet, from its bytes.
-pub fn claimed_rate_row(row: &[u8]) -> SheetRow
+pub fn claimed_rate_row(row: &[u8]) -> Option<Rate>
     ensures { result ≡ rate_row_of row.now }
 {
     sheet_cells::rate_row(row)
 }
 
 // A row of the members' sheet.
-pub fn claimed_member_row(row: &[u8]) -> SheetRow
+pub fn claimed_member_row(row: &[u8]) -> Option<Member>
     ensures { result ≡ member_row_of row.now }
 {
     sheet_cells::member_row(row)

@@ -5,4 +5,4 @@ use Rattle.claims.proofs.claimed_memory.Goals as goal
 pub returns : goal.returns
 returns c =
     let r = c.print_source.ensures in
-    prints_file (prints_read c.args.asked _ _ _ _ r.shows_input) (λ e. (r.shows_input.holds e).enough) (r.prints_memory c.memory.ensures)
+    prints_file _ _ _ _ _ _ c.print_source.result (prints_read c.args.asked _ _ _ _ r.shows_input) r.shows_input.holds (r.prints_memory c.memory.ensures)

@@ -6,4 +6,5 @@ use Rattle.claims.proofs.claimed_price.Goals as goal
 pub returns : goal.returns
 returns c =
     let p = c.price in
-    let o = p.new in record { demands = price_demands _ _ _ _ p.result o.transform o.h o.f o.r o.sums p.ensures; priced_written_out = as_written_out _ _ _ _ (price_answered _ _ _ _ p.result o.transform o.h o.f o.r o.sums p.ensures) }
+    let k = p.ensures.prices in
+    record { demands = price_demands _ _ _ _ p.result p.new.cells k; priced_written_out = as_written_out _ _ _ _ (price_answered _ _ _ _ p.result p.new.cells k) }

@@ -4,6 +4,5 @@ use Rattle.claims.proofs.comparing.claimed_comparison.Goals as goal
 
 pub returns : goal.returns
 returns c =
-    let lent = c in
-    let called = lent in
-    compares_plainly _ _ _ _ _ _ _ _ _ _ _ _ _ _ _ _ called.compare.ensures
+    let p = c.compare in
+    compares_plainly _ _ _ _ _ p.result p.new.old_cells p.new.new_cells p.ensures.compares

@@ -5,7 +5,5 @@ use Rattle.claims.proofs.comparing.claimed_host_comparison.Goals as goal
 
 pub returns : goal.returns
 returns c =
-    let lent = c in
-    let called = lent in
-    let k = called.miguepo_compare.ensures in
+    let k = c.miguepo_compare.ensures.hosts in
     record { compares_plainly = hosts_plainly _ _ _ _ _ _ _ _ k; result_struct = host_struct _ _ _ _ _ _ _ _ _ _ k.old_hosted; result_struct_2 = host_struct _ _ _ _ _ _ _ _ _ _ k.new_hosted; comparison_struct = comparison_struct _ _ _ _ _ _ _ _ k }
