@@ -1,5 +1,5 @@
 // The calls that the pricing call is made of, each a public call of its own: what it gives is its definition's, for every input.
-ghost use Rattle.std.specs.Prelude.{◌≡◌, Err, false, [], min, ◌+◌, length, drop};
+ghost use Rattle.std.specs.Prelude.{◌≡◌, false, [], min, ◌+◌, length, drop};
 ghost use Rattle.fund.specs.Base.{sum};
 ghost use Rattle.fund.specs.Cells.{lengths};
 ghost use Rattle.fund.specs.Limits.{limits, most_load};
@@ -154,12 +154,15 @@ pub fn claimed_value(
     valuation::value(fund, points, cells)
 }
 
-// A refusal with zeros in all slices.
-pub fn claimed_refusal(stop: Refused, cells: &mut Cells) -> Result<Figures, Refused>
-    ensures { left_valued result cells.new ≡ refused [] (lengths cells.old) (Err stop) }
+// A verdict with zeros for every figure and in all slices.
+pub fn claimed_refusal(verdict: Verdict, cells: &mut Cells) -> Result<Figures, Refused>
+    ensures { left_valued result cells.new ≡ refused [] (lengths cells.old) verdict }
 {
     cells.clear();
-    Err(stop)
+    match verdict {
+        Ok(()) => Ok(fund::no_figures()),
+        Err(stop) => Err(stop),
+    }
 }
 
 // The first place up to the horizon where the sums reach the level, or none.

@@ -2,10 +2,9 @@
 use Rattle.std.specs.Prelude.{Err, Ok, Result, Option, Some, None, option_map}
 use mathlib.Core.Path.{◌≡◌, refl, sym, ◌∙◌, ap, ap₂, subst}
 use mathlib.Core.List.{List}
-use Prim.Native.Nat.{ℕ, ◌≤◌}
+use Prim.Native.Nat.{ℕ}
 use native.Mathlib.Omega.{arith}
 use lib.IntN.{pos, ◌+ℤ◌}
-use lib.ListN.{length, take}
 use Rattle.std.proofs.lemmas.List.{take_all}
 use lib.Signed.{◌≤ℤ◌}
 use Rattle.fund.specs.declared.Cells.{Cells}

@@ -8,7 +8,7 @@ use native.Mathlib.Nat as N
 use native.Mathlib.Omega.{arith}
 use lib.IntN.{ℤ, pos, negsuc, nat_abs, ◌+ℤ◌, ◌-ℤ◌, ◌*ℤ◌}
 use Rattle.rounding.proofs.Laws.{up_least}
-use Rattle.fund.specs.Verdict.{Verdict, refused_at}
+use Rattle.fund.specs.Verdict.{Verdict}
 use Rattle.fund.specs.Base.{total}
 use Rattle.fund.specs.Limits.{most_deductible, most_bound, most_worth, fourth_loading}
 use Rattle.fund.specs.Reading.{FundFile}

@@ -1,5 +1,5 @@
 -- What the steps of a comparison say of rows that were read and of their pricing.
-use Rattle.std.specs.Prelude.{Option, Some, None, Result, Ok, Err, option_map}
+use Rattle.std.specs.Prelude.{Option, Some, None, Result, option_map}
 use Rattle.std.specs.Result.{result_ok}
 use Rattle.fund.specs.declared.Refused.{Refused}
 use Rattle.rows.specs.declared.Rows.{Rows}

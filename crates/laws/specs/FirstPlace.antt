@@ -1,5 +1,5 @@
 -- The first place of a list that meets a condition is the index that a search in a slice gives, counted on (first_at).
-use Rattle.std.specs.Prelude.{◌≡◌, refl, Bool, true, false, cond, not, List, [], ◌∷◌, ℕ, suc, ◌+◌, ◌<◌, nat_lt, length, if◌then◌else◌, Option, None, Some, option_map, position}
+use Rattle.std.specs.Prelude.{◌≡◌, refl, Bool, true, false, cond, not, List, [], ◌∷◌, ℕ, suc, ◌+◌, nat_lt, length, if◌then◌else◌, Option, None, Some, option_map, position}
 use Rattle.std.specs.List.{position_or_len}
 use Rattle.std.proofs.Common.{◌∙◌, ap, arith, le-ltb, lt-ltb, ltb-true, ltb-false}
 use Rattle.fund.specs.Refusals.{first}

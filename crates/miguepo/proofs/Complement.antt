@@ -1,32 +1,19 @@
--- The two's complement of a word below 0 (below_bits) and of any other (above_bits), and the number back from it (bits_read).
+-- The two's complement of a word is that of the definition (bits_are), and the number is read back from it (bits_read).
 use mathlib.Core.Path.{◌≡◌, refl, ap, ◌∙◌}
-use mathlib.Core.Bool.{Bool, true, false}
+use mathlib.Core.Bool.{Bool}
 use Prim.Native.Nat.{ℕ, ◌-◌, ◌^◌}
 use native.Mathlib.Omega.{arith}
-use borrow.Author.Tests.{ltb-true, lt-ltb, le-ltb}
-use lib.IntN.{ℤ, pos, negsuc, nat_abs}
-use lib.Signed.{lt_z}
+use borrow.Author.Tests.{lt-ltb, le-ltb}
+use lib.IntN.{ℤ, pos, negsuc}
 use mir.Syntax.{w64}
-use mir.Val.{SFits, to_z, of_z}
-use Rattle.whole.proofs.Signs.{sign}
+use mir.Val.{SFits, of_z}
 use Rattle.std.specs.Prelude.{if◌then◌else◌}
 use Rattle.miguepo.specs.Bits.{bits_of, read_signed}
 
-below_at : (z : ℤ) → lt_z z (pos 0) ≡ true → 0xffff_ffff_ffff_ffff - (nat_abs z - 1) ≡ bits_of z
+pub bits_are : (z : ℤ) → of_z w64 z ≡ bits_of z
 unfolding bits_of
-below_at (pos n) t = let h = ltb-true n 0 t in absurd (omega arith)
-below_at (negsuc n) t = omega arith
-
-above_at : (z : ℤ) → lt_z z (pos 0) ≡ false → nat_abs z ≡ bits_of z
-unfolding bits_of
-above_at (pos n) t = refl
-above_at (negsuc n) t = let z : ◌≡◌ {A = ℕ} 0 1 = cc in absurd (omega arith)
-
-pub below_bits : (z : ℤ) → SFits w64 z → lt_z (to_z w64 (of_z w64 z)) (pos 0) ≡ true → 0xffff_ffff_ffff_ffff - (nat_abs z - 1) ≡ bits_of z
-below_bits z f t = below_at z (sign z f t)
-
-pub above_bits : (z : ℤ) → SFits w64 z → lt_z (to_z w64 (of_z w64 z)) (pos 0) ≡ false → nat_abs z ≡ bits_of z
-above_bits z f t = above_at z (sign z f t)
+bits_are (pos n) = refl
+bits_are (negsuc n) = omega arith
 
 -- the number is read back from its bits
 pub bits_read : (z : ℤ) → SFits w64 z → read_signed (bits_of z) ≡ z

@@ -20,11 +20,7 @@ pub const FIELDS: usize = 12;
 pub fn bits(z: i64) -> u64
     ensures { result ≡ bits_of z }
 {
-    if z < 0 {
-        let below = -1 - z;
-        return 0xffff_ffff_ffff_ffff - (below as u64);
-    }
-    z as u64
+    z.cast_unsigned()
 }
 
 // The fields of a fund that is priced.

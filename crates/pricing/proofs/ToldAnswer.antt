@@ -66,7 +66,7 @@ no_line file p = go (leb 0 (length file))
 -- The part that was asked for, and none where the text has none.
 pub line_got : (file : List ℕ) (stop : NotPriced) (o : Option (Bor (List ℕ))) (d : Bor (List ℕ)) → d.now ≡ [] →
     MatchOption o ((stop.end < stop.start) ⊎ (length file < stop.end)) (λ (x : Bor (List ℕ)).
-        (stop.start ≤ stop.end) × (stop.end ≤ length file) × (x.now ≡ slice_range file stop.start stop.end) × (length x.now + stop.start ≡ stop.end)) →
+    (stop.start ≤ stop.end) × (stop.end ≤ length file) × (x.now ≡ slice_range file stop.start stop.end) × (length x.now + stop.start ≡ stop.end)) →
     (unwrap_or o d).now ≡ line_of file (Err stop)
 line_got file stop (Some x) d e k = k.2 ∙ line_inside file (Err stop) k.0 k.1
 line_got file stop None d e (inl k) = e ∙ line_reversed file (Err stop) k

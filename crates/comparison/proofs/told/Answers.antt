@@ -1,5 +1,4 @@
 -- Nothing is told where one of the four is missing, or the figures are outside their ranges; else the move and the differences.
-use Rattle.std.specs.Prelude.{refl}
 use Rattle.std.proofs.Common.{sym, ◌∙◌, ap}
 use Rattle.comparison.specs.Steps.{told_by, with_differences}
 use Rattle.comparison.proofs.ComparedFiles.{no_before, no_after, no_old, no_new}

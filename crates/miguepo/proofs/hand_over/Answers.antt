@@ -1,8 +1,6 @@
 -- A refused fund's premium is zero.
 use Rattle.std.specs.Prelude.{refl}
-use Rattle.std.proofs.Common.{sym, ◌∙◌, ap}
 use Rattle.miguepo.specs.Bits.{bits_of, read_signed}
-use Rattle.miguepo.specs.Host.{priced_fields}
 use Rattle.miguepo.proofs.hand_over.Goals as goal
 
 pub returns-in-Err : goal.returns-in-Err

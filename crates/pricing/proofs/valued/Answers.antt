@@ -1,9 +1,19 @@
--- Where refusals 3 to 6 stop, their refusal, and all cells are zero.
+-- The valuation of all model points; where refusals 3 to 6 stop, their refusal, and all cells are zero.
+use Rattle.std.specs.Prelude.{length}
 use Rattle.std.proofs.Common.{sym, ◌∙◌, ap}
 use Rattle.fund.specs.Cells.{lengths}
+use Rattle.valuation.specs.Valued.{valuation}
 use Rattle.pricing.specs.Priced.{valued_by}
 use Rattle.pricing.proofs.Cleared.{cleared_rows}
 use Rattle.pricing.proofs.valued.Goals as goal
+
+pub returns-in-Ok-clause-left : goal.returns-in-Ok-clause-left
+returns-in-Ok-clause-left c =
+    let a = c.args in
+    let n = lengths a.cells.now in
+    c.value.ensures.left
+    ∙ ap (λ ps. valuation a.rows.fund (length ps) ps n) c.as_slice.ensures.value
+    ∙ ap (valued_by a.rows.fund n) (sym c.in-Ok.is ∙ c.matched.ensures)
 
 pub returns-in-Err-clause-left : goal.returns-in-Err-clause-left
 returns-in-Err-clause-left c =

@@ -1,6 +1,13 @@
 -- All slices are zero, and no line is handed back.
-use Rattle.pricing.proofs.Cleared.{cleared_rows}
+use Rattle.std.proofs.Common.{sym, ◌∙◌, ap}
+use Rattle.std.specs.Prelude.{[]}
+use Rattle.fund.specs.Answer.{refused}
+use Rattle.fund.specs.Cells.{lengths}
+use Rattle.pricing.proofs.Cleared.{cleared_rows, cleared_figures}
 use Rattle.claims.proofs.steps.claimed_refusal.Goals as goal
 
-pub returns : goal.returns
-returns c = cleared_rows _ c.args.stop c.clear.new.self c.clear.ensures.zeros
+pub returns-in-Ok : goal.returns-in-Ok
+returns-in-Ok c = cleared_figures _ c.clear.new.self c.clear.ensures.zeros ∙ ap (refused [] _) (sym c.in-Ok.is)
+
+pub returns-in-Err : goal.returns-in-Err
+returns-in-Err c = cleared_rows _ c.in-Err.stop c.clear.new.self c.clear.ensures.zeros ∙ ap (refused [] _) (sym c.in-Err.is)
