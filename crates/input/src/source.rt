@@ -37,10 +37,7 @@ impl<R> Source<R> {
 fn piece(pieces: &[u32], at: usize) -> usize
     ensures { (result ≡ piece_at pieces.now at) × (result < 2 ^ 32) }
 {
-    if at < pieces.len() {
-        return pieces[at] as usize;
-    }
-    1
+    pieces.get(at).map_or(1, |piece| *piece as usize)
 }
 
 // One read of a file in memory, of which the first `given` bytes were given, and stand in the buffer.
@@ -60,16 +57,10 @@ fn give(
     if most == 0 {
         return None;
     }
-    let mut n = 0;
-    while n < most {
-        let at = size + n;
-        let next = from + n;
-        if at >= buffer.len() || next >= file.len() {
-            break;
-        }
-        buffer[at] = file[next];
-        n += 1;
-    }
+    let n = most
+        .min(buffer.len() - size)
+        .min(file.len().saturating_sub(from));
+    buffer[size..size + n].copy_from_slice(&file[from..from + n]);
     *given = from + n;
     Some(n)
 }
