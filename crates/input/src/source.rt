@@ -57,9 +57,7 @@ fn give(
     if most == 0 {
         return None;
     }
-    let n = most
-        .min(buffer.len() - size)
-        .min(file.len().saturating_sub(from));
+    let n = most.min(buffer.len() - size).min(file.len() - from);
     buffer[size..size + n].copy_from_slice(&file[from..from + n]);
     *given = from + n;
     Some(n)

@@ -24,7 +24,7 @@ returns c =
     record {
       long = search (rules, overwrites, long);
       some = omega (arith, most, c.if-most-eq0.false);
-      count = omega (arith, most, at, c.min.ensures, c.saturating_sub.ensures, c.min-n.ensures);
+      count = omega (arith, most, at, c.min.ensures, c.min-n.ensures);
       stands =
           record {
             at = search rules;
