@@ -1,4 +1,4 @@
--- The premium is a word, which C reads from its bits; each field is the answer's.
+-- Each field is the answer's (cited, so that what breaks it is refused at a fact); the premium is a word, which C reads from its bits.
 use Rattle.std.specs.Prelude.{◌≡◌, refl, ℕ, [], ◌∷◌, Option, Some, None, Ok}
 use Rattle.std.specs.Option.{is_some, unwrap_or}
 use Rattle.std.proofs.Common.{rules, w64, ◌∙◌, ap}

@@ -1,4 +1,4 @@
--- A fund that is valued is told with the answer at the level, one that is refused with its line.
+-- A fund that is valued is told with the answer at the level, one that is refused with its line (cited, so that what breaks it is refused at a fact).
 use Rattle.std.specs.Prelude.{refl}
 use Rattle.std.proofs.Common.{sym, ◌∙◌, ap, arith}
 use Rattle.fund.specs.Answer.{part}

@@ -1,4 +1,5 @@
--- The valuation of all model points; where refusals 3 to 6 stop, their refusal, and all cells are zero.
+-- The valuation of all model points (cited, so that what breaks it is refused at a fact); where refusals 3 to 6 stop, their refusal, and all cells are
+-- zero.
 use Rattle.std.specs.Prelude.{length}
 use Rattle.std.proofs.Common.{sym, ◌∙◌, ap}
 use Rattle.fund.specs.Cells.{lengths}
