@@ -19,6 +19,7 @@ fn is_above(deductible: u64, horizon: u64) -> bool
 }
 
 // The model points of rows of any number, in the members' order, or the first of the refusals 3 to 6. More rows than a file has are range, at no line.
+#[inline(never)]
 pub fn matched(rows: Rows<'_>) -> Result<ArrayVec<ModelPoint, { Fund::MEMBER_ROWS }>, Refused>
     ensures { result ≡ matched_rows rows.entry }
 {
@@ -34,6 +35,8 @@ pub fn matched(rows: Rows<'_>) -> Result<ArrayVec<ModelPoint, { Fund::MEMBER_ROW
     }
     // the header lines and the rate lines stand before the first member
     let line = Fund::HEADER_LINES as u64 + rows.rates.len() as u64 + 1;
-    let model_points = points::model_points(rows.rates, rows.members, line)?;
-    points::not_half(model_points, line)
+    let mut points = ArrayVec::new();
+    points::model_points(rows.rates, rows.members, line, &mut points)?;
+    points::not_half(points.as_slice(), line)?;
+    Ok(points)
 }

@@ -1,8 +1,9 @@
 // The model point of each member line: its amounts and the folded rates in force at its age, and how many lives it stands for.
-ghost use Rattle.std.specs.Prelude.{◌≡◌, ◌+◌, ◌^◌, ◌≤◌, ◌<◌, length, eqb, if◌then◌else◌, Some, position};
+ghost use Rattle.std.specs.Prelude.{◌≡◌, ◌+◌, ◌^◌, ◌≤◌, ◌<◌, length, eqb, if◌then◌else◌, [], Some, position};
 ghost use Rattle.fund.specs.Limits.{most_members};
 ghost use Rattle.fund.specs.Folding.{rate_in_force, folded as folded_of};
 ghost use Rattle.fund.specs.Refusals.{half};
+ghost use Rattle.matching.specs.Matching.{with_points};
 ghost use Rattle.matching.specs.Points.{model_points, not_half};
 
 use arrayvec::ArrayVec;
@@ -41,16 +42,18 @@ fn folded(rate: Rate, m: Member) -> Life
     }
 }
 
-// The model points of the members, or 5 at the first whose age no rate is in force at; `line` is the line of the first member.
+// The model points of the members, in place (a table in a Result would be copied), or 5 at the first whose age no rate is in force at;
+// `line` is the line of the first member.
 pub(crate) fn model_points(
     rates: &[Rate],
     members: &[Member],
     line: u64,
-) -> Result<ArrayVec<ModelPoint, { Fund::MEMBER_ROWS }>, Refused>
-    requires { (length members.now ≤ most_members) × (line + length members.now < 2 ^ 64) }
-    ensures { result ≡ model_points rates.now members.now line }
+    points: &mut ArrayVec<ModelPoint, { Fund::MEMBER_ROWS }>,
+) -> Result<(), Refused>
+    requires sizes { (length members.now ≤ most_members) × (line + length members.now < 2 ^ 64) }
+    requires none_yet { points.old.items ≡ [] }
+    ensures { with_points points.new.items result ≡ model_points rates.now members.now line }
 {
-    let mut points = ArrayVec::new();
     for (k, m) in members.iter().enumerate() {
         let Some(rate) = rate_in_force(rates, m.age) else {
             return Err(Refusal::Unmatched.at(line + k as u64));
@@ -60,7 +63,7 @@ pub(crate) fn model_points(
             lives: m.lives,
         });
     }
-    Ok(points)
+    Ok(())
 }
 
 // 6: "group 1, q + i at least 500,000 after folding". The sum q + i is not formed, as it may not fit.
@@ -76,16 +79,13 @@ fn first_half(points: &[ModelPoint]) -> Option<usize>
     points.iter().position(|p| is_half(p.life))
 }
 
-// The model points, or 6 at the first that is half.
-pub(crate) fn not_half(
-    points: ArrayVec<ModelPoint, { Fund::MEMBER_ROWS }>,
-    line: u64,
-) -> Result<ArrayVec<ModelPoint, { Fund::MEMBER_ROWS }>, Refused>
-    requires { line + length points.items < 2 ^ 64 }
-    ensures { result ≡ not_half points.items line }
+// 6 at the first model point that is half.
+pub(crate) fn not_half(points: &[ModelPoint], line: u64) -> Result<(), Refused>
+    requires { line + length points.now < 2 ^ 64 }
+    ensures { with_points points.now result ≡ not_half points.now line }
 {
-    match first_half(points.as_slice()) {
+    match first_half(points) {
         Some(k) => Err(Refusal::Half.at(line + k as u64)),
-        None => Ok(points),
+        None => Ok(()),
     }
 }

@@ -49,11 +49,11 @@ fn valued(rows: Rows<'_>, cells: &mut Cells) -> Result<Figures, Refused>
     ensures same_slices { SameSlices cells.old cells.new }
     ensures left { left_valued result cells.new ≡ valued_of rows.entry (lengths cells.old) }
 {
-    match matching::matched(rows) {
+    match &matching::matched(rows) {
         Ok(points) => valuation::value(rows.fund, points.as_slice(), cells),
         Err(refused) => {
             cells.clear();
-            Err(refused)
+            Err(*refused)
         }
     }
 }
@@ -124,8 +124,7 @@ pub fn price(file: &[u8], level: u64, cells: &mut Cells) -> Result<Priced, NotPr
     ensures same_slices { SameSlices cells.old cells.new }
     ensures prices { Prices file.now (reading file.now) level (lengths cells.old) result (left_priced result cells.new) }
 {
-    let found = reader::read(file);
-    price_read(file, rows_of(&found), level, cells)
+    price_read(file, rows_of(&reader::read(file)), level, cells)
 }
 
 // The same of a header text and two sheets of binary64 cells, of rates and of members.
@@ -139,8 +138,12 @@ pub fn price_sheets(
     ensures same_slices { SameSlices cells.old cells.new }
     ensures prices { Prices header.now (sheet_reading header.now rates.now members.now) level (lengths cells.old) result (left_priced result cells.new) }
 {
-    let found = sheet_reader::read(header, rates, members);
-    price_read(header, rows_of(&found), level, cells)
+    price_read(
+        header,
+        rows_of(&sheet_reader::read(header, rates, members)),
+        level,
+        cells,
+    )
 }
 
 // The line that the host is handed, a part of its own bytes.

@@ -12,6 +12,7 @@ use fund::Refused;
 use rows::FileRead;
 
 // Reads the header lines, then the rows behind them.
+#[inline(never)]
 pub fn read(file: &[u8]) -> Result<FileRead, Refused>
     ensures { result ≡ file_read (reading file.now) }
 {

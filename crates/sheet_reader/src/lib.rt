@@ -12,6 +12,7 @@ use fund::{Fund, Refusal, Refused};
 use rows::FileRead;
 
 // Reads the lines of the header text, then the rows of both sheets. Bytes behind the last header line are form at their line.
+#[inline(never)]
 pub fn read(header: &[u8], rates: &[u8], members: &[u8]) -> Result<FileRead, Refused>
     ensures { result ≡ file_read (sheet_reading header.now rates.now members.now) }
 {

@@ -110,6 +110,7 @@ fn value_in(
 }
 
 // The valuation of a table of model points, into five result slices: a refusal leaves zeros.
+#[inline(never)]
 pub fn value(fund: Fund, points: &[ModelPoint], cells: &mut Cells) -> Result<Figures, Refused>
     ensures same_slices { SameSlices cells.old cells.new }
     ensures left { left_valued result cells.new ≡ valuation fund (length points.now) points.now (lengths cells.old) }

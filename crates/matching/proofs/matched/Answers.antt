@@ -1,8 +1,9 @@
 -- `matching::matched`: the counts, 3 and 4, then 5 and 6 over all members.
-use Rattle.std.proofs.Common.{arith, sym, ◌∙◌, inl, inr}
+use Rattle.std.proofs.Common.{arith, sym, ◌∙◌, ap, inl, inr}
 use Rattle.std.proofs.lemmas.Result.{err_from_is_err_and}
 use Rattle.fund.specs.Reading.{header_lines}
 use Rattle.fund.specs.Refusals.{first_member}
+use Rattle.matching.specs.Matching.{with_points}
 use Rattle.matching.proofs.Refusals.{too_many, three, four, five, six}
 use Rattle.matching.proofs.matched.Goals as goal
 use Rattle.matching.proofs.matched.Goals.{then-rows-gt-RATE_ROWS-via-then-rows-gt-RATE_ROWS, then-rows-gt-RATE_ROWS-via-else-rows-gt-RATE_ROWS+then-rows-gt-MEMBER_ROWS}
@@ -25,16 +26,27 @@ returns-then-is_above c =
     (four c.args.rows c.if-rows-gt-RATE_ROWS.false c.if-rows-gt-MEMBER_ROWS.false c.if-fund.false (sym c.is_above.ensures ∙ c.if-is_above.true))
 
 pub returns-in_err-model_points : goal.returns-in_err-model_points
-unfolding first_member header_lines
+unfolding first_member header_lines with_points
 returns-in_err-model_points c =
     let p = err_from_is_err_and c.from_residual.result c.from_residual.ensures.1 in
     rw (p.1, p.2)
     (five c.args.rows c.if-rows-gt-RATE_ROWS.false c.if-rows-gt-MEMBER_ROWS.false c.if-fund.false (sym c.is_above.ensures ∙ c.if-is_above.false) _ (omega arith) _
-    (sym c.in_err-model_points.was ∙ c.model_points.ensures))
+    (sym (ap (with_points c.model_points.new.points.items) c.in_err-model_points.was) ∙ c.model_points.ensures))
+
+pub returns-in_err-not_half : goal.returns-in_err-not_half
+unfolding first_member header_lines with_points
+returns-in_err-not_half c =
+    let p = err_from_is_err_and c.from_residual-in_err-not_half.result c.from_residual-in_err-not_half.ensures.1 in
+    rw (p.1, p.2)
+    (sym (ap (with_points c.model_points.new.points.items) c.in_err-not_half.was)
+    ∙ (rw c.as_slice.ensures.value at c.not_half.ensures)
+    ∙ six c.args.rows c.if-rows-gt-RATE_ROWS.false c.if-rows-gt-MEMBER_ROWS.false c.if-fund.false (sym c.is_above.ensures ∙ c.if-is_above.false) _ (omega arith) c.model_points.new.points
+    (sym (ap (with_points c.model_points.new.points.items) c.in_ok-model_points.was) ∙ c.model_points.ensures))
 
 pub returns : goal.returns
-unfolding first_member header_lines
+unfolding first_member header_lines with_points
 returns c =
-    c.not_half.ensures
-    ∙ six c.args.rows c.if-rows-gt-RATE_ROWS.false c.if-rows-gt-MEMBER_ROWS.false c.if-fund.false (sym c.is_above.ensures ∙ c.if-is_above.false) _ (omega arith) _
-    (sym c.in_ok-model_points.was ∙ c.model_points.ensures)
+    sym (ap (with_points c.model_points.new.points.items) c.in_ok-not_half.was)
+    ∙ (rw c.as_slice.ensures.value at c.not_half.ensures)
+    ∙ six c.args.rows c.if-rows-gt-RATE_ROWS.false c.if-rows-gt-MEMBER_ROWS.false c.if-fund.false (sym c.is_above.ensures ∙ c.if-is_above.false) _ (omega arith) c.model_points.new.points
+    (sym (ap (with_points c.model_points.new.points.items) c.in_ok-model_points.was) ∙ c.model_points.ensures)

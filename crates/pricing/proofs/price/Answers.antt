@@ -7,4 +7,4 @@ use Rattle.pricing.proofs.price.Goals as goal
 pub returns-clause-prices : goal.returns-clause-prices
 returns-clause-prices c =
     let a = c.args in
-    prices_read a.file.now _ (lengths a.cells.now) a.level c.price_read.result c.price_read.new.cells c.price_read.ensures.prices _ (c.rows_of.ensures _ c.read-found.ensures) (read_ranges a.file.now)
+    prices_read a.file.now _ (lengths a.cells.now) a.level c.price_read.result c.price_read.new.cells c.price_read.ensures.prices _ (c.rows_of.ensures _ c.read.ensures) (read_ranges a.file.now)

@@ -7,4 +7,4 @@ use Rattle.pricing.proofs.price_sheets.Goals as goal
 pub returns-clause-prices : goal.returns-clause-prices
 returns-clause-prices c =
     let a = c.args in
-    prices_read a.header.now _ (lengths a.cells.now) a.level c.price_read.result c.price_read.new.cells c.price_read.ensures.prices _ (c.rows_of.ensures _ c.read-found.ensures) (sheet_ranges a.header.now a.rates.now a.members.now)
+    prices_read a.header.now _ (lengths a.cells.now) a.level c.price_read.result c.price_read.new.cells c.price_read.ensures.prices _ (c.rows_of.ensures _ c.read.ensures) (sheet_ranges a.header.now a.rates.now a.members.now)
