@@ -185,11 +185,11 @@ read_back (Some t) k l =
     let s = k t refl in
     let d = l t refl in
     λ i.
-        Some
-        (record {
-          moved = record { premium = s.premium i; arithmetic = t.moved.arithmetic; least = s.least i; most = s.most i; gross = s.gross i; gross_least = s.gross_least i; gross_most = s.gross_most i };
-          differences = record { header = d.header i; member = d.member i };
-        })
+    Some
+    (record {
+      moved = record { premium = s.premium i; arithmetic = t.moved.arithmetic; least = s.least i; most = s.most i; gross = s.gross i; gross_least = s.gross_least i; gross_most = s.gross_most i };
+      differences = record { header = d.header i; member = d.member i };
+    })
 read_back None k l = refl
 
 pub hosts_plainly : (old new : List ℕ) (level : ℕ) (n m : Lengths) (a b : Handed) (comparison : List ℕ) → HostsComparison old new level n m a b comparison →

@@ -56,14 +56,7 @@ pub fn claimed_host_comparison(
         comparison.new }
 {
     miguepo_comparison::miguepo_compare(
-        old,
-        new,
-        level,
-        old_cells,
-        new_cells,
-        old_result,
-        new_result,
-        comparison,
+        old, new, level, old_cells, new_cells, old_result, new_result, comparison,
     );
 }
 

@@ -28,11 +28,7 @@ use rows::{FileRead, Rows};
 use std::io::{Empty, Read};
 
 // Demands 1, 2 and 3 of the pricing call, what its answer at the level says, and that a file is priced as the file with its member lines written out.
-pub fn claimed_price(
-    file: &[u8],
-    level: u64,
-    cells: &mut Cells,
-) -> Result<Priced, NotPriced>
+pub fn claimed_price(file: &[u8], level: u64, cells: &mut Cells) -> Result<Priced, NotPriced>
     ensures demands { Demands file.now (reading file.now) level
         (lengths cells.old)
         (priced file.now result cells.new) }
@@ -65,22 +61,14 @@ pub fn claimed_rows(found: &Result<FileRead, Refused>) -> Result<Rows<'_>, Refus
 }
 
 // The line that the host is handed is that of the outcome.
-pub fn claimed_line<'a>(
-    file: &'a [u8],
-    answer: Result<Priced, NotPriced>,
-) -> &'a [u8]
+pub fn claimed_line<'a>(file: &'a [u8], answer: Result<Priced, NotPriced>) -> &'a [u8]
     ensures { result.now ≡ handed file.now answer }
 {
     pricing::line(file, answer)
 }
 
 // The same of the call for C, and each field of its struct.
-pub fn claimed_host(
-    file: &[u8],
-    level: u64,
-    cells: &mut Cells,
-    res: &mut [u64; miguepo::FIELDS],
-)
+pub fn claimed_host(file: &[u8], level: u64, cells: &mut Cells, res: &mut [u64; miguepo::FIELDS])
     ensures demands { Demands file.now (reading file.now) level
         (lengths cells.old)
         (hosted_cells file.now res.new cells.new) }

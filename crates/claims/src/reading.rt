@@ -18,7 +18,10 @@ pub fn claimed_source<R: Read + Drop>(
 }
 
 // A descriptor's reader, of a file that could not be opened none.
-pub fn claimed_bytes<R: Read + Drop>(reader: Option<R>, buffer: &mut [u8]) -> Result<usize, ReadFailed>
+pub fn claimed_bytes<R: Read + Drop>(
+    reader: Option<R>,
+    buffer: &mut [u8],
+) -> Result<usize, ReadFailed>
     ensures { ReadDescriptor reader buffer.old buffer.new result }
 {
     input::read_bytes(reader, buffer)

@@ -91,9 +91,7 @@ pub fn claimed_part(file: &[u8], verdict: Verdict) -> Range<usize>
 }
 
 // Refusals 3 to 6, or the model points.
-pub fn claimed_match(
-    rows: Rows<'_>,
-) -> Result<ArrayVec<ModelPoint, { Fund::MEMBER_ROWS }>, Refused>
+pub fn claimed_match(rows: Rows<'_>) -> Result<ArrayVec<ModelPoint, { Fund::MEMBER_ROWS }>, Refused>
     ensures { result ≡ matched_rows rows.entry }
 {
     matching::matched(rows)
