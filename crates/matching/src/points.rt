@@ -42,7 +42,7 @@ fn folded(rate: Rate, m: Member) -> Life
     }
 }
 
-// The model points of the members, in place (a table in a Result would be copied), or 5 at the first whose age no rate is in force at;
+// The model points of the members in place (a Result would hold a copy of the table), or 5 at the first whose age no rate is in force at;
 // `line` is the line of the first member.
 pub(crate) fn model_points(
     rates: &[Rate],

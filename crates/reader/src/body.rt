@@ -1,17 +1,17 @@
 // The rows behind the header, line by line.
 ghost use Rattle.std.specs.Prelude.{◌≡◌, []};
 ghost use Rattle.rows.specs.Read.{file_read};
-ghost use Rattle.reader.specs.Rows.{rows_from};
+ghost use Rattle.reader.specs.Rows.{rows_from, ReadsRows};
 
 use fund::{Fund, Refusal, Refused};
 use lines::Row;
 use rows::{FileRead, RowsSoFar};
 
-// Every row from the line that starts at `start` on, up to `end=`, behind which there is nothing.
-pub(crate) fn read_rows(fund: Fund, file: &[u8], start: usize) -> Result<FileRead, Refused>
-    ensures { result ≡ file_read (rows_from fund file.now start [] []) }
+// Adds every row from the line that starts at `start` on, up to `end=`, behind which there is nothing.
+fn add_rows(rows: &mut RowsSoFar, file: &[u8], start: usize) -> Result<(), Refused>
+    requires { (rows.old.rates.items ≡ []) × (rows.old.members.items ≡ []) }
+    ensures { ReadsRows file.now start rows.new.rates.items rows.new.members.items result }
 {
-    let mut rows = RowsSoFar::new();
     let mut at = start;
     while let Some((row, next)) = lines::row_at(file, at) {
         match row {
@@ -29,10 +29,19 @@ pub(crate) fn read_rows(fund: Fund, file: &[u8], start: usize) -> Result<FileRea
                 if next < file.len() {
                     return Err(Refusal::Form.at(rows.line() + 1));
                 }
-                return Ok(rows.read(fund));
+                return Ok(());
             }
         }
         at = next;
     }
     Err(Refusal::Form.at(rows.line()))
+}
+
+// What is read behind a header that ends at `start`.
+pub(crate) fn read_rows(fund: Fund, file: &[u8], start: usize) -> Result<FileRead, Refused>
+    ensures { result ≡ file_read (rows_from fund file.now start [] []) }
+{
+    let mut rows = RowsSoFar::new();
+    add_rows(&mut rows, file, start)?;
+    Ok(rows.read(fund))
 }
