@@ -8,6 +8,7 @@ use lines::Row;
 use rows::{FileRead, RowsSoFar};
 
 // Adds every row from the line that starts at `start` on, up to `end=`, behind which there is nothing.
+#[inline(never)]
 fn add_rows(rows: &mut RowsSoFar, file: &[u8], start: usize) -> Result<(), Refused>
     requires { (rows.old.rates.items ≡ []) × (rows.old.members.items ≡ []) }
     ensures { ReadsRows file.now start rows.new.rates.items rows.new.members.items result }
