@@ -99,7 +99,9 @@ pub fn claimed_match(rows: Rows<'_>) -> Result<ArrayVec<ModelPoint, { Fund::MEMB
 
 // The sums that f(0) and R(0) start from, of a lambda up to the largest load.
 pub fn claimed_start(lambda: u64) -> StartSum
-    ensures { (signed result.sum.negative result.sum.size ≡ alternating (min lambda most_load)) × (result.sum.size ≡ 0 → result.sum.negative ≡ false) × (result.bound ≡ sum 64 (c (min lambda most_load))) }
+    ensures { (signed result.sum.negative result.sum.size ≡ alternating (min lambda most_load))
+        × (result.sum.size ≡ 0 → result.sum.negative ≡ false)
+        × (result.bound ≡ sum 64 (c (min lambda most_load))) }
 {
     start::sums(lambda)
 }
