@@ -179,6 +179,19 @@ compared_lines (read f) (read g) a b t e = go a.verdict b.verdict e
 compared_lines (read f) (stopped why place) a b t e = let k : ◌≡◌ {A = ℕ} 0 1 = cc e in absurd (omega arith)
 compared_lines (stopped why place) y a b t e = let k : ◌≡◌ {A = ℕ} 0 1 = cc e in absurd (omega arith)
 
+-- where no member line is read, its lines are 0 too
+no_member_line : (m : Option MemberLine) → member_read (member_fields m) ≡ m → (member_fields m).member ≡ 0 → ((member_fields m).old_line ≡ 0) × ((member_fields m).new_line ≡ 0)
+no_member_line None k e = (refl, refl)
+no_member_line (Some m) k e =
+    let z : None ≡ Some m = ap (λ (n : ℕ). option_map (λ (k : ℕ). record { member = k; old_line = m.old_line; new_line = m.new_line }) (line_read n)) (sym e) ∙ k in
+    let y : ◌≡◌ {A = ℕ} 0 1 = cc z in
+    absurd (omega arith)
+
+no_member_fields : (c : Option Comparison) → ((t : Comparison) → c ≡ Some t → LinesBack t.differences) → get_or (comparison_fields c) 9 0 ≡ 0 →
+    (get_or (comparison_fields c) 10 0 ≡ 0) × (get_or (comparison_fields c) 11 0 ≡ 0)
+no_member_fields None l e = (refl, refl)
+no_member_fields (Some t) l e = no_member_line t.differences.member (l t refl).member e
+
 -- the comparison that C reads from its fields
 read_back : (c : Option Comparison) → ReadBack c → ((t : Comparison) → c ≡ Some t → LinesBack t.differences) → comparison_read (comparison_fields c) ≡ c
 read_back (Some t) k l =
@@ -234,6 +247,8 @@ module _ (old new : List ℕ) (level : ℕ) (n m : Lengths) (a b : Handed) (comp
       record {
         fields = ap length k.comparison_is ∙ fields_of is;
         moved = λ h l. moved_is (zero_accepted (answer old n).verdict (sym e ∙ h)) (zero_accepted (answer new m).verdict (sym g ∙ l));
+        no_member = λ z. subst (λ (fs : List ℕ). (get_or fs 10 0 ≡ 0) × (get_or fs 11 0 ≡ 0)) (sym k.comparison_is)
+            (no_member_fields is (compared_lines (reading old) (reading new) _ _) (subst (λ (fs : List ℕ). get_or fs 9 0 ≡ 0) k.comparison_is z));
         refused = λ l. k.comparison_is ∙ ap comparison_fields (no_move (answer old n) (answer new m) (answer old n).verdict (answer new m).verdict refl refl (omega (arith, e, g, l)) (reading old) (reading new));
       }
 

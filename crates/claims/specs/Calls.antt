@@ -8,9 +8,13 @@ use Rattle.pricing.specs.Priced.{verdict_in, start_in, end_in, figures_in, horiz
 use Rattle.miguepo.specs.Bits.{read_signed}
 use Rattle.claims.specs.Demands.{Received}
 
--- The bytes from start to end, and none where these lie outside the text, or of a fund that is priced.
+-- The bytes from start to end, and none where these lie outside the text.
+abbrev pub bytes_between : List ℕ → ℕ → ℕ → List ℕ
+bytes_between text start end = if leb start end && leb end (length text) then take (end - start) (drop start text) else []
+
+-- Those that go with an answer: of a fund that is priced none.
 abbrev pub handed : List ℕ → Result Priced NotPriced → List ℕ
-handed text p = if leb (start_in p) (end_in p) && leb (end_in p) (length text) then take (end_in p - start_in p) (drop (start_in p) text) else []
+handed text p = bytes_between text (start_in p) (end_in p)
 
 abbrev pub priced : List ℕ → Result Priced NotPriced → Cells → Received
 priced text p c =

@@ -77,10 +77,12 @@ moved_read (suc moved) fs =
 abbrev pub comparison_read : List ℕ → Option Comparison
 comparison_read fs = moved_read (get_or fs 0 0) fs
 
--- The struct of a comparison: it has twelve fields, and each is written. `moved` is 1 where both funds are accepted; where one is refused, every field is 0.
+-- The struct of a comparison: it has twelve fields, and each is written. `moved` is 1 where both funds are accepted; where no member line differs, its place and its lines are 0; where one is
+-- refused, every field is 0.
 pub record ComparisonStruct (o p : Received) (fs : List ℕ) : Type 0 where
   pub fields : length fs ≡ 12
   pub moved : o.number ≡ 0 → p.number ≡ 0 → get_or fs 0 0 ≡ 1
+  pub no_member : get_or fs 9 0 ≡ 0 → (get_or fs 10 0 ≡ 0) × (get_or fs 11 0 ≡ 0)
   pub refused : 0 < o.number + p.number → fs ≡ replicate 12 0
 
 -- The listing of a comparison, in a text of at least 512 bytes; of a move that it shows, the theorem.

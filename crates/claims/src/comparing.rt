@@ -1,6 +1,6 @@
 // What a customer may hold us to where two fund files are compared.
 ghost use Rattle.std.specs.Prelude.{◌≡◌};
-ghost use Rattle.fund.specs.Cells.{lengths};
+ghost use Rattle.fund.specs.Cells.{lengths, SameSlices};
 ghost use Rattle.moves.specs.Differences.{differences, file_in};
 ghost use Rattle.moves.specs.Move.{moved_of};
 ghost use Rattle.claims.specs.Calls.{priced, ResultStruct, hosted_cells};
@@ -19,7 +19,9 @@ pub fn claimed_comparison(
     old_cells: &mut Cells,
     new_cells: &mut Cells,
 ) -> Compared
-    ensures { ComparesPlainly old.now new.now level
+    ensures old_slices { SameSlices old_cells.old old_cells.new }
+    ensures new_slices { SameSlices new_cells.old new_cells.new }
+    ensures compares_plainly { ComparesPlainly old.now new.now level
         (lengths old_cells.old)
         (lengths new_cells.old)
         (priced old.now result.old old_cells.new)
@@ -40,6 +42,8 @@ pub fn claimed_host_comparison(
     new_result: &mut [u64; miguepo::FIELDS],
     comparison: &mut [u64; miguepo_comparison::COMPARISON_FIELDS],
 )
+    ensures old_slices { SameSlices old_cells.old old_cells.new }
+    ensures new_slices { SameSlices new_cells.old new_cells.new }
     ensures compares_plainly { ComparesPlainly old.now new.now level
         (lengths old_cells.old)
         (lengths new_cells.old)

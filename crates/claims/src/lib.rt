@@ -13,11 +13,11 @@ ghost use Rattle.std.specs.Prelude.{◌≡◌};
 ghost use Rattle.fund.specs.Reading.{FundFile, Reading, read, reading};
 ghost use Rattle.laws.specs.Ranges.{FundOk};
 ghost use Rattle.rows.specs.Read.{file_read};
-ghost use Rattle.fund.specs.Cells.{lengths};
+ghost use Rattle.fund.specs.Cells.{lengths, SameSlices};
 ghost use Rattle.claims.specs.Demands.{Demands};
 ghost use Rattle.claims.specs.Listing.{Prints, PrintsRead, PrintsFile};
 ghost use Rattle.pricing.specs.Priced.{found_in};
-ghost use Rattle.claims.specs.Calls.{handed, priced, ResultStruct, hosted_cells};
+ghost use Rattle.claims.specs.Calls.{bytes_between, handed, priced, ResultStruct, hosted_cells};
 ghost use Rattle.claims.specs.WrittenOut.{PricedWrittenOut};
 
 use fund::{Cells, Refused};
@@ -29,6 +29,7 @@ use std::io::{Empty, Read};
 
 // Demands 1, 2 and 3 of the pricing call, what its answer at the level says, and that a file is priced as the file with its member lines written out.
 pub fn claimed_price(file: &[u8], level: u64, cells: &mut Cells) -> Result<Priced, NotPriced>
+    ensures same_slices { SameSlices cells.old cells.new }
     ensures demands { Demands file.now (reading file.now) level
         (lengths cells.old)
         (priced file.now result cells.new) }
@@ -46,7 +47,8 @@ pub fn claimed_price_read(
     level: u64,
     cells: &mut Cells,
 ) -> Result<Priced, NotPriced>
-    ensures { ((fund : FundFile) → found_in found.entry ≡ read fund → FundOk fund) → Demands text.now (found_in found.entry) level
+    ensures same_slices { SameSlices cells.old cells.new }
+    ensures demands { ((fund : FundFile) → found_in found.entry ≡ read fund → FundOk fund) → Demands text.now (found_in found.entry) level
         (lengths cells.old)
         (priced text.now result cells.new) }
 {
@@ -60,6 +62,13 @@ pub fn claimed_rows(found: &Result<FileRead, Refused>) -> Result<Rows<'_>, Refus
     pricing::rows_of(found)
 }
 
+// The bytes of a text from any start to any end.
+pub fn claimed_line_between<'a>(file: &'a [u8], start: usize, end: usize) -> &'a [u8]
+    ensures { result.now ≡ bytes_between file.now start end }
+{
+    pricing::line_between(file, start, end)
+}
+
 // The line that the host is handed is that of the outcome.
 pub fn claimed_line<'a>(file: &'a [u8], answer: Result<Priced, NotPriced>) -> &'a [u8]
     ensures { result.now ≡ handed file.now answer }
@@ -69,6 +78,7 @@ pub fn claimed_line<'a>(file: &'a [u8], answer: Result<Priced, NotPriced>) -> &'
 
 // The same of the call for C, and each field of its struct.
 pub fn claimed_host(file: &[u8], level: u64, cells: &mut Cells, res: &mut [u64; miguepo::FIELDS])
+    ensures same_slices { SameSlices cells.old cells.new }
     ensures demands { Demands file.now (reading file.now) level
         (lengths cells.old)
         (hosted_cells file.now res.new cells.new) }

@@ -3,7 +3,7 @@ ghost use Rattle.std.specs.Prelude.{◌≡◌};
 ghost use Rattle.fund.specs.Reading.{stopped, between};
 ghost use Rattle.fund.specs.SheetCells.{rate_row_of, member_row_of};
 ghost use Rattle.fund.specs.Sheets.{sheet_reading};
-ghost use Rattle.fund.specs.Cells.{lengths};
+ghost use Rattle.fund.specs.Cells.{lengths, SameSlices};
 ghost use Rattle.lines.specs.Header.{HeaderRead};
 ghost use Rattle.rows.specs.Rows.{rate_fits, member_fits};
 ghost use Rattle.rows.specs.Read.{file_read};
@@ -26,6 +26,7 @@ pub fn claimed_sheets(
     level: u64,
     cells: &mut Cells,
 ) -> Result<Priced, NotPriced>
+    ensures same_slices { SameSlices cells.old cells.new }
     ensures demands { Demands header.now (sheet_reading header.now rates.now members.now) level
         (lengths cells.old)
         (priced header.now result cells.new) }
@@ -45,6 +46,7 @@ pub fn claimed_host_sheets(
     cells: &mut Cells,
     res: &mut [u64; miguepo::FIELDS],
 )
+    ensures same_slices { SameSlices cells.old cells.new }
     ensures demands { Demands header.now (sheet_reading header.now rates.now members.now) level
         (lengths cells.old)
         (hosted_cells header.now res.new cells.new) }

@@ -1,7 +1,7 @@
 // The calls that the pricing call is made of, each a public call of its own: what it gives is its definition's, for every input.
 ghost use Rattle.std.specs.Prelude.{◌≡◌, false, [], min, ◌+◌, length, drop};
 ghost use Rattle.fund.specs.Base.{sum};
-ghost use Rattle.fund.specs.Cells.{lengths};
+ghost use Rattle.fund.specs.Cells.{lengths, SameSlices};
 ghost use Rattle.fund.specs.Limits.{limits, most_load};
 ghost use Rattle.fund.specs.Recursion.{alternating, c};
 ghost use Rattle.fund.specs.Spelling.{behind};
@@ -33,6 +33,7 @@ use rows::{FileRead, Rows};
 use start::StartSum;
 use std::ops::Range;
 use totals::Totals;
+use transform::NotTransformed;
 
 // The named constants are the definitions' limits.
 pub fn claimed_limits() -> [u64; 31]
@@ -137,7 +138,7 @@ pub fn claimed_transform(
     sums: usize,
     transform: &mut [i64],
     h: &mut [u64],
-) -> Result<Totals, Refused>
+) -> Result<Totals, NotTransformed>
     ensures { Transforms fund points.now (lengths_of transform.old h.old f r sums) result transform.new h.new }
 {
     transform::transformed(fund, points, f, r, sums, transform, h)
@@ -149,14 +150,16 @@ pub fn claimed_value(
     points: &[ModelPoint],
     cells: &mut Cells,
 ) -> Result<Figures, Refused>
-    ensures { left_valued result cells.new ≡ valuation fund (length points.now) points.now (lengths cells.old) }
+    ensures same_slices { SameSlices cells.old cells.new }
+    ensures left { left_valued result cells.new ≡ valuation fund (length points.now) points.now (lengths cells.old) }
 {
     valuation::value(fund, points, cells)
 }
 
 // A verdict with zeros for every figure and in all slices.
 pub fn claimed_refusal(verdict: Verdict, cells: &mut Cells) -> Result<Figures, Refused>
-    ensures { left_valued result cells.new ≡ refused [] (lengths cells.old) verdict }
+    ensures same_slices { SameSlices cells.old cells.new }
+    ensures left { left_valued result cells.new ≡ refused [] (lengths cells.old) verdict }
 {
     cells.clear();
     match verdict {

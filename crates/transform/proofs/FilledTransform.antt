@@ -9,7 +9,7 @@ use lib.ListN.{replicate, length-replicate, get_or-replicate}
 use Rattle.fund.specs.declared.Fund.{Fund}
 use Rattle.fund.specs.declared.ModelPoint.{ModelPoint}
 use Rattle.fund.specs.declared.Refused.{Refused}
-use Rattle.std.proofs.Common.{Option, Ok, Err}
+use Rattle.std.proofs.Common.{Option, Some, Ok, Err}
 use Rattle.fund.specs.Refusals.{Lengths}
 use Rattle.fund.specs.Answer.{fund_terms, refused, accepted}
 use Rattle.laws.specs.Accepted.{long_of}
@@ -31,9 +31,9 @@ module _ (fund : Fund) (count : ℕ) (ps : List ModelPoint) (totals : Option Tot
   abbrev h₀ : List ℕ
   h₀ = replicate n.H 0
 
-  pub refused_transform : (stop : Refused) → Tested fund totals n (Err stop) → TransformedFor fund count ps n (Err stop) d₀ h₀
+  pub refused_transform : (stop : Refused) → Tested fund totals n (Err stop) → TransformedFor fund count ps n (Err (record { refused = stop; totals = totals })) d₀ h₀
   unfolding refused
-  refused_transform stop tested = record { totals = totals; totals_are = for; known_is = tested; d_is = refl; h_is = refl }
+  refused_transform stop tested = record { totals_are = for; known_is = tested; d_is = refl; h_is = refl }
 
   module _ (t : Totals) (p : PassedTests fund totals n t) where
     pub table_fits : TableFits ps (filling fund) d₀ h₀
@@ -58,4 +58,5 @@ module _ (fund : Fund) (count : ℕ) (ps : List ModelPoint) (totals : Option Tot
     pub filled_transform : (d : List ℤ) (h : List ℕ) → TableAdded ps (filling fund) d₀ h₀ d h → TransformedFor fund count ps n (Ok t) d h
     unfolding accepted fund_terms
     filled_transform d h a =
-        record { totals = totals; totals_are = for; known_is = p; d_is = fronted (pos 0) n.D _ _ d a.d_is; h_is = fronted 0 n.H _ _ h a.h_is }
+        let i : TotalsFor fund count ps (Some t) = subst (TotalsFor fund count ps) p.inside_is for in
+        record { totals_are = i; known_is = record { inside_is = refl; load_within = p.load_within; truncation_within = p.truncation_within; long = p.long }; d_is = fronted (pos 0) n.D _ _ d a.d_is; h_is = fronted 0 n.H _ _ h a.h_is }

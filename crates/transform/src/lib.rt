@@ -10,8 +10,15 @@ use fund::{Fund, ModelPoint, Refused};
 use terms::Filling;
 use totals::Totals;
 
-// The totals of a table and its transform, D and H up to the horizon and zeros beyond it, or refusal 7, 8 or 9 and zeros. The three numbers
-// are the lengths of the other result slices.
+// A table has no transform: refusal 7, 8 or 9 with the table's totals, or range with none.
+#[derive(Clone, Copy, PartialEq, Eq)]
+pub struct NotTransformed {
+    pub refused: Refused,
+    pub totals: Option<Totals>,
+}
+
+// The totals of a table and its transform, D and H up to the horizon and zeros beyond it, or refusal 7, 8 or 9 with the totals, and zeros.
+// The three numbers are the lengths of the other result slices.
 pub fn transformed(
     fund: Fund,
     points: &[ModelPoint],
@@ -20,7 +27,7 @@ pub fn transformed(
     sums: usize,
     transform: &mut [i64],
     h: &mut [u64],
-) -> Result<Totals, Refused>
+) -> Result<Totals, NotTransformed>
     ensures { TransformedFor fund (length points.now) points.now (lengths_of transform.old h.old f r sums) result
         transform.new h.new }
 {
@@ -28,7 +35,10 @@ pub fn transformed(
     let known = totals::tested_totals(fund, totals, transform.len(), h.len(), f, r, sums);
     transform.fill(0);
     h.fill(0);
-    let totals = known?;
+    let totals = match known {
+        Ok(totals) => totals,
+        Err(refused) => return Err(NotTransformed { refused, totals }),
+    };
     let filling = Filling {
         horizon: fund.horizon,
         order: fund.order,

@@ -26,6 +26,7 @@ use Rattle.totals.specs.Inside.{inside}
 use Rattle.totals.specs.Totals.{TotalsIn, TotalsFor}
 use Rattle.totals.specs.Tests.{tested_of}
 use Rattle.totals.proofs.InsideTells.{inside_tells}
+use Rattle.transform.specs.declared.NotTransformed.{NotTransformed}
 use Rattle.transform.specs.Transformed.{outcome, TransformedFor}
 use Rattle.valuation.specs.Valued.{left_in, verdict_of, valuation}
 use Rattle.valuation.specs.Steps.{ValuedAnswer}
@@ -95,8 +96,8 @@ module _ (fund : Fund) (count : ℕ) (ps : List ModelPoint) (n : Lengths) where
   left_answered t i a s = s ∙ ap (outcome fund ms n) (sym (verdict_inside t i))
 
   -- a refusal, with the transform's zeros and the others
-  pub left_judged : (stop : Refused) (d : List ℤ) (h : List ℕ) (f : List ℤ) (r : List ℕ) (s : List ℤ) → TransformedFor fund count ps n (Err stop) d h →
-      (f ≡ replicate n.f (pos 0)) × (r ≡ replicate n.R 0) × (s ≡ replicate n.F (pos 0)) → left_in (Err stop) d h f r s ≡ valuation fund count ps n
+  pub left_judged : (stop : NotTransformed) (d : List ℤ) (h : List ℕ) (f : List ℤ) (r : List ℕ) (s : List ℤ) → TransformedFor fund count ps n (Err stop) d h →
+      (f ≡ replicate n.f (pos 0)) × (r ≡ replicate n.R 0) × (s ≡ replicate n.F (pos 0)) → left_in (Err stop.refused) d h f r s ≡ valuation fund count ps n
   unfolding refused valuation
   left_judged stop d h f r s k frs =
-      left_zeros stop n d h f r s (k.d_is, k.h_is) frs ∙ ap (outcome fund ms n) (sym (refused_verdict k.totals k.totals_are stop k.known_is))
+      left_zeros stop.refused n d h f r s (k.d_is, k.h_is) frs ∙ ap (outcome fund ms n) (sym (refused_verdict stop.totals k.totals_are stop.refused k.known_is))

@@ -81,7 +81,7 @@ module _ (fund : Fund) (count : ℕ) (ps : List ModelPoint) (t : Totals) (d : Li
   n = lengths_of d h (length f) (length r) ns
 
   pub in_ranges : TotalsIn fund count ps t
-  in_ranges = subst (TotalsFor fund count ps) k.known_is.inside_is k.totals_are
+  in_ranges = k.totals_are
 
   header : HeaderIn fund
   header = in_ranges.header

@@ -100,11 +100,11 @@ fn value_in(
     let known = transform::transformed(fund, points, f.len(), r.len(), sums.len(), transform, h);
     match known {
         Ok(totals) => recursed(fund, totals, transform, h, f, r, sums),
-        Err(refused) => {
+        Err(stop) => {
             f.fill(0);
             r.fill(0);
             sums.fill(0);
-            Err(refused)
+            Err(stop.refused)
         }
     }
 }

@@ -7,4 +7,4 @@ pub returns : goal.returns
 returns c =
     let p = c.price in
     let k = p.ensures.prices in
-    record { demands = price_demands _ _ _ _ p.result p.new.cells k; priced_written_out = as_written_out _ _ _ _ (price_answered _ _ _ _ p.result p.new.cells k) }
+    record { same_slices = p.ensures.same_slices; demands = price_demands _ _ _ _ p.result p.new.cells k; priced_written_out = as_written_out _ _ _ _ (price_answered _ _ _ _ p.result p.new.cells k) }

@@ -5,6 +5,6 @@ use Rattle.claims.proofs.Calls.{price_demands}
 use Rattle.claims.proofs.claimed_price_read.Goals as goal
 
 pub returns : goal.returns
-returns c ok =
+returns c =
     let p = c.price_read in
-    price_demands _ _ _ _ p.result p.new.cells (prices_read _ _ _ _ p.result p.new.cells p.ensures.prices _ refl ok)
+    record { same_slices = p.ensures.same_slices; demands = λ ok. price_demands _ _ _ _ p.result p.new.cells (prices_read _ _ _ _ p.result p.new.cells p.ensures.prices _ refl ok) }

@@ -26,4 +26,4 @@ returns-in-Err c =
     let f : c.fill.new.self ≡ replicate (length a.f.now) (pos 0) = search rules in
     let r : c.fill-in-Err.new.self ≡ replicate {A = ℕ} (length a.r.now) 0 = search rules in
     let s : c.fill-in-Err-2.new.self ≡ replicate (length a.sums.now) (pos 0) = search rules in
-    left_judged a.fund (length a.points.now) a.points.now (lengths_in a.transform.now a.h.now a.f.now a.r.now a.sums.now) c.in-Err.refused _ _ _ _ _ c.in-Err.ensures (f, r, s)
+    left_judged a.fund (length a.points.now) a.points.now (lengths_in a.transform.now a.h.now a.f.now a.r.now a.sums.now) c.in-Err.stop _ _ _ _ _ c.in-Err.ensures (f, r, s)

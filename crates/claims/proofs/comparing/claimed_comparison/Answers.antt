@@ -5,4 +5,4 @@ use Rattle.claims.proofs.comparing.claimed_comparison.Goals as goal
 pub returns : goal.returns
 returns c =
     let p = c.compare in
-    compares_plainly _ _ _ _ _ p.result p.new.old_cells p.new.new_cells p.ensures.compares
+    record { old_slices = p.ensures.old_slices; new_slices = p.ensures.new_slices; compares_plainly = compares_plainly _ _ _ _ _ p.result p.new.old_cells p.new.new_cells p.ensures.compares }

@@ -5,5 +5,6 @@ use Rattle.claims.proofs.comparing.claimed_host_comparison.Goals as goal
 
 pub returns : goal.returns
 returns c =
-    let k = c.miguepo_compare.ensures.hosts in
-    record { compares_plainly = hosts_plainly _ _ _ _ _ _ _ _ k; result_struct = host_struct _ _ _ _ _ _ _ _ _ _ k.old_hosted; result_struct_2 = host_struct _ _ _ _ _ _ _ _ _ _ k.new_hosted; comparison_struct = comparison_struct _ _ _ _ _ _ _ _ k }
+    let e = c.miguepo_compare.ensures in
+    let k = e.hosts in
+    record { old_slices = e.old_slices; new_slices = e.new_slices; compares_plainly = hosts_plainly _ _ _ _ _ _ _ _ k; result_struct = host_struct _ _ _ _ _ _ _ _ _ _ k.old_hosted; result_struct_2 = host_struct _ _ _ _ _ _ _ _ _ _ k.new_hosted; comparison_struct = comparison_struct _ _ _ _ _ _ _ _ k }

@@ -7,4 +7,4 @@ pub returns : goal.returns
 returns c =
     let p = c.price_sheets in
     let k = p.ensures.prices in
-    record { demands = price_demands _ _ _ _ p.result p.new.cells k; priced_as_file = as_file _ _ _ _ _ _ (price_answered _ _ _ _ p.result p.new.cells k) }
+    record { same_slices = p.ensures.same_slices; demands = price_demands _ _ _ _ p.result p.new.cells k; priced_as_file = as_file _ _ _ _ _ _ (price_answered _ _ _ _ p.result p.new.cells k) }
