@@ -1,1 +1,2 @@
 pub mod InRange
+mod Tables

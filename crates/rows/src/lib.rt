@@ -2,22 +2,25 @@
 
 #![tactic(auto)]
 
+mod member_table;
 mod ranges;
+mod rate_table;
 mod so_far;
 
 ghost use Rattle.rows.specs.Read.{RowsOf};
 
-use arrayvec::ArrayVec;
 use fund::{Fund, Member, Rate};
+pub use member_table::MemberTable;
 pub use ranges::{member_in_range, rate_in_range, within};
+pub use rate_table::RateTable;
 pub use so_far::RowsSoFar;
 
 // What was read: the header's figures, the rate rows and the member rows.
-#[derive(Drop)]
+#[derive(Clone, Copy)]
 pub struct FileRead {
     pub fund: Fund,
-    pub rates: ArrayVec<Rate, { Fund::RATE_ROWS }>,
-    pub members: ArrayVec<Member, { Fund::MEMBER_ROWS }>,
+    pub rates: RateTable,
+    pub members: MemberTable,
 }
 
 // A fund's header and rows, wherever the rows stand.
@@ -34,8 +37,8 @@ impl FileRead {
     {
         Rows {
             fund: self.fund,
-            rates: &self.rates,
-            members: &self.members,
+            rates: self.rates.as_slice(),
+            members: self.members.as_slice(),
         }
     }
 }

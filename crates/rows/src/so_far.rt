@@ -7,15 +7,14 @@ ghost use Rattle.fund.specs.Reading.{lives_in_all, rate_in_range, member_in_rang
 ghost use Rattle.rows.specs.Read.{with_rows};
 ghost use Rattle.rows.specs.Rows.{least_age, line_place, in_range_or, rates_with, members_with};
 
-use crate::{FileRead, member_in_range, rate_in_range};
-use arrayvec::ArrayVec;
+use crate::{FileRead, MemberTable, RateTable, member_in_range, rate_in_range};
 use fund::{Fund, Member, Rate, Refusal, Refused};
 
 // The rows, the least age that a rate row behind them may have, and the lives of the member rows together.
 #[derive(Drop)]
 pub struct RowsSoFar {
-    rates: ArrayVec<Rate, { Fund::RATE_ROWS }>,
-    members: ArrayVec<Member, { Fund::MEMBER_ROWS }>,
+    rates: RateTable,
+    members: MemberTable,
     least: u64,
     lives: u64,
     ghost least_is: { least_age rates.items ≡ least },
@@ -28,8 +27,8 @@ impl RowsSoFar {
         ensures members { result.members.items ≡ [] }
     {
         RowsSoFar {
-            rates: ArrayVec::new(),
-            members: ArrayVec::new(),
+            rates: RateTable::new(),
+            members: MemberTable::new(),
             least: 0,
             lives: 0,
         }

@@ -18,7 +18,7 @@ pub push-requires : goal.push-requires
 push-requires c =
     let s = c.args.self.now in
     let ok = member_ok s.members.items c.args.m (member_tested s.members.items c.args.m c.len.ensures.value s.lives_are c.member_in_range.ensures ∙ c.if-not-member_in_range.false) in
-    (omega arith, ok.0)
+    ok.0
 
 pub overflow_add-self : goal.overflow_add-self
 overflow_add-self c =

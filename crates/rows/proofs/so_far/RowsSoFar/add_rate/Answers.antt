@@ -18,7 +18,7 @@ pub push-requires : goal.push-requires
 push-requires c =
     let s = c.args.self.now in
     let ok = rate_ok s.rates.items c.args.r (rate_tested s.rates.items c.args.r c.len.ensures.value s.least_is c.rate_in_range.ensures ∙ c.if-not-rate_in_range.false) in
-    (omega arith, ok.0)
+    ok.0
 
 pub overflow_add-self : goal.overflow_add-self
 overflow_add-self c =
