@@ -8,6 +8,8 @@ use Rattle.fund.specs.Answer.{Answer, answer_to}
 use Rattle.fund.specs.Listing.{horizon_in}
 use Rattle.fund.specs.Distance.{WithinBounds, AverageExcess, NeverBelow, QuantileWithin}
 use Rattle.fund.specs.declared.Cells.{Cells}
+use Rattle.fund.specs.declared.Figures.{Figures}
+use Rattle.fund.specs.Verdict.{Verdict}
 use Rattle.pricing.specs.declared.Priced.{Priced}
 use Rattle.pricing.specs.declared.NotPriced.{NotPriced}
 use Rattle.pricing.specs.Priced.{verdict_in, start_in, end_in, figures_in, horizon_of, quantile_told, horizon_with}
@@ -30,22 +32,26 @@ result_fields a X q =
     ∷ quantile_in q
     ∷ []
 
--- The same fields, of what a call answered.
-abbrev pub priced_fields : Result Priced NotPriced → List ℕ
-priced_fields p =
-    number_in (verdict_in p)
-    ∷ place_in (verdict_in p)
-    ∷ start_in p
-    ∷ (end_in p - start_in p)
-    ∷ horizon_of p
-    ∷ (figures_in p).truncation
-    ∷ (figures_in p).mean
-    ∷ bits_of (figures_in p).premium
-    ∷ (figures_in p).within
-    ∷ (figures_in p).gross
-    ∷ reached_in (quantile_told p)
-    ∷ quantile_in (quantile_told p)
+-- The same fields, of any verdict, part of a text, horizon, figures and answer at a level.
+abbrev pub told_fields : Verdict → ℕ → ℕ → ℕ → Figures → Option ℕ → List ℕ
+told_fields verdict start end X figures q =
+    number_in verdict
+    ∷ place_in verdict
+    ∷ start
+    ∷ (end - start)
+    ∷ X
+    ∷ figures.truncation
+    ∷ figures.mean
+    ∷ bits_of figures.premium
+    ∷ figures.within
+    ∷ figures.gross
+    ∷ reached_in q
+    ∷ quantile_in q
     ∷ []
+
+-- The same, of what a call answered.
+abbrev pub priced_fields : Result Priced NotPriced → List ℕ
+priced_fields p = told_fields (verdict_in p) (start_in p) (end_in p) (horizon_of p) (figures_in p) (quantile_told p)
 
 -- Everything that is handed over is the answer's, and C reads the premium from its bits; the line lies in the text; demand 3 holds
 -- of a fund with number 0, its answer at a level of at most 10^12 is right but for the bounds of the sums, its gross premium is not below the exact

@@ -8,9 +8,9 @@ ghost use Rattle.fund.specs.Reading.{reading};
 ghost use Rattle.fund.specs.Sheets.{sheet_reading};
 ghost use Rattle.pricing.specs.Priced.{figures_in};
 ghost use Rattle.miguepo.specs.Bits.{bits_of, read_signed};
-ghost use Rattle.miguepo.specs.Host.{priced_fields, HostsCells};
+ghost use Rattle.miguepo.specs.Host.{told_fields, priced_fields, HostsCells};
 
-use fund::Cells;
+use fund::{Cells, Figures, Verdict};
 use pricing::{NotPriced, Priced};
 
 // How many fields the struct has that C declares.
@@ -23,21 +23,33 @@ pub fn bits(z: i64) -> u64
     z.cast_unsigned()
 }
 
-// The fields of a fund that is priced.
-fn priced_fields(priced: Priced) -> [u64; FIELDS]
-    ensures fields { result ≡ priced_fields (Ok priced) }
-    ensures read_back { read_signed (bits_of priced.figures.premium) ≡ priced.figures.premium }
+// The fields of the struct, of any verdict with any part of a text, horizon, figures and answer at a level.
+pub fn fields(
+    verdict: Verdict,
+    start: usize,
+    end: usize,
+    horizon: u64,
+    figures: Figures,
+    quantile: Option<u64>,
+) -> [u64; FIELDS]
+    ensures fields { result ≡ told_fields verdict start end horizon figures quantile }
+    ensures read_back { read_signed (bits_of figures.premium) ≡ figures.premium }
 {
-    let figures = priced.figures;
+    let (number, place) = match verdict {
+        Ok(()) => (0, 0),
+        Err(refused) => (u64::from(refused.why), refused.place),
+    };
+    let line_size = end.saturating_sub(start) as u64;
+    let line_start = start as u64;
     let premium = bits(figures.premium);
-    let reached = u64::from(priced.quantile.is_some());
-    let quantile = priced.quantile.unwrap_or(0);
+    let reached = u64::from(quantile.is_some());
+    let quantile = quantile.unwrap_or(0);
     [
-        0,
-        0,
-        0,
-        0,
-        priced.horizon,
+        number,
+        place,
+        line_start,
+        line_size,
+        horizon,
         figures.truncation,
         figures.mean,
         premium,
@@ -48,36 +60,27 @@ fn priced_fields(priced: Priced) -> [u64; FIELDS]
     ]
 }
 
-// The fields of one that is refused: number, place and line.
-fn refused_fields(stop: NotPriced) -> [u64; FIELDS]
-    ensures { result ≡ priced_fields (Err stop) }
-{
-    let number = u64::from(stop.refused.why);
-    let line_size = stop.end.saturating_sub(stop.start) as u64;
-    let line_start = stop.start as u64;
-    [
-        number,
-        stop.refused.place,
-        line_start,
-        line_size,
-        0,
-        0,
-        0,
-        0,
-        0,
-        0,
-        0,
-        0,
-    ]
-}
-
 // Fills the struct with what a call answered: on this side its fields, eight bytes each, are an array.
 pub fn hand_over(answer: Result<Priced, NotPriced>, res: &mut [u64; FIELDS])
     ensures { (res.new ≡ priced_fields answer) × (read_signed (bits_of (figures_in answer).premium) ≡ (figures_in answer).premium) }
 {
     *res = match answer {
-        Ok(priced) => priced_fields(priced),
-        Err(stop) => refused_fields(stop),
+        Ok(priced) => fields(
+            Ok(()),
+            0,
+            0,
+            priced.horizon,
+            priced.figures,
+            priced.quantile,
+        ),
+        Err(stop) => fields(
+            Err(stop.refused),
+            stop.start,
+            stop.end,
+            0,
+            fund::no_figures(),
+            None,
+        ),
     };
 }
 

@@ -1,6 +1,6 @@
 -- What is told of a valuation is the answer to what was read (tells_read). An answer of the definition's meets the contract of a call, demand 3, the answer at the level and the gross premium's cover included (prices); and the line that is handed back
 -- (no_line, line_got).
-use Rattle.std.specs.Prelude.{◌&&◌, ◌⊎◌, Bool, true, false, leb, if◌then◌else◌, Result, Ok, Err, Option, Some, None, MatchOption, unwrap_or, slice_range, ◌+◌}
+use Rattle.std.specs.Prelude.{◌&&◌, ◌⊎◌, Bool, true, false, leb, if◌then◌else◌, Result, Option, Some, None, MatchOption, unwrap_or, slice_range, ◌+◌}
 use Rattle.std.proofs.Common.{inl, inr}
 use Rattle.std.specs.Borrow.{Bor}
 use mathlib.Core.Path.{◌≡◌, refl, sym, ◌∙◌, ap, subst}
@@ -20,7 +20,7 @@ use Rattle.pricing.specs.JoinedSteps.{quantile_is}
 use Rattle.fund.specs.declared.Cells.{Cells}
 use Rattle.pricing.specs.declared.Priced.{Priced}
 use Rattle.pricing.specs.declared.NotPriced.{NotPriced}
-use Rattle.pricing.specs.Priced.{start_in, end_in, left_priced, Answers, Prices, line_of}
+use Rattle.pricing.specs.Priced.{left_priced, Answers, Prices, line_between}
 
 -- An answer of the definition's meets the contract of a call.
 pub prices : (text : List ℕ) (r : Reading) (level : ℕ) (n : Lengths) (p : Result Priced NotPriced) (c : Cells) → Answers text r level p (left_priced p c) (answer_to text n r) →
@@ -37,37 +37,36 @@ prices text r level n p c k ok =
       average = λ fund z e. average text n r fund z (v ∙ e);
     }
 
-module _ (file : List ℕ) (p : Result Priced NotPriced) where
-  pub line_inside : start_in p ≤ end_in p → end_in p ≤ length file → take (end_in p - start_in p) (drop (start_in p) file) ≡ line_of file p
-  unfolding line_of
+module _ (file : List ℕ) (start end : ℕ) where
+  line_inside : start ≤ end → end ≤ length file → take (end - start) (drop start file) ≡ line_between file start end
+  unfolding line_between
   line_inside o i = rw (le-leb _ _ o, le-leb _ _ i)
 
-  pub line_reversed : end_in p < start_in p → [] ≡ line_of file p
-  unfolding line_of
+  line_reversed : end < start → [] ≡ line_between file start end
+  unfolding line_between
   line_reversed o = rw (lt-leb _ _ o)
 
--- An end beyond the text: none, in whichever order the two stand.
-line_outside : (file : List ℕ) (stop : NotPriced) → length file < stop.end → [] ≡ line_of file (Err stop)
-unfolding line_of
-line_outside file stop o = go (leb stop.start stop.end)
-  where
-    go : (b : Bool) → [] ≡ (if b && leb stop.end (length file) then take (stop.end - stop.start) (drop stop.start file) else [])
-    go true = rw (lt-leb _ _ o)
-    go false = refl
+  -- An end beyond the text: none, in whichever order the two stand.
+  line_outside : length file < end → [] ≡ line_between file start end
+  unfolding line_between
+  line_outside o = go (leb start end)
+    where
+      go : (b : Bool) → [] ≡ (if b && leb end (length file) then take (end - start) (drop start file) else [])
+      go true = rw (lt-leb _ _ o)
+      go false = refl
 
-pub no_line : (file : List ℕ) (p : Priced) → line_of file (Ok p) ≡ []
-unfolding line_of
-no_line file p = go (leb 0 (length file))
+  -- The part that was asked for, and none where the text has none.
+  pub line_got : (o : Option (Bor (List ℕ))) (d : Bor (List ℕ)) → d.now ≡ [] →
+      MatchOption o ((end < start) ⊎ (length file < end)) (λ (x : Bor (List ℕ)). (start ≤ end) × (end ≤ length file) × (x.now ≡ slice_range file start end) × (length x.now + start ≡ end)) →
+      (unwrap_or o d).now ≡ line_between file start end
+  line_got (Some x) d e k = k.2 ∙ line_inside k.0 k.1
+  line_got None d e (inl k) = e ∙ line_reversed k
+  line_got None d e (inr k) = e ∙ line_outside k
+
+pub no_line : (file : List ℕ) → line_between file 0 0 ≡ []
+unfolding line_between
+no_line file = go (leb 0 (length file))
   where
     go : (b : Bool) → (if b then take 0 (drop 0 file) else []) ≡ []
     go true = refl
     go false = refl
-
--- The part that was asked for, and none where the text has none.
-pub line_got : (file : List ℕ) (stop : NotPriced) (o : Option (Bor (List ℕ))) (d : Bor (List ℕ)) → d.now ≡ [] →
-    MatchOption o ((stop.end < stop.start) ⊎ (length file < stop.end)) (λ (x : Bor (List ℕ)).
-    (stop.start ≤ stop.end) × (stop.end ≤ length file) × (x.now ≡ slice_range file stop.start stop.end) × (length x.now + stop.start ≡ stop.end)) →
-    (unwrap_or o d).now ≡ line_of file (Err stop)
-line_got file stop (Some x) d e k = k.2 ∙ line_inside file (Err stop) k.0 k.1
-line_got file stop None d e (inl k) = e ∙ line_reversed file (Err stop) k
-line_got file stop None d e (inr k) = e ∙ line_outside file stop k

@@ -121,5 +121,8 @@ pub record PricesRead (text : List ℕ) (found : Result Rows Refused) (level : �
   pub inside : end_in p ≤ length text
 
 -- The bytes from start to end, and none where these lie outside the text.
-unfoldable pub line_of : List ℕ → Result Priced NotPriced → List ℕ
-line_of text p = if leb (start_in p) (end_in p) && leb (end_in p) (length text) then take (end_in p - start_in p) (drop (start_in p) text) else []
+unfoldable pub line_between : List ℕ → ℕ → ℕ → List ℕ
+line_between text start end = if leb start end && leb end (length text) then take (end - start) (drop start text) else []
+
+abbrev pub line_of : List ℕ → Result Priced NotPriced → List ℕ
+line_of text p = line_between text (start_in p) (end_in p)

@@ -9,7 +9,7 @@ ghost use Rattle.fund.specs.Reading.{Reading, reading};
 ghost use Rattle.fund.specs.Sheets.{sheet_reading};
 ghost use Rattle.valuation.specs.Valued.{left_valued};
 ghost use Rattle.rows.specs.Read.{file_read};
-ghost use Rattle.pricing.specs.Priced.{left_priced, valued_of, found_in, Prices, PricesRead, line_of};
+ghost use Rattle.pricing.specs.Priced.{left_priced, valued_of, found_in, Prices, PricesRead, line_between, line_of};
 
 use fund::{Cells, Figures, Refused};
 use rows::{FileRead, Rows};
@@ -146,12 +146,19 @@ pub fn price_sheets(
     )
 }
 
+// The part of a host's bytes from start to end; where these lie outside, an empty one.
+pub fn line_between<'a>(file: &'a [u8], start: usize, end: usize) -> &'a [u8]
+    ensures { result.now ≡ line_between file.now start end }
+{
+    file.get(start..end).unwrap_or(&file[0..0])
+}
+
 // The line that the host is handed, a part of its own bytes.
 pub fn line<'a>(file: &'a [u8], answer: Result<Priced, NotPriced>) -> &'a [u8]
     ensures { result.now ≡ line_of file.now answer }
 {
     match answer {
         Ok(_) => &file[0..0],
-        Err(stop) => file.get(stop.start..stop.end).unwrap_or(&file[0..0]),
+        Err(stop) => line_between(file, stop.start, stop.end),
     }
 }

@@ -109,8 +109,8 @@ impl Printed for Refused {
 #[derive(Clone, Copy)]
 pub struct Pointed<const PLACES: u8, N>(pub N);
 
-// The digits of the tenth, and the last digit.
-fn put_pointed(places: u8, n: u64, text: &mut Text<'_>)
+// Puts a number with a point before so many places: the digits of the tenth, and the last digit.
+pub fn put_pointed(places: u8, n: u64, text: &mut Text<'_>)
     ensures { Puts text.old (pointed places n) text.new }
 {
     if places == 0 {
@@ -118,6 +118,16 @@ fn put_pointed(places: u8, n: u64, text: &mut Text<'_>)
     }
     put_pointed(places - 1, n / 10, text);
     text.byte(b'0' + (n % 10) as u8);
+}
+
+// The same of a number that may be negative.
+pub fn put_signed_pointed(places: u8, n: i64, text: &mut Text<'_>)
+    ensures { Puts text.old (signed_pointed places n) text.new }
+{
+    if n < 0 {
+        text.byte(b'-');
+    }
+    put_pointed(places, n.unsigned_abs(), text);
 }
 
 impl<const PLACES: u8> Printed for Pointed<PLACES, u64> {
@@ -132,9 +142,6 @@ impl<const PLACES: u8> Printed for Pointed<PLACES, i64> {
     ghost output = { λ x. signed_pointed PLACES x.0 };
 
     fn print(self, text: &mut Text<'_>) {
-        if self.0 < 0 {
-            text.byte(b'-');
-        }
-        put_pointed(PLACES, self.0.unsigned_abs(), text);
+        put_signed_pointed(PLACES, self.0, text);
     }
 }
