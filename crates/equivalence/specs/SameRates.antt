@@ -18,7 +18,7 @@ use Rattle.fund.specs.Refusals.{number_of, first, unmatched, half_line, Lengths,
 use Rattle.fund.specs.Answer.{Answer, fund_cells, refused, accepted, answer_of, answer_to, answer}
 use Rattle.laws.specs.Accepted.{All}
 
--- None and None, or the same q and i
+-- none and none, or the same q and i
 abbrev pub Alike : Option Rate → Option Rate → Type 0
 Alike None None = Unit {0}
 Alike None (Some s) = ⊥

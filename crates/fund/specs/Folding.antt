@@ -13,7 +13,7 @@ unfoldable pub held_until : Option Rate → List Rate → ℕ → Option Rate
 held_until held [] age = held
 held_until held (r ∷ rs) age = if leb r.age age then held_until (Some r) rs age else held
 
--- The rate in force at an age: None below the first row, and None in an empty table.
+-- The rate in force at an age: none below the first row, and none in an empty table.
 unfoldable pub rate_in_force : List Rate → ℕ → Option Rate
 rate_in_force rates age = held_until None rates age
 

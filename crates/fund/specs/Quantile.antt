@@ -14,7 +14,7 @@ unfoldable pub reaches : ℕ → ℤ → Bool
 reaches level (pos n) = leb level n
 reaches level (negsuc n) = false
 
--- "Given a level from 0 to 10^12 units, give the smallest x with F(x) at least the level, or "None up to the horizon". Since f may
+-- "Given a level from 0 to 10^12 units, give the smallest x with F(x) at least the level, or "none up to the horizon". Since f may
 -- be slightly negative, F need not rise; the answer is still the first x." "A level above 10^12 .. answers none."
 unfoldable pub quantile : ℕ → ℕ → List ℤ → Option ℕ
 quantile level X F = if ltb most_level level then None else first (reaches level) 0 (take (suc X) F)

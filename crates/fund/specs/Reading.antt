@@ -66,7 +66,7 @@ header_of ns =
       worth = get_or ns 7 0;
     }
 
--- The line of a row: `rate=age,q,i`, `member=age,group,d,e,lives`, `end=` a number, or None of these. METHOD 1 (§8): "A member line gains a
+-- The line of a row: `rate=age,q,i`, `member=age,group,d,e,lives`, `end=` a number, or none of these. METHOD 1 (§8): "A member line gains a
 -- last number, lives".
 pub data Row : Type 0 where
   rate_row : Rate → Row

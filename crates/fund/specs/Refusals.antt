@@ -55,7 +55,7 @@ half m = single m && leb half_rate (claim m)
 unfoldable pub half_line : ModelPoint → Bool
 half_line p = half p.life
 
--- 10: "Some R(x) above 250,000 units"
+-- 10: "some R(x) above 250,000 units"
 unfoldable pub wide : Cell → Bool
 wide y = ltb most_bound y.R
 

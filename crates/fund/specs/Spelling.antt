@@ -34,13 +34,13 @@ unfoldable pub all_numbers : List (List ℕ) → Bool
 all_numbers [] = true
 all_numbers (t ∷ ts) = is_number t && all_numbers ts
 
--- The numbers of a text of just so many, or None where it is not spelled so.
+-- The numbers of a text of just so many, or none where it is not spelled so.
 unfoldable pub numbers : ℕ → List ℕ → Option (List ℕ)
 numbers count text =
     let between = fields text in
     if eqb (length between) count && all_numbers between then Some (map value between) else None
 
--- What stands behind the key, or None where the text does not begin with it.
+-- What stands behind the key, or none where the text does not begin with it.
 unfoldable pub behind : List ℕ → List ℕ → Option (List ℕ)
 behind [] text = Some text
 behind (k ∷ ks) [] = None

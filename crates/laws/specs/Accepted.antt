@@ -1,4 +1,4 @@
--- What acceptance says: None of the refusals' conditions holds (accepts). And what meets None of them is accepted (accepted_where).
+-- What acceptance says: none of the refusals' conditions holds (accepts). And what meets none of them is accepted (accepted_where).
 use Rattle.std.specs.Prelude.{◌≡◌, refl, Bool, true, false, not, ◌&&◌, ◌||◌, List, [], ◌∷◌, ◌++◌, map, ℕ, zero, suc, ◌≤◌, ◌<◌, eqb, leb, replicate, if◌then◌else◌, None, Ok, Option, Some}
 use Rattle.std.proofs.Common.{◌∙◌, ap, subst, arith, ltb-false, leb-false, le-ltb, eqb-true, eq-eqb}
 use Rattle.std.proofs.lemmas.Bool.{lt-leb, not-false}

@@ -1,5 +1,5 @@
 -- The rate in force: it is one of the rows (in_force_all); behind rows that are not above the age a row holds from its age until the next
--- row's (row_holds), so that where ages rise the last row that is not above the age is in force (last_holds); there is None, and a member is
+-- row's (row_holds), so that where ages rise the last row that is not above the age is in force (last_holds); there is none, and a member is
 -- unmatched, just in an empty table and for an age below the first row (unmatched_just).
 use Rattle.std.specs.Prelude.{◌≡◌, refl, Bool, true, false, List, [], ◌∷◌, ◌++◌, ℕ, ◌≤◌, ◌<◌, leb, if◌then◌else◌, None, Option, Some}
 use Rattle.std.proofs.Common.{◌∙◌, ap, subst, arith, le-leb, leb-false}
@@ -75,7 +75,7 @@ before_below (s ∷ before) after r k = (all_middle (λ (t : Rate). s.age < t.ag
 pub last_holds : (before after : List Rate) (r : Rate) (age : ℕ) → Rising (before ++ (r ∷ after)) → r.age ≤ age → Below age after → rate_in_force (before ++ (r ∷ after)) age ≡ Some r
 last_holds before after r age k h above = row_holds before after r age (all_map (λ s below. omega arith) before (before_below before after r k)) h above
 
--- ---- None
+-- ---- none
 pub in_force_none : (rs : List Rate) (age : ℕ) → Below age rs → rate_in_force rs age ≡ None
 unfolding rate_in_force held_until
 in_force_none rs age k = held_above None [] rs age k
