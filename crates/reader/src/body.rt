@@ -1,15 +1,14 @@
 // The rows behind the header, line by line.
 ghost use Rattle.std.specs.Prelude.{◌≡◌, []};
-ghost use Rattle.rows.specs.Read.{file_read};
-ghost use Rattle.reader.specs.Rows.{rows_from, ReadsRows};
+ghost use Rattle.reader.specs.Rows.{ReadsRows};
 
-use fund::{Fund, Refusal, Refused};
+use fund::{Refusal, Refused};
 use lines::Row;
-use rows::{FileRead, RowsSoFar};
+use rows::RowsSoFar;
 
 // Adds every row from the line that starts at `start` on, up to `end=`, behind which there is nothing.
 #[inline(never)]
-fn add_rows(rows: &mut RowsSoFar, file: &[u8], start: usize) -> Result<(), Refused>
+pub(crate) fn add_rows(rows: &mut RowsSoFar, file: &[u8], start: usize) -> Result<(), Refused>
     requires { (rows.old.rates.items ≡ []) × (rows.old.members.items ≡ []) }
     ensures { ReadsRows file.now start rows.new.rates.items rows.new.members.items result }
 {
@@ -36,13 +35,4 @@ fn add_rows(rows: &mut RowsSoFar, file: &[u8], start: usize) -> Result<(), Refus
         at = next;
     }
     Err(Refusal::Form.at(rows.line()))
-}
-
-// What is read behind a header that ends at `start`.
-pub(crate) fn read_rows(fund: Fund, file: &[u8], start: usize) -> Result<FileRead, Refused>
-    ensures { result ≡ file_read (rows_from fund file.now start [] []) }
-{
-    let mut rows = RowsSoFar::new();
-    add_rows(&mut rows, file, start)?;
-    Ok(rows.read(fund))
 }

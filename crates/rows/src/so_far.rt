@@ -92,8 +92,8 @@ impl RowsSoFar {
     }
 
     // What was read, with the header's figures.
-    pub fn read(self, fund: Fund) -> FileRead
-        ensures { result ≡ with_rows fund self.rates.items self.members.items }
+    pub fn read(&self, fund: Fund) -> FileRead
+        ensures { result ≡ with_rows fund self.now.rates.items self.now.members.items }
     {
         FileRead {
             fund,

@@ -9,7 +9,7 @@ ghost use Rattle.fund.specs.Sheets.{sheet_reading};
 ghost use Rattle.rows.specs.Read.{file_read};
 
 use fund::{Fund, Refusal, Refused};
-use rows::FileRead;
+use rows::{FileRead, RowsSoFar};
 
 // Reads the lines of the header text, then the rows of both sheets. Bytes behind the last header line are form at their line.
 #[inline(never)]
@@ -20,5 +20,7 @@ pub fn read(header: &[u8], rates: &[u8], members: &[u8]) -> Result<FileRead, Ref
     if end < header.len() {
         return Err(Refusal::Form.at(Fund::HEADER_LINES as u64 + 1));
     }
-    body::read_rows(fund, rates, members)
+    let mut rows = RowsSoFar::new();
+    body::add_rows(&mut rows, rates, members)?;
+    Ok(rows.read(fund))
 }
