@@ -4,8 +4,8 @@
 
 mod points;
 
-ghost use Rattle.std.specs.Prelude.{◌≡◌, suc, ltb};
-ghost use Rattle.matching.specs.Matching.{matched_rows};
+ghost use Rattle.std.specs.Prelude.{◌≡◌, [], suc, ltb, OnErr};
+ghost use Rattle.matching.specs.Matching.{with_points, matched_rows};
 
 use arrayvec::ArrayVec;
 use fund::{Fund, ModelPoint, Refusal, Refused};
@@ -18,10 +18,14 @@ fn is_above(deductible: u64, horizon: u64) -> bool
     horizon < deductible.saturating_sub(1)
 }
 
-// The model points of rows of any number, in the members' order, or the first of the refusals 3 to 6. More rows than a file has are range, at no line.
-#[inline(never)]
-pub fn matched(rows: Rows<'_>) -> Result<ArrayVec<ModelPoint, { Fund::MEMBER_ROWS }>, Refused>
-    ensures { result ≡ matched_rows rows.entry }
+// Adds the model points of rows of any number, in the members' order, or answers the first of the refusals 3 to 6. More rows than a file has are
+// range, at no line.
+fn add_points(
+    rows: Rows<'_>,
+    points: &mut ArrayVec<ModelPoint, { Fund::MEMBER_ROWS }>,
+) -> Result<(), Refused>
+    requires { points.old.items ≡ [] }
+    ensures { with_points points.new.items result ≡ matched_rows rows.entry }
 {
     let fund = rows.fund;
     if Fund::RATE_ROWS < rows.rates.len() || Fund::MEMBER_ROWS < rows.members.len() {
@@ -35,8 +39,35 @@ pub fn matched(rows: Rows<'_>) -> Result<ArrayVec<ModelPoint, { Fund::MEMBER_ROW
     }
     // the header lines and the rate lines stand before the first member
     let line = Fund::HEADER_LINES as u64 + rows.rates.len() as u64 + 1;
+    points::model_points(rows.rates, rows.members, line, points)?;
+    points::not_half(points.as_slice(), line)
+}
+
+// The model points of rows of any number in place of those that are there, or the first of the refusals 3 to 6, and none. A table that is lent
+// is not copied.
+#[inline(never)]
+pub fn match_points(
+    rows: Rows<'_>,
+    points: &mut ArrayVec<ModelPoint, { Fund::MEMBER_ROWS }>,
+) -> Result<(), Refused>
+    ensures matched { with_points points.new.items result ≡ matched_rows rows.entry }
+    ensures refused { OnErr result (points.new.items ≡ []) }
+{
+    points.clear();
+    match add_points(rows, points) {
+        Ok(()) => Ok(()),
+        Err(refused) => {
+            points.clear();
+            Err(refused)
+        }
+    }
+}
+
+// The model points of rows of any number, or the first of the refusals 3 to 6.
+pub fn matched(rows: Rows<'_>) -> Result<ArrayVec<ModelPoint, { Fund::MEMBER_ROWS }>, Refused>
+    ensures { result ≡ matched_rows rows.entry }
+{
     let mut points = ArrayVec::new();
-    points::model_points(rows.rates, rows.members, line, &mut points)?;
-    points::not_half(points.as_slice(), line)?;
+    match_points(rows, &mut points)?;
     Ok(points)
 }

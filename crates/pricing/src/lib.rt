@@ -11,6 +11,7 @@ ghost use Rattle.valuation.specs.Valued.{left_valued};
 ghost use Rattle.rows.specs.Read.{file_read};
 ghost use Rattle.pricing.specs.Priced.{left_priced, valued_of, found_in, Prices, PricesRead, line_between, line_of};
 
+use arrayvec::ArrayVec;
 use fund::{Cells, Figures, Refused};
 use rows::{FileRead, Rows};
 
@@ -49,11 +50,12 @@ fn valued(rows: Rows<'_>, cells: &mut Cells) -> Result<Figures, Refused>
     ensures same_slices { SameSlices cells.old cells.new }
     ensures left { left_valued result cells.new ≡ valued_of rows.entry (lengths cells.old) }
 {
-    match &matching::matched(rows) {
-        Ok(points) => valuation::value(rows.fund, points.as_slice(), cells),
+    let mut points = ArrayVec::new();
+    match matching::match_points(rows, &mut points) {
+        Ok(()) => valuation::value(rows.fund, points.as_slice(), cells),
         Err(refused) => {
             cells.clear();
-            Err(*refused)
+            Err(refused)
         }
     }
 }

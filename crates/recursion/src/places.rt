@@ -1,5 +1,5 @@
 // The places where D or H is not 0, so that the recursion forms no other product.
-ghost use Rattle.std.specs.Prelude.{◌≡◌, true, ◌<◌, ◌≤◌, nat_abs, length};
+ghost use Rattle.std.specs.Prelude.{◌≡◌, true, [], ◌<◌, ◌≤◌, nat_abs, length};
 ghost use Rattle.arrayvec.specs.ArrayVec.{array_vec_len};
 ghost use Rattle.recursion.specs.Places.{Noted, Listed, AllSmall, SmallSizes};
 
@@ -43,19 +43,24 @@ impl Places {
         self.small = all_small(self.small, size, h);
     }
 
-    // The places below the horizon.
-    pub(crate) fn of(t: Transform) -> Places
-        requires { (t.horizon < length t.d.now) × (t.horizon < length t.h.now) × (t.horizon ≤ 4095) }
-        ensures { Listed t.entry.horizon t.entry.d.now t.entry.h.now result.list.items
-            × (result.small ≡ true → AllSmall t.entry.horizon t.entry.d.now t.entry.h.now) }
+    pub(crate) fn none() -> Places
+        ensures { (result.list.items ≡ []) × (result.small ≡ true) }
     {
-        let mut places = Places {
+        Places {
             list: ArrayVec::new(),
             small: true,
-        };
-        for k in 0..t.horizon {
-            places.note(k, t.d[k + 1], t.h[k + 1]);
         }
-        places
+    }
+
+    // Notes the places below the horizon, in place (a table that is handed on is copied).
+    pub(crate) fn fill(&mut self, t: Transform)
+        requires lengths { (t.horizon < length t.d.now) × (t.horizon < length t.h.now) × (t.horizon ≤ 4095) }
+        requires none_yet { (self.old.list.items ≡ []) × (self.old.small ≡ true) }
+        ensures { Listed t.entry.horizon t.entry.d.now t.entry.h.now self.new.list.items
+            × (self.new.small ≡ true → AllSmall t.entry.horizon t.entry.d.now t.entry.h.now) }
+    {
+        for k in 0..t.horizon {
+            self.note(k, t.d[k + 1], t.h[k + 1]);
+        }
     }
 }

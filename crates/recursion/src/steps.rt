@@ -43,7 +43,9 @@ pub(crate) fn all_steps(
         (length f.old) (length r.old) f.new r.new result }
 {
     start_cells(start, f, r);
-    fill_cells(t, &Places::of(t), f, r)
+    let mut places = Places::none();
+    places.fill(t);
+    fill_cells(t, &places, f, r)
 }
 
 // Fills f and r from 1 to the horizon, or stops at the first cell that is too wide, or too large.

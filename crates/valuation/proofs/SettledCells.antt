@@ -1,6 +1,6 @@
 -- What follows the recursion of a fund: refusal 10 with its zeros (answers_wide), or cells that stand (Stands), from which the premium's sums are had (below_deductible)
 -- and the fund's figures (answers_accepted).
-use mathlib.Core.Path.{◌≡◌, refl, sym, ◌∙◌, ap, ap₂, subst}
+use mathlib.Core.Path.{◌≡◌, refl, sym, ◌∙◌, ap, ap₂}
 use mathlib.Core.Bool.{Bool, false}
 use mathlib.Core.List.{List, []}
 use Prim.Native.Nat.{ℕ, zero, suc, min, ◌<◌, ◌≤◌}
@@ -47,7 +47,7 @@ use Rattle.tariff.proofs.GrossAnswers.{gross_inside}
 use Rattle.totals.specs.declared.Totals.{Totals}
 use Rattle.totals.specs.Inside.{HeaderIn}
 use Rattle.totals.specs.Table.{Members, members_of_lem, most_mean}
-use Rattle.totals.specs.Totals.{start_lambda, LivesTotals, TotalsIn, TotalsFor}
+use Rattle.totals.specs.Totals.{start_lambda, LivesTotals, TotalsIn}
 use Rattle.transform.specs.Transformed.{lengths_of, outcome}
 use Rattle.valuation.specs.Premium.{Cells, StopLossIs, levels}
 use Rattle.valuation.specs.Sums.{SumsFit}

@@ -16,13 +16,13 @@ first_is c =
     ap₂ (λ f r. cell_in f r 0) e.0 e.1
     ∙ start_cell (length c.args.f.now) (length c.args.r.now) c.args.start.cell c.args.start.bound (omega (arith, c.requires.f_long)) (omega (arith, c.requires.r_long))
 
-pub of-requires : goal.of-requires
-of-requires c = (c.requires.transform.d_long, c.requires.transform.h_long, c.requires.transform.horizon)
+pub fill-requires : goal.fill-requires
+fill-requires c = record { lengths = (c.requires.transform.d_long, c.requires.transform.h_long, c.requires.transform.horizon); none_yet = c.none-places.ensures }
 
 pub fill_cells-requires : goal.fill_cells-requires
 fill_cells-requires c =
     let k = c.start_cells.auto in
-    let p = c.of.ensures in
+    let p = c.fill.ensures in
     let first = first_is (goal.at.fill_cells-requires c).After-start_cells in
     record {
       transform_fits = c.requires.transform;

@@ -2,8 +2,8 @@
 use mathlib.Core.Path.{◌≡◌}
 use mathlib.Core.Bool.{true}
 use Rattle.recursion.specs.Places.{Listed, AllSmall}
-use Rattle.recursion.proofs.places.Places.of.Given as goal
+use Rattle.recursion.proofs.places.Places.fill.Given as goal
 
 abbrev pub invariant-loop-k : goal.invariant-loop-k
 invariant-loop-k l =
-    Listed l.k l.t.d.now l.t.h.now l.places.list.items × (l.places.small ≡ true → AllSmall l.k l.t.d.now l.t.h.now)
+    Listed l.k l.t.d.now l.t.h.now l.self.list.items × (l.self.small ≡ true → AllSmall l.k l.t.d.now l.t.h.now)
