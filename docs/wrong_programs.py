@@ -39,7 +39,7 @@ What a contract, a theorem or a table of worked funds refuses, and no edit tries
   the row of `fund/specs/SeveralLives.several_lives` with q = 55 and four lives
 - a term, a load or a truncation figure that is rounded once for all lives of a line: the
   contracts of the steps, the rows of `fund/specs/SeveralLives.several_lives`
-- 5 or 6 answered at the copy's place: the contract of `matching::matched`
+- 5 or 6 answered at the copy's place: the contract of `matching::match_points`
 - a valuation that answers zeros for every fund, values the first life alone, or leaves the
   cells of a refused fund as they are: the contract of `valuation::value`
 - a promise that is dropped from a public call, because nothing above relies on it:
