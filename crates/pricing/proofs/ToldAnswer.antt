@@ -38,11 +38,11 @@ prices text r level n p c k ok =
     }
 
 module _ (file : List ℕ) (start end : ℕ) where
-  line_inside : start ≤ end → end ≤ length file → take (end - start) (drop start file) ≡ line_between file start end
+  pub line_inside : start ≤ end → end ≤ length file → take (end - start) (drop start file) ≡ line_between file start end
   unfolding line_between
   line_inside o i = rw (le-leb _ _ o, le-leb _ _ i)
 
-  line_reversed : end < start → [] ≡ line_between file start end
+  pub line_reversed : end < start → [] ≡ line_between file start end
   unfolding line_between
   line_reversed o = rw (lt-leb _ _ o)
 
